@@ -1,0 +1,26 @@
+-- What `execute` promises.
+use Rattle.std.specs.Prelude.{◌≡◌, ℕ, Bool, List, [], ◌∷◌, ◌++◌, Option}
+use Rattle.mm_model.specs.declared.command.Command.{Command}
+use Rattle.mm_model.specs.declared.reply.Reply.{Reply}
+use Rattle.mm_model.specs.declared.line.Line.{Line}
+use Rattle.mm_model.specs.declared.line.Line.TheVariants as lines
+use Rattle.mm_model.specs.State.{State}
+use Rattle.mm_model.specs.Good.{IsGood}
+use Rattle.mm_model.specs.View.{View, Shows}
+use Rattle.mm_model.specs.Journal.{Writes}
+use Rattle.mm_model.specs.Spelling.{spelling_of}
+use Rattle.mm_gc.specs.Built.{Step, after}
+
+-- The lines of a group are a step of a state, which stays good, and the heap shows the state after it.
+pub record IsStep (new : View) (command : Command) (group : List Line) (a : State) : Type 0 where
+  pub step : Step a command group (after a command group)
+  pub good : IsGood (after a command group)
+  pub shows : Shows new (after a command group)
+
+-- There is one list of lines, whose last is the reply, that is a step of every good state that the heap shows.
+-- The lines before the reply go into the journal.
+pub record Executes (old new : View) (command : Command) (reply : Reply)
+    (kept : Option (List ℕ)) (broken : Bool) (kept_after : Option (List ℕ)) (broken_after : Bool) : Type 0 where
+  pub before_reply : List Line
+  pub step : (a : State) → IsGood a → Shows old a → IsStep new command (before_reply ++ lines.Reply reply ∷ []) a
+  pub written : Writes kept broken kept_after broken_after (spelling_of before_reply)

@@ -1,0 +1,14 @@
+//! The heap: it carries out commands, and each is a step of the model.
+#![tactic(auto)]
+
+mod gc;
+mod journal;
+mod object;
+mod placement;
+mod size;
+mod stage;
+
+pub use gc::{Gc, NoMemory};
+pub use journal::{Finalizer, Journal};
+pub use mm_model::Settings;
+pub use stage::built;

@@ -1,0 +1,12 @@
+pub mod Births
+pub mod Creating
+pub mod Journals
+pub mod Keyed
+pub mod Lists
+pub mod Placing
+pub mod Room
+pub mod SeenAlike
+pub mod Showing
+pub mod SizeClassLemmas
+pub mod Tests
+pub mod TraceLemmas

@@ -1,0 +1,16 @@
+pub mod Effect
+pub mod Examples
+pub mod Good
+pub mod Journal
+pub mod Limits
+pub mod Log
+pub mod Object
+pub mod Place
+pub mod Refusing
+pub mod SizeClass
+pub mod Spelling
+pub mod State
+pub mod Trace
+pub mod Value
+pub mod View
+pub mod ViewEffect

@@ -1,0 +1,124 @@
+-- What a heap shows, in words alone: no origins, no birth numbers, no gone objects.
+use Rattle.std.specs.Prelude.{◌≡◌, ℕ, Bool, ◌&&◌, nat_eq, List, map, Option, Some, None, slice_get, slice_index_or, ⊤}
+use Rattle.std.specs.List.{find, position_from, IsDistinct}
+use Rattle.std.specs.Option.{option_map, option_and_then}
+use Rattle.mm_model.specs.declared.object.Kind.{Kind}
+use Rattle.mm_model.specs.declared.object.Colour.{Colour}
+use Rattle.mm_model.specs.declared.object.Colour.TheVariants.{White}
+use Rattle.mm_model.specs.declared.line.Totals.{Totals}
+use Rattle.mm_model.specs.declared.settings.Settings.{Settings}
+use Rattle.mm_model.specs.Value.{Value}
+use Rattle.mm_model.specs.Object.{Object, is_live}
+use Rattle.mm_model.specs.State.{State, Area, Cycle, Partial, totals_of}
+
+-- a live object as the heap holds it
+pub record HeldObject : Type 0 where
+  pub base : ℕ
+  pub extent : ℕ
+  pub kind : Kind
+  pub finalize : Bool
+  pub counted : ℕ
+  pub words : List ℕ
+  pub sticky : Bool
+  -- the base of the partner
+  pub partner : Option ℕ
+
+pub record HeldArea : Type 0 where
+  pub number : ℕ
+  pub base : ℕ
+  pub extent : ℕ
+  pub scanned : Bool
+  pub counted : ℕ
+  pub words : List ℕ
+
+-- the colour of the object at a base
+pub record HeldColour : Type 0 where
+  pub base : ℕ
+  pub colour : Colour
+
+pub record HeldPartial : Type 0 where
+  pub base : ℕ
+  pub done : ℕ
+
+pub record HeldCycle : Type 0 where
+  pub colours : List HeldColour
+  pub gone : ℕ
+  pub partial : Option HeldPartial
+
+pub record View : Type 0 where
+  -- in any order
+  pub objects : List HeldObject
+  -- from the top
+  pub stack : List ℕ
+  -- by ascending number
+  pub areas : List HeldArea
+  pub cycle : Option HeldCycle
+  pub threshold : ℕ
+  pub totals : Totals
+  pub settings : Settings
+
+abbrev pub held_at : List HeldObject → ℕ → Option HeldObject
+held_at objects base = find (λ object. nat_eq object.base base) objects
+
+abbrev pub words_of : List Value → List ℕ
+words_of values = map (λ value. value.word) values
+
+-- the base of the object with a birth number
+abbrev pub base_of : State → ℕ → Option ℕ
+base_of a birth = option_map (λ object. object.base) (slice_get a.objects birth)
+
+-- an object as the heap holds it
+abbrev pub held : State → Object → HeldObject
+held a object =
+    record {
+      base = object.base; extent = object.extent; kind = object.kind; finalize = object.finalize;
+      counted = object.counted; words = words_of object.slots; sticky = object.sticky;
+      partner = option_and_then (base_of a) object.partner;
+    }
+
+-- whether a live object begins there
+abbrev pub lives_at : ℕ → Object → Bool
+lives_at base object = is_live object && nat_eq object.base base
+
+-- the live object that begins there, as the heap holds it
+abbrev pub shown_at : State → ℕ → Option HeldObject
+shown_at a base = option_map (held a) (find (lives_at base) a.objects)
+
+abbrev pub held_area : Area → HeldArea
+held_area area =
+    record {
+      number = area.number; base = area.base; extent = area.extent;
+      scanned = area.scanned; counted = area.counted; words = words_of area.cells;
+    }
+
+-- the colour of the live object that begins there
+abbrev pub colour_at : State → Cycle → ℕ → Option Colour
+colour_at a cycle base =
+    option_map (λ birth. slice_index_or cycle.colours birth White) (position_from (lives_at base) 0 a.objects)
+
+abbrev pub held_partial : State → Partial → Option HeldPartial
+held_partial a partial = option_map (λ base. record { base = base; done = partial.done }) (base_of a partial.object)
+
+pub record ShowsCycle (held : HeldCycle) (a : State) (cycle : Cycle) : Type 0 where
+  pub colours : (base : ℕ) →
+      option_map (λ entry. entry.colour) (find (λ entry. nat_eq entry.base base) held.colours) ≡ colour_at a cycle base
+  pub gone : held.gone ≡ cycle.gone
+  pub partial : held.partial ≡ option_and_then (held_partial a) cycle.partial
+
+abbrev pub ShowsCycles : Option HeldCycle → State → Option Cycle → Type 0
+ShowsCycles None a None = ⊤
+ShowsCycles None a (Some cycle) = ⊥
+ShowsCycles (Some held) a None = ⊥
+ShowsCycles (Some held) a (Some cycle) = ShowsCycle held a cycle
+
+-- Heap and state agree on all that words can tell. A heap can show several states.
+pub record Shows (view : View) (a : State) : Type 0 where
+  pub objects : (base : ℕ) → held_at view.objects base ≡ shown_at a base
+  -- no two objects that are held begin at one base
+  pub distinct : IsDistinct nat_eq (map (λ object. object.base) view.objects)
+  pub stack : view.stack ≡ words_of a.stack
+  pub areas : view.areas ≡ map held_area a.areas
+  pub cycle : ShowsCycles view.cycle a a.cycle
+  pub threshold : view.threshold ≡ a.threshold
+  pub totals : view.totals ≡ totals_of a
+  pub settings : view.settings ≡ a.settings

@@ -1,0 +1,52 @@
+// Why a command or a line of a trace is refused.
+
+use thiserror::Error;
+
+/// Why a command is refused. A refused command changes nothing, apart from what `Full` leaves.
+#[derive(Clone, Copy, Debug, PartialEq, Eq)]
+pub enum Refusal {
+    /// No stack cell has the index.
+    NoCell,
+    /// No object or area has this shape.
+    Shape,
+    /// No live area has the number.
+    NoArea,
+    /// The stack cell means no object.
+    Nothing,
+    /// The sum doesn't fall in the object.
+    Outside,
+    /// The object is a weak reference where none may be, or isn't one where one must be.
+    NoWeak,
+    /// The object or area has no slot with this index.
+    NoSlot,
+    /// A counted slot takes 0 or the base of a counted object alone.
+    NotCounted,
+    /// The stack is at its limit.
+    StackFull,
+    /// 1,024 areas live.
+    AreasFull,
+    /// There is no place, also after a reap and a full collection.
+    Full,
+    /// A cycle runs.
+    Busy,
+    /// No cycle runs.
+    Idle,
+}
+
+/// Why a line of a trace isn't a command.
+#[derive(Clone, Copy, Debug, PartialEq, Eq, Error)]
+pub enum LineFault {
+    #[error("unknown command")]
+    UnknownCommand,
+    #[error("wrong number of words")]
+    WordCount,
+    #[error("bad word")]
+    BadWord,
+    #[error("bad number")]
+    BadNumber,
+    #[error("line too long")]
+    LineTooLong,
+    /// The line is a command that the manager can't carry out yet.
+    #[error("not built yet")]
+    NotBuilt,
+}

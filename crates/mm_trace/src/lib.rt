@@ -1,0 +1,20 @@
+//! The lines of a trace and of a log: bytes to commands, lines to bytes, and the texts that a user sees.
+#![tactic(auto)]
+
+mod command;
+mod cutter;
+mod form;
+mod number;
+mod parse;
+mod put;
+#[cfg(test)]
+mod tests;
+mod text;
+mod word;
+mod write;
+
+pub use cutter::{Cut, Cutter};
+pub use mm_model::LineFault;
+pub use parse::parse_line;
+pub use text::{fault_text, refusal_text};
+pub use write::write_line;

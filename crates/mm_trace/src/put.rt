@@ -1,0 +1,47 @@
+// What lines are made of, appended to a buffer. All is inlined, so that a literal is copied as bytes of a known number.
+ghost use Rattle.std.specs.Prelude.{◌≡◌, ◌+◌, ◌≤◌, [], ◌∷◌, ◌++◌, length, decimal, map};
+ghost use Rattle.arrayvec.specs.ArrayVec.{array_vec_len};
+ghost use Rattle.mm_model.specs.Spelling.{sentence};
+
+use arrayvec::ArrayVec;
+use itoa::Buffer;
+
+/// The buffer that lines are written to.
+pub(crate) type Lines = ArrayVec<u8, 4096>;
+
+/// Appends a text.
+#[inline(always)]
+pub(crate) fn put_text(text: &[u8], to: &mut Lines)
+    requires { array_vec_len to.old + length text.now ≤ 4096 }
+    ensures items { to.new.items ≡ to.old.items ++ text.now }
+    ensures len { array_vec_len to.new ≡ array_vec_len to.old + length text.now }
+{
+    to.try_extend_from_slice(text).unwrap();
+}
+
+/// Appends a space and a number.
+#[inline(always)]
+pub(crate) fn put_number(number: u32, to: &mut Lines)
+    requires { array_vec_len to.old + 11 ≤ 4096 }
+    ensures items { to.new.items ≡ to.old.items ++ 32 ∷ decimal number }
+    ensures len { array_vec_len to.new ≤ array_vec_len to.old + 11 }
+{
+    let mut digits = Buffer::new();
+    to.push(b' ');
+    put_text(digits.format(number).as_bytes(), to);
+}
+
+/// Appends a line: a name and then numbers.
+#[inline(always)]
+pub(crate) fn put_sentence(name: &[u8], numbers: &[u32], to: &mut Lines)
+    requires name { length name.now ≤ 8 }
+    requires numbers { length numbers.now ≤ 4 }
+    requires room { array_vec_len to.old + 64 ≤ 4096 }
+    ensures { to.new.items ≡ to.old.items ++ sentence (name.now ∷ map decimal numbers.now) }
+{
+    put_text(name, to);
+    for number in numbers {
+        put_number(*number, to);
+    }
+    to.push(b'\n');
+}
