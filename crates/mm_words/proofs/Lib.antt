@@ -1,0 +1,6 @@
+mod Debts
+mod Lodging
+mod Lots
+mod Values
+mod Walks
+pub mod Writes

@@ -1,0 +1,9 @@
+pub mod Kept
+pub mod Lending
+pub mod Ownership
+pub mod Piece
+pub mod Runs
+pub mod Seated
+pub mod Stock
+pub mod Tally
+pub mod Writes

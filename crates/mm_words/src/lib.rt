@@ -1,0 +1,17 @@
+//! One allocation of 32-bit words, cut into pieces that own their words.
+#![tactic(auto)]
+
+mod arena;
+mod charter;
+mod deed;
+mod held;
+mod lot;
+#[cfg(test)]
+mod tests;
+mod words;
+
+pub use arena::Arena;
+pub use words::Words;
+
+/// Want of memory, the one refusal of this crate.
+pub type NoMemory = std::alloc::AllocError;
