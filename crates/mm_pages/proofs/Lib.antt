@@ -1,0 +1,13 @@
+pub mod Fits
+pub mod Halves
+pub mod Joins
+pub mod Marks
+pub mod Parts
+pub mod Tables
+pub mod Trees
+pub mod Visits
+pub mod Unused
+pub mod Counts
+pub mod Sound
+pub mod Kept
+pub mod Digits

@@ -1,0 +1,11 @@
+use Rattle.std.proofs.Common.{ap, arith}
+use Rattle.mm_pages.specs.Entries.{Entries}
+use Rattle.mm_pages.proofs.Tables.{entries-set_out}
+use Rattle.mm_pages.proofs.table.Table.set_out.Goals as goal
+
+pub returns : goal.returns
+returns c = rw (c.set.ensures, ← c.self.view_is) (entries-set_out c.self.inside.words c.self.inside.pages
+    c.self.inside.height c.args.page c.args.len (omega (
+      arith,
+      ap (λ (e : Entries). e.pages) c.self.view_is,
+    )) c.self.invariant)

@@ -1,0 +1,7 @@
+pub mod Entries
+pub mod Free
+pub mod Kept
+pub mod Pages
+pub mod Place
+pub mod Tree
+pub mod Visits
