@@ -1,5 +1,5 @@
 -- The commands that the heap can carry out so far, and what they do.
-use Rattle.std.specs.Prelude.{◌≡◌, ℕ, Bool, true, false, not, ◌&&◌, ◌==◌, IsTrue, List, [], ◌∷◌, Option, Some, None}
+use Rattle.std.specs.Prelude.{◌≡◌, Bool, true, false, not, ◌&&◌, ◌==◌, IsTrue, List, [], ◌∷◌, Option, Some, None}
 use Rattle.mm_model.specs.declared.object.Kind.{Kind}
 use Rattle.mm_model.specs.declared.object.Kind.TheVariants.{Traced, Leaf, Counted, Weak}
 use Rattle.mm_model.specs.declared.object.Shape.{Shape}
@@ -41,7 +41,7 @@ unless_refused (Some refusal) a effect = record { state = a; reply = replies.Ref
 abbrev pub built_effect : State → Command → Effect
 built_effect a (commands.New shape) =
     unless_refused (new_refusal a shape) a
-      (new_effect a shape (place_of a a.settings.max Objects (object_bytes shape.slots)))
+    (new_effect a shape (place_of a a.settings.max Objects (object_bytes shape.slots)))
 built_effect a command = record { state = a; reply = replies.Nothing }
 
 -- the state after a built command, which its lines don't have to tell

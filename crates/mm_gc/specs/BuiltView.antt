@@ -1,5 +1,5 @@
 -- What built commands do to a view.
-use Rattle.std.specs.Prelude.{◌≡◌, ℕ, ◌≤◌, ◌++◌, ◌∷◌, [], List, Option, Some, None, Result, Ok, Err, reverse, map, length}
+use Rattle.std.specs.Prelude.{ℕ, Option, Some, None, Result, Ok, Err}
 use Rattle.mm_model.specs.declared.object.Shape.{Shape}
 use Rattle.mm_model.specs.declared.command.Command.{Command}
 use Rattle.mm_model.specs.declared.command.Command.TheVariants as commands
@@ -20,7 +20,8 @@ held_unless_refused None view effect = effect
 held_unless_refused (Some refusal) view effect = record { view = view; reply = replies.Refused refusal }
 
 abbrev pub held_new : View → Shape → HeldEffect
-held_new view shape = held_unless_refused (held_new_refusal view shape) view (held_new_effect view shape (held_place view shape))
+held_new view shape =
+    held_unless_refused (held_new_refusal view shape) view (held_new_effect view shape (held_place view shape))
 
 -- the reply to `new`
 abbrev pub new_reply : Result ℕ Refusal → Reply

@@ -1,5 +1,5 @@
 -- What `execute` promises.
-use Rattle.std.specs.Prelude.{◌≡◌, ℕ, Bool, List, [], ◌∷◌, ◌++◌, Option}
+use Rattle.std.specs.Prelude.{ℕ, Bool, List, [], ◌∷◌, ◌++◌, Option}
 use Rattle.mm_model.specs.declared.command.Command.{Command}
 use Rattle.mm_model.specs.declared.reply.Reply.{Reply}
 use Rattle.mm_model.specs.declared.line.Line.{Line}

@@ -1,5 +1,5 @@
 -- What the heap's own list of objects shows.
-use Rattle.std.specs.Prelude.{ℕ, false, List, map, replicate, None}
+use Rattle.std.specs.Prelude.{false, List, map, replicate, None}
 use Rattle.mm_model.specs.Place.{Piece, Objects}
 use Rattle.mm_model.specs.View.{HeldObject}
 use Rattle.mm_gc.specs.declared.object.Object.{Object}
@@ -15,6 +15,12 @@ pieces_of objects = map piece_of objects
 abbrev pub held_of : Object → HeldObject
 held_of object =
     record {
-      base = object.base; extent = object.extent; kind = object.shape.kind; finalize = object.shape.finalize;
-      counted = object.shape.counted; words = replicate object.shape.slots 0; sticky = false; partner = None;
+      base = object.base;
+      extent = object.extent;
+      kind = object.shape.kind;
+      finalize = object.shape.finalize;
+      counted = object.shape.counted;
+      words = replicate object.shape.slots 0;
+      sticky = false;
+      partner = None;
     }

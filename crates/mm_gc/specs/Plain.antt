@@ -14,7 +14,8 @@ plain_view settings objects stack commands =
     record {
       objects = map held_of objects;
       stack = reverse stack;
-      areas = []; cycle = None;
+      areas = [];
+      cycle = None;
       threshold = settings.zct;
       totals = record { commands = commands; born = length objects; freed = 0; live = length objects };
       settings = settings;

@@ -1,5 +1,5 @@
 -- Which sizes there are.
-use Rattle.std.specs.Prelude.{ℕ, ◌<◌, ◌≤◌}
+use Rattle.std.specs.Prelude.{◌<◌, ◌≤◌}
 use Rattle.mm_model.specs.declared.object.Size.{Size}
 use Rattle.mm_model.specs.declared.object.Size.TheVariants.{Small, Pages}
 

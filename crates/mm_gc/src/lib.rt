@@ -7,6 +7,8 @@ mod object;
 mod placement;
 mod size;
 mod stage;
+#[cfg(test)]
+mod tests;
 
 pub use gc::{Gc, NoMemory};
 pub use journal::{Finalizer, Journal};

@@ -8,7 +8,7 @@ ghost use Rattle.mm_gc.specs.Held.{piece_of, pieces_of};
 ghost use Rattle.mm_gc.specs.Sizes.{IsSize};
 
 use crate::object::Object;
-use crate::size::{extent_for, PAGE_BYTES};
+use crate::size::{PAGE_BYTES, extent_for};
 use mm_model::Size;
 
 fn any_overlaps(objects: &[Object], low: u32, bytes: u32) -> bool
@@ -28,11 +28,11 @@ fn is_vacant(objects: &[Object], low: u32, bytes: u32) -> bool
 
 fn any_is_of(objects: &[Object], extent: u32, page: u32) -> bool
     requires { page < 4096 }
-    ensures { result ≡ list_any (λ object. object.extent == extent && overlaps (4096 * page) 4096 (piece_of object)) objects.now }
+    ensures { result ≡ list_any
+        (λ object. object.extent == extent && overlaps (4096 * page) 4096 (piece_of object)) objects.now }
 {
-    objects
-        .iter()
-        .any(|object| object.extent == extent && object.overlaps(PAGE_BYTES * page, PAGE_BYTES))
+    objects.iter().any(|object| object.extent == extent
+        && object.overlaps(PAGE_BYTES * page, PAGE_BYTES))
 }
 
 /// Whether the page holds cells of so many bytes.
@@ -99,7 +99,8 @@ fn lowest_run(objects: &[Object], limit: u32, count: u32) -> Option<u32>
 fn lowest_cell(objects: &[Object], limit: u32, extent: u32) -> Option<u32>
     requires cell { 0 < extent }
     requires within { limit ≤ 4096 }
-    ensures { result ≡ cell_place (pieces_of objects.now) limit (first_from (has_room (pieces_of objects.now) Objects extent) 1 (limit - 1)) extent }
+    ensures { result ≡ cell_place (pieces_of objects.now) limit
+        (first_from (has_room (pieces_of objects.now) Objects extent) 1 (limit - 1)) extent }
 {
     match page_with_room(objects, limit, extent) {
         Some(page) => free_cell(objects, extent, page),

@@ -1,5 +1,5 @@
 -- What a journal holds after calls, one after another.
-use Rattle.std.proofs.Common.{◌≡◌, ℕ, Bool, List, [], ◌++◌, Option, sym, append-nil, append_assoc, subst}
+use Rattle.std.proofs.Common.{ℕ, Bool, List, [], ◌++◌, Option, sym, append-nil, append_assoc, subst}
 use Rattle.mm_model.specs.Journal.{Holds, Writes}
 
 -- nothing was written
@@ -7,11 +7,13 @@ pub writes-none : (kept : Option (List ℕ)) (broken : Bool) → Writes kept bro
 writes-none kept broken =
     record {
       held = λ text h. subst (Holds kept broken) (sym (append-nil text)) h;
-      stays_broken = λ h. h; stays_silent = λ h. h;
+      stays_broken = λ h. h;
+      stays_silent = λ h. h;
     }
 
 -- one text, and then another
-pub writes-append : {k l m : Option (List ℕ)} {b c d : Bool} (xs ys : List ℕ) → Writes k b l c xs → Writes l c m d ys → Writes k b m d (xs ++ ys)
+pub writes-append : {k l m : Option (List ℕ)} {b c d : Bool} (xs ys : List ℕ) → Writes k b l c xs → Writes l c m d ys
+    → Writes k b m d (xs ++ ys)
 writes-append {m = m} {d = d} xs ys v w =
     record {
       held = λ text h. subst (Holds m d) (append_assoc text xs ys) (w.held (text ++ xs) (v.held text h));

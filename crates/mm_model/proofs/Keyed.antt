@@ -1,5 +1,5 @@
 -- Lists in which each element stands under a number of its own, and what tests over them see.
-use Rattle.std.proofs.Common.{◌≡◌, ℕ, Bool, true, false, ◌||◌, List, [], ◌∷◌, ◌++◌, map, Option, Some, None, refl, sym, ap, ◌∙◌, subst, ◌⊎◌, ⊎_elim, inl, inr, arith}
+use Rattle.std.proofs.Common.{◌≡◌, ℕ, Bool, true, false, ◌||◌, List, [], ◌∷◌, ◌++◌, map, Option, Some, None, refl, sym, ap, ◌∙◌, subst, arith}
 use Rattle.std.specs.Prelude.{nat_eq}
 use Rattle.std.specs.List.{list_any, find, AllByRecursion, IsDistinct}
 use Rattle.std.specs.Option.{option_map}
@@ -26,17 +26,19 @@ module _ {X : Type 0} (key : X → ℕ) where
   IsKeyed xs = IsDistinct nat_eq (map key xs)
 
   -- what is found passes the tests that it passes
-  pub any_from_at : (test : X → Bool) (xs : List X) (k : ℕ) (x : X) → at xs k ≡ Some x → test x ≡ true → list_any test xs ≡ true
+  pub any_from_at : (test : X → Bool) (xs : List X) (k : ℕ) (x : X) → at xs k ≡ Some x → test x ≡ true
+      → list_any test xs ≡ true
   any_from_at test [] k x e t = cc
   any_from_at test (y ∷ ys) k x e t =
-      let split : (b : Bool) → nat_eq (key y) k ≡ b → cond b (Some y) (at ys k) ≡ Some x → (test y || list_any test ys) ≡ true =
-        elim [
-          | true ↦ λ p q.
+      let split : (b : Bool) → nat_eq (key y) k ≡ b → cond b (Some y) (at ys k) ≡ Some x
+      → (test y || list_any test ys) ≡ true =
+      elim [
+        | true ↦ λ p q.
             let same : x ≡ y = cc in
             let here : test y ≡ true = subst (λ z. test z ≡ true) same t in
             ap (λ b. b || list_any test ys) here
-          | false ↦ λ p q. or_true (test y) (list_any test ys) (any_from_at test ys k x q t)
-        ] in
+        | false ↦ λ p q. or_true (test y) (list_any test ys) (any_from_at test ys k x q t)
+      ] in
       split (nat_eq (key y) k) refl e
 
   -- and what passes a test is found under its own number
@@ -50,27 +52,28 @@ module _ {X : Type 0} (key : X → ℕ) where
   found_key [] k x e = cc
   found_key (y ∷ ys) k x e =
       let split : (b : Bool) → nat_eq (key y) k ≡ b → cond b (Some y) (at ys k) ≡ Some x → key x ≡ k =
-        elim [
-          | true ↦ λ p q.
+      elim [
+        | true ↦ λ p q.
             let same : x ≡ y = cc in
             let here : key y ≡ k = eqb-true _ _ p in
             ap key same ∙ here
-          | false ↦ λ p q. found_key ys k x q
-        ] in
+        | false ↦ λ p q. found_key ys k x q
+      ] in
       split (nat_eq (key y) k) refl e
 
   -- a number that none of them has finds nothing
-  not_found : (xs : List X) (k : ℕ) → AllByRecursion (λ n. nat_eq k n ≡ false) (map key xs) → (x : X) → at xs k ≡ Some x → ⊥
+  not_found : (xs : List X) (k : ℕ) → AllByRecursion (λ n. nat_eq k n ≡ false) (map key xs) → (x : X)
+      → at xs k ≡ Some x → ⊥
   not_found [] k none x e = cc
   not_found (y ∷ ys) k none x e =
       let split : (b : Bool) → nat_eq (key y) k ≡ b → cond b (Some y) (at ys k) ≡ Some x → ⊥ =
-        elim [
-          | true ↦ λ p q.
+      elim [
+        | true ↦ λ p q.
             let here : key y ≡ k = eqb-true _ _ p in
             let other : nat_eq k (key y) ≡ false = none.0 in
             grind (arith, nat_tests)
-          | false ↦ λ p q. not_found ys k none.1 x q
-        ] in
+        | false ↦ λ p q. not_found ys k none.1 x q
+      ] in
       split (nat_eq (key y) k) refl e
 
   pub at_from_any : (test : X → Bool) (xs : List X) → IsKeyed xs → list_any test xs ≡ true → Passes test xs
@@ -78,14 +81,24 @@ module _ {X : Type 0} (key : X → ℕ) where
   at_from_any test [] d e = cc
   at_from_any test (y ∷ ys) d e =
       let split : (b : Bool) → test y ≡ b → (b || list_any test ys) ≡ true → Passes test (y ∷ ys) =
-        elim [
-          | true ↦ λ p q. record { under = key y; found = y; is = ap (λ b. cond b (Some y) (at ys (key y))) (eq-eqb (key y) (key y) refl); passes = p }
-          | false ↦ λ p q.
+      elim [
+        | true ↦ λ p q. record {
+          under = key y;
+          found = y;
+          is = ap (λ b. cond b (Some y) (at ys (key y))) (eq-eqb (key y) (key y) refl);
+          passes = p;
+        }
+        | false ↦ λ p q.
             let rest = at_from_any test ys d.1 q in
             let other : nat_eq (key y) rest.under ≡ false =
-              refuted _ (λ h. not_found ys (key y) d.0 rest.found (ap (at ys) (eqb-true _ _ h) ∙ rest.is)) in
-            record { under = rest.under; found = rest.found; is = ap (λ b. cond b (Some y) (at ys rest.under)) other ∙ rest.is; passes = rest.passes }
-        ] in
+            refuted _ (λ h. not_found ys (key y) d.0 rest.found (ap (at ys) (eqb-true _ _ h) ∙ rest.is)) in
+            record {
+              under = rest.under;
+              found = rest.found;
+              is = ap (λ b. cond b (Some y) (at ys rest.under)) other ∙ rest.is;
+              passes = rest.passes;
+            }
+      ] in
       split (test y) refl e
 
   -- one more element, under a number that none has
@@ -93,35 +106,40 @@ module _ {X : Type 0} (key : X → ℕ) where
   unfolding IsDistinct
   keyed-push [] y d none = (tt, tt)
   keyed-push (x ∷ xs) y d none =
-      let split : (b : Bool) → nat_eq (key x) (key y) ≡ b → ◌≡◌ {A = Option X} (cond b (Some x) (at xs (key y))) None → IsKeyed (x ∷ xs ++ y ∷ []) =
-        elim [
-          | true ↦ λ p q. cc
-          | false ↦ λ p q. (others xs (key x) d.0 p, keyed-push xs y d.1 q)
-        ] in
+      let split : (b : Bool) → nat_eq (key x) (key y) ≡ b → ◌≡◌ {A = Option X} (cond b (Some x) (at xs (key y))) None
+      → IsKeyed (x ∷ xs ++ y ∷ []) =
+      elim [
+        | true ↦ λ p q. cc
+        | false ↦ λ p q. (others xs (key x) d.0 p, keyed-push xs y d.1 q)
+      ] in
       split (nat_eq (key x) (key y)) refl none
     where
-      others : (zs : List X) (k : ℕ) → AllByRecursion (λ n. nat_eq k n ≡ false) (map key zs) → nat_eq k (key y) ≡ false →
-          AllByRecursion (λ n. nat_eq k n ≡ false) (map key (zs ++ y ∷ []))
+      others : (zs : List X) (k : ℕ) → AllByRecursion (λ n. nat_eq k n ≡ false) (map key zs)
+          → nat_eq k (key y) ≡ false
+          → AllByRecursion (λ n. nat_eq k n ≡ false) (map key (zs ++ y ∷ []))
       others [] k h e = (e, tt)
       others (z ∷ zs) k h e = (h.0, others zs k h.1 e)
 
-pub any-map : {X P : Type 0} (f : X → P) (test : P → Bool) (xs : List X) → list_any test (map f xs) ≡ list_any (λ x. test (f x)) xs
+pub any-map : {X P : Type 0} (f : X → P) (test : P → Bool) (xs : List X)
+    → list_any test (map f xs) ≡ list_any (λ x. test (f x)) xs
 any-map f test [] = refl
 any-map f test (x ∷ xs) = ap (λ b. test (f x) || b) (any-map f test xs)
 
 module _ {X Y P : Type 0} (xkey : X → ℕ) (ykey : Y → ℕ) (f : X → P) (g : Y → P) where
-  seen : (xs : List X) (ys : List Y) → IsKeyed xkey xs → ((k : ℕ) → option_map f (at xkey xs k) ≡ option_map g (at ykey ys k)) →
-      (test : P → Bool) → list_any (λ x. test (f x)) xs ≡ true → list_any (λ y. test (g y)) ys ≡ true
+  seen : (xs : List X) (ys : List Y) → IsKeyed xkey xs
+      → ((k : ℕ) → option_map f (at xkey xs k) ≡ option_map g (at ykey ys k))
+      → (test : P → Bool) → list_any (λ x. test (f x)) xs ≡ true → list_any (λ y. test (g y)) ys ≡ true
   seen xs ys dx alike test e =
       let p = at_from_any xkey (λ x. test (f x)) xs dx e in
       let image : Some (f p.found) ≡ option_map g (at ykey ys p.under) = ap (option_map f) (sym p.is) ∙ alike p.under in
-      let split : (o : Option Y) → at ykey ys p.under ≡ o → Some (f p.found) ≡ option_map g o → list_any (λ y. test (g y)) ys ≡ true =
-        elim [
-          | None ↦ λ is h. cc
-          | Some y ↦ λ is h.
+      let split : (o : Option Y) → at ykey ys p.under ≡ o → Some (f p.found) ≡ option_map g o
+      → list_any (λ y. test (g y)) ys ≡ true =
+      elim [
+        | None ↦ λ is h. cc
+        | Some y ↦ λ is h.
             let same : f p.found ≡ g y = cc in
             any_from_at ykey (λ y. test (g y)) ys p.under y is (subst (λ q. test q ≡ true) same p.passes)
-        ] in
+      ] in
       split (at ykey ys p.under) refl image
 
 module _ {X Y P : Type 0} (xkey : X → ℕ) (ykey : Y → ℕ) (f : X → P) (g : Y → P) where

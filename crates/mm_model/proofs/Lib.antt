@@ -1,5 +1,6 @@
 pub mod Births
 pub mod Creating
+pub mod FaultLemmas
 pub mod Journals
 pub mod Keyed
 pub mod Lists

@@ -1,59 +1,64 @@
 -- A view that shows a state goes on to show it.
-use Rattle.std.proofs.Common.{◌≡◌, ℕ, zero, suc, ◌+◌, ◌-◌, ◌*◌, ◌<◌, ◌≤◌, Bool, true, false, not, cond, eqb-true, ◌&&◌, ◌||◌, List, [], ◌∷◌, ◌++◌, map, length, replicate, Option, Some, None, refl, sym, ap, ◌∙◌, subst, ◌⊎◌, ⊎_elim, inl, inr, append_assoc, arith}
-use Rattle.std.proofs.lemmas.Bool.Decides.{nat_tests}
-use Rattle.std.proofs.lemmas.List.{map-append, length_push, get_or_append_left, get_or_push}
+use Rattle.std.proofs.Common.{◌≡◌, ℕ, zero, suc, ◌+◌, ◌-◌, ◌<◌, ◌≤◌, Bool, true, false, cond, eqb-true, ◌&&◌, ◌||◌, List, [], ◌∷◌, ◌++◌, map, length, replicate, Option, Some, None, refl, sym, ap, ◌∙◌, ⊎_elim, arith}
+use Rattle.std.proofs.lemmas.List.{length_push, get_or_append_left, get_or_push}
 use Rattle.std.proofs.lemmas.List.Elements.{filter-append}
 use Rattle.std.specs.Prelude.{IsTrue, IfSome, slice_get, slice_index_or, nat_eq}
-use Rattle.std.specs.List.{find, position_from, filter, list_any, AllByRecursion, IsDistinct}
+use Rattle.std.specs.List.{find, position_from, list_any, AllByRecursion, IsDistinct}
 use Rattle.std.specs.Option.{option_map, option_and_then, option_or}
 use Rattle.mm_model.specs.declared.object.Shape.{Shape}
-use Rattle.mm_model.specs.Value.{Value, integer}
+use Rattle.mm_model.specs.Value.{integer}
 use Rattle.mm_model.specs.Object.{Object, newborn, is_live, live_objects}
 use Rattle.mm_model.specs.declared.line.Totals.{Totals}
 use Rattle.mm_model.specs.declared.object.Colour.TheVariants.{White, Black}
 use Rattle.mm_model.specs.State.{State, Area, Cycle, Partial, totals_of, live_count, with_black_birth, one_more_command}
-use Rattle.mm_model.specs.Place.{Family, Piece, object_piece, area_piece, live_pieces}
-use Rattle.mm_model.specs.Good.{IsCell, IsPages, AreApart, AreAllApart, IsInside, IsPlaced, IsPaired, IsColoured, IsGood}
-use Rattle.mm_model.specs.View.{View, HeldObject, HeldArea, HeldColour, HeldCycle, Shows, ShowsCycles, ShowsCycle, colour_at, held_partial, held_at, held, held_area, shown_at, lives_at, base_of, words_of}
+use Rattle.mm_model.specs.Place.{Piece, object_piece, area_piece, live_pieces}
+use Rattle.mm_model.specs.Good.{IsCell, IsPages, AreApart, AreAllApart, IsInside, IsPaired, IsColoured, IsGood}
+use Rattle.mm_model.specs.View.{View, HeldObject, HeldColour, HeldCycle, Shows, ShowsCycles, colour_at, held_partial, held_at, held, held_area, shown_at, lives_at, base_of, words_of}
 use Rattle.mm_model.specs.ViewEffect.{held_piece, held_area_piece, held_pieces, held_newborn, held_black_birth, one_more_birth, held_made, one_more_carried_out}
 use Rattle.mm_model.specs.Effect.{made_at}
 use Rattle.std.proofs.lemmas.Bool.{eq-eqb}
 use Rattle.mm_model.specs.SizeClass.{extent_of, object_bytes}
 use Rattle.mm_model.proofs.Placing.{some_with, each_both, both}
 use Rattle.mm_model.proofs.Keyed.{at, IsKeyed, seen_alike, refuted, found_key, any_from_at, any-map, keyed-push}
-use Rattle.mm_model.proofs.SizeClassLemmas.{IsCellSize, class_bounds}
+use Rattle.mm_model.proofs.SizeClassLemmas.{class_bounds}
 use Rattle.mm_model.proofs.Lists.{Found, find-Some, find-push, position_from-push, position_from-below, get-front}
 use Rattle.mm_model.proofs.SeenAlike.{AreSeenAlike}
 
 -- the live object at a base, found among all or among the live ones
-find-live : (objects : List Object) (base : ℕ) → find (lives_at base) objects ≡ find (λ o. nat_eq o.base base) (live_objects objects)
+find-live : (objects : List Object) (base : ℕ)
+    → find (lives_at base) objects ≡ find (λ o. nat_eq o.base base) (live_objects objects)
 find-live [] base = refl
 find-live (o ∷ os) base =
     let split : (b : Bool) → cond (b && nat_eq o.base base) (Some o) (find (lives_at base) os) ≡
-        find (λ (o : Object). nat_eq o.base base) (cond b (o ∷ live_objects os) (live_objects os)) =
-      elim [ true ↦ ap (cond (nat_eq o.base base) (Some o)) (find-live os base) | false ↦ find-live os base ] in
+    find (λ (o : Object). nat_eq o.base base) (cond b (o ∷ live_objects os) (live_objects os)) =
+    elim [ true ↦ ap (cond (nat_eq o.base base) (Some o)) (find-live os base) | false ↦ find-live os base ] in
     split (is_live o)
 
 pub some_extent : (limit : ℕ) (p : Piece) → IsInside limit p → 0 < p.extent
 some_extent limit p h =
-    ⊎_elim (λ (cell : IsCell p). let bounds = class_bounds p.extent cell.class in omega arith) (λ (pages : IsPages p). pages.some) h.placed
+    ⊎_elim (λ (cell : IsCell p). let bounds = class_bounds p.extent cell.class in omega arith)
+    (λ (pages : IsPages p). pages.some) h.placed
 
-distinct_bases : (limit : ℕ) (p q : Piece) → IsInside limit p → IsInside limit q → AreApart p q → nat_eq p.base q.base ≡ false
+distinct_bases : (limit : ℕ) (p q : Piece) → IsInside limit p → IsInside limit q → AreApart p q
+    → nat_eq p.base q.base ≡ false
 distinct_bases limit p q i j a =
     let x = some_extent limit p i in
     let y = some_extent limit q j in
     let other : p.base ≡ q.base → ⊥ = λ same.
-      ⊎_elim (λ (l : p.base + p.extent ≤ q.base). omega arith) (λ (l : q.base + q.extent ≤ p.base). omega arith) a.disjoint in
+    ⊎_elim (λ (l : p.base + p.extent ≤ q.base). omega arith)
+    (λ (l : q.base + q.extent ≤ p.base). omega arith) a.disjoint in
     refuted (nat_eq p.base q.base) (λ e. other (eqb-true _ _ e))
 
 -- Two that live begin at different bases.
-keyed-live : (limit : ℕ) (objects : List Object) → AllByRecursion (IsInside limit) (map object_piece objects) → AreAllApart (map object_piece objects) → IsKeyed (λ o. o.base) objects
+keyed-live : (limit : ℕ) (objects : List Object) → AllByRecursion (IsInside limit) (map object_piece objects)
+    → AreAllApart (map object_piece objects) → IsKeyed (λ o. o.base) objects
 unfolding IsDistinct
 keyed-live limit [] i a = tt
 keyed-live limit (o ∷ os) i a = (others os i.1 a.0, keyed-live limit os i.1 a.1)
   where
-    others : (qs : List Object) → AllByRecursion (IsInside limit) (map object_piece qs) → AllByRecursion (AreApart (object_piece o)) (map object_piece qs) →
-        AllByRecursion (λ base. nat_eq o.base base ≡ false) (map (λ o. o.base) qs)
+    others : (qs : List Object) → AllByRecursion (IsInside limit) (map object_piece qs)
+        → AllByRecursion (AreApart (object_piece o)) (map object_piece qs)
+        → AllByRecursion (λ base. nat_eq o.base base ≡ false) (map (λ o. o.base) qs)
     others [] j b = tt
     others (q ∷ qs) j b = (distinct_bases limit (object_piece o) (object_piece q) i.0 j.0 b.0, others qs j.1 b.1)
 
@@ -69,29 +74,35 @@ all_apart-after (p ∷ ps) qs h = all_apart-after ps qs h.1
 pub keyed_good : (a : State) → IsGood a → IsKeyed (λ o. o.base) (live_objects a.objects)
 keyed_good a good =
     keyed-live a.settings.max (live_objects a.objects)
-      (each_after _ (map area_piece a.areas) _ good.placed.inside) (all_apart-after (map area_piece a.areas) _ good.placed.apart)
+    (each_after _ (map area_piece a.areas) _ good.placed.inside)
+    (all_apart-after (map area_piece a.areas) _ good.placed.apart)
 
-any-append : {X : Type 0} (test : X → Bool) (xs ys : List X) → list_any test (xs ++ ys) ≡ (list_any test xs || list_any test ys)
+any-append : {X : Type 0} (test : X → Bool) (xs ys : List X)
+    → list_any test (xs ++ ys) ≡ (list_any test xs || list_any test ys)
 any-append test [] ys = refl
 any-append test (x ∷ xs) ys =
     let split : (b : Bool) → (b || list_any test (xs ++ ys)) ≡ ((b || list_any test xs) || list_any test ys) =
-      elim [ true ↦ refl | false ↦ any-append test xs ys ] in
+    elim [ true ↦ refl | false ↦ any-append test xs ys ] in
     split (test x)
 
 area_pieces-held : (areas : List Area) → map held_area_piece (map held_area areas) ≡ map area_piece areas
 area_pieces-held [] = refl
 area_pieces-held (area ∷ areas) = ap (λ ps. area_piece area ∷ ps) (area_pieces-held areas)
 
-piece-held : (a : State) (found : Option Object) → option_map held_piece (option_map (held a) found) ≡ option_map object_piece found
+piece-held : (a : State) (found : Option Object)
+    → option_map held_piece (option_map (held a) found) ≡ option_map object_piece found
 piece-held a None = refl
 piece-held a (Some o) = refl
 
 -- A view and the state that it shows take the same room.
 pub pieces_alike : (view : View) (a : State) → IsGood a → Shows view a → AreSeenAlike (held_pieces view) (live_pieces a)
 pieces_alike view a good shows test =
-    let alike : (k : ℕ) → option_map held_piece (held_at view.objects k) ≡ option_map object_piece (at (λ o. o.base) (live_objects a.objects) k) =
-      λ k. ap (option_map held_piece) (shows.objects k) ∙ piece-held a (find (lives_at k) a.objects) ∙ ap (option_map object_piece) (find-live a.objects k) in
-    let objects = seen_alike (λ o. o.base) (λ o. o.base) held_piece object_piece view.objects (live_objects a.objects) shows.distinct (keyed_good a good) alike test in
+    let alike : (k : ℕ) → option_map held_piece (held_at view.objects k)
+    ≡ option_map object_piece (at (λ o. o.base) (live_objects a.objects) k) =
+    λ k. ap (option_map held_piece) (shows.objects k) ∙ piece-held a (find (lives_at k) a.objects)
+    ∙ ap (option_map object_piece) (find-live a.objects k) in
+    let objects = seen_alike (λ o. o.base) (λ o. o.base) held_piece object_piece view.objects
+    (live_objects a.objects) shows.distinct (keyed_good a good) alike test in
     any-append test (map held_area_piece view.areas) (map held_piece view.objects)
     ∙ ap (λ areas. list_any test (map held_area_piece areas) || list_any test (map held_piece view.objects)) shows.areas
     ∙ ap (λ ps. list_any test ps || list_any test (map held_piece view.objects)) (area_pieces-held a.areas)
@@ -103,33 +114,40 @@ words_of-zeros zero = refl
 words_of-zeros (suc n) = ap (λ ws. 0 ∷ ws) (words_of-zeros n)
 
 -- where a piece goes, no live object begins
-pub nothing_at : (a : State) (q : Piece) → IsGood a → 0 < q.extent → AllByRecursion (λ p. AreApart p q) (live_pieces a) → find (lives_at q.base) a.objects ≡ None
+pub nothing_at : (a : State) (q : Piece) → IsGood a → 0 < q.extent
+    → AllByRecursion (λ p. AreApart p q) (live_pieces a) → find (lives_at q.base) a.objects ≡ None
 nothing_at a q good some apart =
     let split : (found : Option Object) → find (lives_at q.base) a.objects ≡ found → found ≡ None =
-      elim [
-        | None ↦ λ e. refl
-        | Some o ↦ λ e.
-          let found : find (λ o. nat_eq o.base q.base) (live_objects a.objects) ≡ Some o = sym (find-live a.objects q.base) ∙ e in
+    elim [
+      | None ↦ λ e. refl
+      | Some o ↦ λ e.
+          let found : find (λ o. nat_eq o.base q.base) (live_objects a.objects) ≡ Some o =
+          sym (find-live a.objects q.base) ∙ e in
           let own : o.base ≡ q.base = found_key (λ o. o.base) (live_objects a.objects) q.base o found in
-          let any = any_from_at (λ o. o.base) (λ o. nat_eq o.base q.base) (live_objects a.objects) q.base o found (eq-eqb _ _ own) in
-          let hit = some_with (λ p. nat_eq p.base q.base) (λ p. AreApart p q × IsInside a.settings.max p) (map object_piece (live_objects a.objects))
-            (any-map object_piece (λ p. nat_eq p.base q.base) (live_objects a.objects) ∙ any)
-            (each_after _ (map area_piece a.areas) _ (each_both (λ p. AreApart p q) (IsInside a.settings.max) (λ p. AreApart p q × IsInside a.settings.max p)
-              (λ p x y. (x, y)) (live_pieces a) apart good.placed.inside)) in
+          let any = any_from_at (λ o. o.base) (λ o. nat_eq o.base q.base) (live_objects a.objects) q.base o found
+          (eq-eqb _ _ own) in
+          let hit = some_with (λ p. nat_eq p.base q.base) (λ p. AreApart p q × IsInside a.settings.max p)
+          (map object_piece (live_objects a.objects))
+          (any-map object_piece (λ p. nat_eq p.base q.base) (live_objects a.objects) ∙ any)
+          (each_after _ (map area_piece a.areas) _
+          (each_both (λ p. AreApart p q) (IsInside a.settings.max) (λ p. AreApart p q × IsInside a.settings.max p)
+          (λ p x y. (x, y)) (live_pieces a) apart good.placed.inside)) in
           absurd (meet hit.0 (eqb-true _ _ hit.1) hit.2.0 (some_extent a.settings.max hit.0 hit.2.1))
-      ] in
+    ] in
     split (find (lives_at q.base) a.objects) refl
   where
     meet : (p : Piece) → p.base ≡ q.base → AreApart p q → 0 < p.extent → ⊥
     meet p same apart' more =
-        ⊎_elim (λ (l : p.base + p.extent ≤ q.base). omega arith) (λ (l : q.base + q.extent ≤ p.base). omega arith) apart'.disjoint
+        ⊎_elim (λ (l : p.base + p.extent ≤ q.base). omega arith)
+        (λ (l : q.base + q.extent ≤ p.base). omega arith) apart'.disjoint
 
 module _ (a : State) (shape : Shape) (base : ℕ) (good : IsGood a) where
   abbrev after : State
   after = made_at a shape base
 
   base_of-made : (birth : ℕ) (o : Object) → slice_get a.objects birth ≡ Some o → base_of a birth ≡ base_of after birth
-  base_of-made birth o is = ap (option_map (λ o. o.base)) (is ∙ sym (get-front a.objects (newborn shape base ∷ []) birth o is))
+  base_of-made birth o is =
+      ap (option_map (λ o. o.base)) (is ∙ sym (get-front a.objects (newborn shape base ∷ []) birth o is))
 
   partner-made : (birth : ℕ) (o : Object) (partner : Option ℕ) → IfSome partner (IsPaired a.objects birth o) →
       option_and_then (base_of a) partner ≡ option_and_then (base_of after) partner
@@ -141,68 +159,90 @@ module _ (a : State) (shape : Shape) (base : ℕ) (good : IsGood a) where
   held-made b o found =
       let live = both _ _ found.passes in
       ap (λ partner. record {
-          base = o.base; extent = o.extent; kind = o.kind; finalize = o.finalize;
-          counted = o.counted; words = words_of o.slots; sticky = o.sticky; partner = partner;
-        }) (partner-made found.place o o.partner (good.paired found.place o found.is live.0))
+        base = o.base;
+        extent = o.extent;
+        kind = o.kind;
+        finalize = o.finalize;
+        counted = o.counted;
+        words = words_of o.slots;
+        sticky = o.sticky;
+        partner = partner;
+      }) (partner-made found.place o o.partner (good.paired found.place o found.is live.0))
 
   held-newborn : held after (newborn shape base) ≡ held_newborn shape base
   held-newborn =
       ap (λ words. record {
-          base = base; extent = extent_of (object_bytes shape.slots); kind = shape.kind; finalize = shape.finalize;
-          counted = shape.counted; words = words; sticky = false; partner = None;
-        }) (words_of-zeros shape.slots)
+        base = base;
+        extent = extent_of (object_bytes shape.slots);
+        kind = shape.kind;
+        finalize = shape.finalize;
+        counted = shape.counted;
+        words = words;
+        sticky = false;
+        partner = None;
+      }) (words_of-zeros shape.slots)
 
-  objects-made : (objects : List HeldObject) (b : ℕ) → held_at objects b ≡ shown_at a b → find (lives_at base) a.objects ≡ None →
-      held_at (objects ++ held_newborn shape base ∷ []) b ≡ shown_at after b
+  objects-made : (objects : List HeldObject) (b : ℕ) → held_at objects b ≡ shown_at a b
+      → find (lives_at base) a.objects ≡ None
+      → held_at (objects ++ held_newborn shape base ∷ []) b ≡ shown_at after b
   objects-made objects b same none =
-      let shown : (found : Option Object) → find (lives_at b) a.objects ≡ found → held_at objects b ≡ option_map (held a) found →
-          option_or (held_at objects b) (cond (nat_eq base b) (Some (held_newborn shape base)) None)
-          ≡ option_map (held after) (option_or found (cond (nat_eq base b) (Some (newborn shape base)) None)) =
-        elim [
-          | None ↦ λ is e.
+      let shown : (found : Option Object) → find (lives_at b) a.objects ≡ found
+      → held_at objects b ≡ option_map (held a) found
+      → option_or (held_at objects b) (cond (nat_eq base b) (Some (held_newborn shape base)) None)
+      ≡ option_map (held after) (option_or found (cond (nat_eq base b) (Some (newborn shape base)) None)) =
+      elim [
+        | None ↦ λ is e.
             ap (λ found. option_or found (cond (nat_eq base b) (Some (held_newborn shape base)) None)) e
             ∙ own (nat_eq base b)
-          | Some o ↦ λ is e.
+        | Some o ↦ λ is e.
             ap (λ found. option_or found (cond (nat_eq base b) (Some (held_newborn shape base)) None)) e
             ∙ ap Some (held-made b o (find-Some (lives_at b) a.objects o is))
-        ] in
+      ] in
       find-push (λ o. nat_eq o.base b) objects (held_newborn shape base)
       ∙ shown (find (lives_at b) a.objects) refl same
       ∙ ap (option_map (held after)) (sym (find-push (lives_at b) a.objects (newborn shape base)))
     where
-      own : (c : Bool) → option_or None (cond c (Some (held_newborn shape base)) None) ≡ option_map (held after) (option_or None (cond c (Some (newborn shape base)) None))
+      own : (c : Bool)
+          → option_or None (cond c (Some (held_newborn shape base)) None)
+          ≡ option_map (held after) (option_or None (cond c (Some (newborn shape base)) None))
       own true = ap Some (sym held-newborn)
       own false = refl
 
   colour-made : (cycle : Cycle) (entries : List HeldColour) (b : ℕ) → length cycle.colours ≡ length a.objects →
       option_map (λ entry. entry.colour) (find (λ entry. nat_eq entry.base b) entries) ≡ colour_at a cycle b →
-      option_map (λ entry. entry.colour) (find (λ entry. nat_eq entry.base b) (entries ++ record { base = base; colour = Black } ∷ []))
+      option_map (λ entry. entry.colour)
+      (find (λ entry. nat_eq entry.base b) (entries ++ record { base = base; colour = Black } ∷ []))
       ≡ colour_at after (with_black_birth cycle) b
   colour-made cycle entries b each same =
       let entry : HeldColour = record { base = base; colour = Black } in
       let colours = cycle.colours ++ Black ∷ [] in
       let shown : (birth : Option ℕ) (found : Option HeldColour) → position_from (lives_at b) 0 a.objects ≡ birth →
-          option_map (λ entry. entry.colour) found ≡ option_map (λ birth. slice_index_or cycle.colours birth White) birth →
-          option_map (λ entry. entry.colour) (option_or found (cond (nat_eq base b) (Some entry) None))
-          ≡ option_map (λ birth. slice_index_or colours birth White) (option_or birth (cond (nat_eq base b) (Some (0 + length a.objects)) None)) =
-        elim [
-          | None ↦ elim [
-            | None ↦ λ is e. last (nat_eq base b)
-            | Some f ↦ λ is e. cc
-          ]
-          | Some n ↦ elim [
-            | None ↦ λ is e. cc
-            | Some f ↦ λ is e.
+      option_map (λ entry. entry.colour) found
+      ≡ option_map (λ birth. slice_index_or cycle.colours birth White) birth →
+      option_map (λ entry. entry.colour) (option_or found (cond (nat_eq base b) (Some entry) None))
+      ≡ option_map (λ birth. slice_index_or colours birth White)
+      (option_or birth (cond (nat_eq base b) (Some (0 + length a.objects)) None)) =
+      elim [
+        | None ↦ elim [
+          | None ↦ λ is e. last (nat_eq base b)
+          | Some f ↦ λ is e. cc
+        ]
+        | Some n ↦ elim [
+          | None ↦ λ is e. cc
+          | Some f ↦ λ is e.
               let below = position_from-below (lives_at b) 0 a.objects n is in
               e ∙ ap Some (sym (get_or_append_left cycle.colours (Black ∷ []) White n (omega arith)))
-          ]
-        ] in
+        ]
+      ] in
       ap (option_map (λ entry. entry.colour)) (find-push (λ entry. nat_eq entry.base b) entries entry)
       ∙ shown (position_from (lives_at b) 0 a.objects) (find (λ entry. nat_eq entry.base b) entries) refl same
-      ∙ ap (option_map (λ birth. slice_index_or colours birth White)) (sym (position_from-push (lives_at b) 0 a.objects (newborn shape base)))
+      ∙ ap (option_map (λ birth. slice_index_or colours birth White))
+      (sym (position_from-push (lives_at b) 0 a.objects (newborn shape base)))
     where
-      last : (c : Bool) → option_map (λ (entry : HeldColour). entry.colour) (option_or None (cond c (Some (record { base = base; colour = Black })) None))
-          ≡ option_map (λ birth. slice_index_or (cycle.colours ++ Black ∷ []) birth White) (option_or None (cond c (Some (0 + length a.objects)) None))
+      last : (c : Bool) → option_map (λ (entry : HeldColour). entry.colour)
+          (option_or None (cond c (Some (record { base = base; colour = Black })) None))
+          ≡ option_map (λ birth. slice_index_or (cycle.colours ++ Black ∷ []) birth White)
+          (option_or None (cond c (Some (0 + length a.objects)) None))
       last true = ap Some (sym (get_or_push cycle.colours Black White (0 + length a.objects) (omega arith)))
       last false = refl
 
@@ -213,8 +253,9 @@ module _ (a : State) (shape : Shape) (base : ℕ) (good : IsGood a) where
   partial-made (Some partial) h =
       ap (option_map (λ base. record { base = base; done = partial.done })) (base_of-made partial.object h.0 h.1)
 
-  cycle-made : (entries : Option HeldCycle) (cycle : Option Cycle) → IfSome cycle (IsColoured a) → ShowsCycles entries a cycle →
-      ShowsCycles (option_map (held_black_birth base) entries) after (option_map with_black_birth cycle)
+  cycle-made : (entries : Option HeldCycle) (cycle : Option Cycle) → IfSome cycle (IsColoured a)
+      → ShowsCycles entries a cycle
+      → ShowsCycles (option_map (held_black_birth base) entries) after (option_map with_black_birth cycle)
   cycle-made None None h shows = tt
   cycle-made None (Some cycle) h shows = shows
   cycle-made (Some entries) None h shows = shows
@@ -229,20 +270,25 @@ module _ (a : State) (shape : Shape) (base : ℕ) (good : IsGood a) where
   totals-made =
       let born : length after.objects ≡ length a.objects + 1 = length_push a.objects (newborn shape base) in
       let live : live_count after ≡ live_count a + 1 =
-        ap length (filter-append is_live a.objects (newborn shape base ∷ [])) ∙ length_push (live_objects a.objects) (newborn shape base) in
-      let freed : length a.objects - live_count a ≡ length after.objects - live_count after = omega (arith, born, live) in
+      ap length (filter-append is_live a.objects (newborn shape base ∷ []))
+      ∙ length_push (live_objects a.objects) (newborn shape base) in
+      let freed : length a.objects - live_count a ≡ length after.objects - live_count after =
+      omega (arith, born, live) in
       totals_path a.commands (sym born) freed (sym live)
     where
       totals_path : (commands : ℕ) {b c f g l m : ℕ} → b ≡ c → f ≡ g → l ≡ m →
-          ◌≡◌ {A = Totals} (record { commands = commands; born = b; freed = f; live = l }) (record { commands = commands; born = c; freed = g; live = m })
+          ◌≡◌ {A = Totals} (record { commands = commands; born = b; freed = f; live = l })
+          (record { commands = commands; born = c; freed = g; live = m })
       totals_path commands p q r i = record { commands = commands; born = p i; freed = q i; live = r i }
 
   -- The view with the new object shows the state with it.
-  pub shows-made : (view : View) → Shows view a → find (lives_at base) a.objects ≡ None → Shows (held_made shape base view) (made_at a shape base)
+  pub shows-made : (view : View) → Shows view a → find (lives_at base) a.objects ≡ None
+      → Shows (held_made shape base view) (made_at a shape base)
   shows-made view shows none =
       record {
         objects = λ b. objects-made view.objects b (shows.objects b) none;
-        distinct = keyed-push (λ o. o.base) view.objects (held_newborn shape base) shows.distinct (shows.objects base ∙ ap (option_map (held a)) none);
+        distinct = keyed-push (λ o. o.base) view.objects (held_newborn shape base) shows.distinct
+            (shows.objects base ∙ ap (option_map (held a)) none);
         stack = ap (λ ws. base ∷ ws) shows.stack;
         areas = shows.areas;
         cycle = cycle-made view.cycle a.cycle good.coloured shows.cycle;
@@ -251,16 +297,24 @@ module _ (a : State) (shape : Shape) (base : ℕ) (good : IsGood a) where
         settings = shows.settings;
       }
 
-cycles-carried_out : (a : State) (entries : Option HeldCycle) (cycle : Option Cycle) → ShowsCycles entries a cycle → ShowsCycles entries (one_more_command a) cycle
+cycles-carried_out : (a : State) (entries : Option HeldCycle) (cycle : Option Cycle) → ShowsCycles entries a cycle
+    → ShowsCycles entries (one_more_command a) cycle
 cycles-carried_out a None None shows = tt
 cycles-carried_out a None (Some cycle) shows = shows
 cycles-carried_out a (Some entries) None shows = shows
-cycles-carried_out a (Some entries) (Some cycle) shows = record { colours = shows.colours; gone = shows.gone; partial = shows.partial }
+cycles-carried_out a (Some entries) (Some cycle) shows =
+    record { colours = shows.colours; gone = shows.gone; partial = shows.partial }
 
-pub shows-carried_out : (view : View) (a : State) → Shows view a → Shows (one_more_carried_out view) (one_more_command a)
+pub shows-carried_out : (view : View) (a : State) → Shows view a
+    → Shows (one_more_carried_out view) (one_more_command a)
 shows-carried_out view a shows =
     record {
-      objects = shows.objects; distinct = shows.distinct; stack = shows.stack; areas = shows.areas;
+      objects = shows.objects;
+      distinct = shows.distinct;
+      stack = shows.stack;
+      areas = shows.areas;
       cycle = cycles-carried_out a view.cycle a.cycle shows.cycle;
-      threshold = shows.threshold; totals = ap (λ (totals : Totals). record totals { commands = totals.commands + 1 }) shows.totals; settings = shows.settings;
+      threshold = shows.threshold;
+      totals = ap (λ (totals : Totals). record totals { commands = totals.commands + 1 }) shows.totals;
+      settings = shows.settings;
     }

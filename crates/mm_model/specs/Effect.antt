@@ -1,12 +1,9 @@
 -- What commands do that are not refused.
-use Rattle.std.specs.Prelude.{ℕ, List, [], ◌∷◌, ◌++◌, length, Option, Some, None}
+use Rattle.std.specs.Prelude.{ℕ, length, Option, Some, None}
 use Rattle.mm_model.specs.declared.object.Shape.{Shape}
-use Rattle.mm_model.specs.declared.refusal.Refusal.{Refusal}
 use Rattle.mm_model.specs.declared.refusal.Refusal.TheVariants as refusals
 use Rattle.mm_model.specs.declared.reply.Reply.{Reply}
 use Rattle.mm_model.specs.declared.reply.Reply.TheVariants as replies
-use Rattle.mm_model.specs.declared.line.Line.{Line}
-use Rattle.mm_model.specs.declared.line.Line.TheVariants as lines
 use Rattle.mm_model.specs.Value.{reference}
 use Rattle.mm_model.specs.Object.{newborn}
 use Rattle.mm_model.specs.State.{State, pushed, with_born}

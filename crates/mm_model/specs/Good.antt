@@ -1,5 +1,5 @@
 -- Which states can be reached.
-use Rattle.std.specs.Prelude.{◌≡◌, ℕ, ◌+◌, ◌*◌, ◌/◌, ◌%◌, ◌<◌, ◌≤◌, ◌⊎◌, ◌≢◌, IsTrue, List, [], ◌∷◌, Some, IfSome, slice_get, length, ⊤}
+use Rattle.std.specs.Prelude.{◌≡◌, ℕ, ◌+◌, ◌*◌, ◌%◌, ◌<◌, ◌≤◌, ◌⊎◌, ◌≢◌, IsTrue, List, [], ◌∷◌, Some, IfSome, slice_get, length, ⊤}
 use Rattle.std.specs.List.{AllByRecursion, Contains}
 use Rattle.mm_model.specs.SizeClass.{class_sizes}
 use Rattle.mm_model.specs.Place.{Piece, overlaps, live_pieces}
@@ -52,7 +52,8 @@ pub record IsPaired (objects : List Object) (birth : ℕ) (object : Object) (oth
 -- In a cycle each object has a colour, and the partly scanned one lives.
 pub record IsColoured (a : State) (cycle : Cycle) : Type 0 where
   pub each : length cycle.colours ≡ length a.objects
-  pub partial : IfSome cycle.partial (λ partial. (object : Object) × (slice_get a.objects partial.object ≡ Some object) × IsTrue (is_live object))
+  pub partial : IfSome cycle.partial
+      (λ partial. (object : Object) × (slice_get a.objects partial.object ≡ Some object) × IsTrue (is_live object))
 
 pub record IsGood (a : State) : Type 0 where
   pub placed : IsPlaced a.settings.max (live_pieces a)

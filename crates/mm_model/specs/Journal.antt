@@ -13,7 +13,8 @@ Holds (Some kept) false text = kept ≡ text
 Holds (Some kept) true text = IsFront kept text
 
 -- a call that writes these bytes
-pub record Writes (kept : Option (List ℕ)) (broken : Bool) (kept_after : Option (List ℕ)) (broken_after : Bool) (bytes : List ℕ) : Type 0 where
+pub record Writes (kept : Option (List ℕ)) (broken : Bool) (kept_after : Option (List ℕ)) (broken_after : Bool)
+    (bytes : List ℕ) : Type 0 where
   -- each text that was held goes on with them
   pub held : (text : List ℕ) → Holds kept broken text → Holds kept_after broken_after (text ++ bytes)
   -- what is broken never becomes whole again

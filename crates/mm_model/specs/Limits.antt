@@ -1,5 +1,5 @@
 -- Which settings a heap can have.
-use Rattle.std.specs.Prelude.{ℕ, ◌≤◌}
+use Rattle.std.specs.Prelude.{◌≤◌}
 use Rattle.mm_model.specs.declared.settings.Settings.{Settings}
 
 pub record IsWithinLimits (settings : Settings) : Type 0 where

@@ -22,7 +22,8 @@ abbrev pub IsLegal : Steps → Settings → List Command → List Line → State
 IsLegal Step settings commands log b = IsRun Step (empty_state settings) commands log b
 
 -- a legal log followed by its totals
-pub record IsWhole (Step : Steps) (settings : Settings) (commands : List Command) (log : List Line) (b : State) : Type 0 where
+pub record IsWhole (Step : Steps) (settings : Settings) (commands : List Command) (log : List Line)
+    (b : State) : Type 0 where
   pub groups : List Line
   pub legal : IsLegal Step settings commands groups b
   pub total : log ≡ groups ++ lines.Total (totals_of b) ∷ []

@@ -2,7 +2,6 @@
 use Rattle.std.specs.Prelude.{ℕ, Bool, false, not, List, replicate, Option, None}
 use Rattle.std.specs.List.{filter}
 use Rattle.mm_model.specs.declared.object.Kind.{Kind}
-use Rattle.mm_model.specs.declared.object.Kind.TheVariants.{Traced, Leaf, Counted, Weak}
 use Rattle.mm_model.specs.declared.object.Shape.{Shape}
 use Rattle.mm_model.specs.Value.{Value, integer}
 use Rattle.mm_model.specs.SizeClass.{extent_of, object_bytes}
@@ -32,8 +31,13 @@ live_objects objects = filter is_live objects
 abbrev pub newborn : Shape → ℕ → Object
 newborn shape base =
     record {
-      base = base; extent = extent_of (object_bytes shape.slots);
-      kind = shape.kind; finalize = shape.finalize; counted = shape.counted;
+      base = base;
+      extent = extent_of (object_bytes shape.slots);
+      kind = shape.kind;
+      finalize = shape.finalize;
+      counted = shape.counted;
       slots = replicate shape.slots (integer 0);
-      sticky = false; gone = false; partner = None;
+      sticky = false;
+      gone = false;
+      partner = None;
     }

@@ -45,7 +45,8 @@ is_vacant pieces low bytes = not (list_any (overlaps low bytes) pieces)
 -- whether the page holds cells of this family that are so large
 abbrev pub is_page_of : List Piece → Family → ℕ → ℕ → Bool
 is_page_of pieces family extent page =
-    list_any (λ piece. same_family piece.family family && piece.extent == extent && overlaps (4096 * page) 4096 piece) pieces
+    list_any
+    (λ piece. same_family piece.family family && piece.extent == extent && overlaps (4096 * page) 4096 piece) pieces
 
 -- the first of count numbers from a number on that passes a test
 abbrev pub first_from : (ℕ → Bool) → ℕ → ℕ → Option ℕ
@@ -56,7 +57,7 @@ first_from test from (suc count) = elim (test from) [ true ↦ Some from | false
 abbrev pub free_cell : List Piece → ℕ → ℕ → Option ℕ
 free_cell pieces extent page =
     option_map (λ m. 4096 * page + m * extent)
-      (first_from (λ m. is_vacant pieces (4096 * page + m * extent) extent) 0 (4096 / extent))
+    (first_from (λ m. is_vacant pieces (4096 * page + m * extent) extent) 0 (4096 / extent))
 
 -- a page of the family and class that has a free cell
 abbrev pub has_room : List Piece → Family → ℕ → ℕ → Bool
@@ -64,7 +65,8 @@ has_room pieces family extent page = is_page_of pieces family extent page && is_
 
 -- the first cell of the lowest page below the limit in which nothing lies
 abbrev pub fresh_page : List Piece → ℕ → Option ℕ
-fresh_page pieces limit = option_map (λ page. 4096 * page) (first_from (λ page. is_vacant pieces (4096 * page) 4096) 1 (limit - 1))
+fresh_page pieces limit =
+    option_map (λ page. 4096 * page) (first_from (λ page. is_vacant pieces (4096 * page) 4096) 1 (limit - 1))
 
 -- the lowest free cell of the lowest page that has one, or else a fresh page
 abbrev pub cell_place : List Piece → ℕ → Option ℕ → ℕ → Option ℕ
@@ -77,7 +79,8 @@ place_among pieces limit family (Small class) =
     let extent = extent_of_size (Small class) in
     cell_place pieces limit (first_from (has_room pieces family extent) 1 (limit - 1)) extent
 place_among pieces limit family (Pages count) =
-    option_map (λ page. 4096 * page) (first_from (λ page. is_vacant pieces (4096 * page) (4096 * count)) 1 (limit - count))
+    option_map (λ page. 4096 * page)
+    (first_from (λ page. is_vacant pieces (4096 * page) (4096 * count)) 1 (limit - count))
 
 abbrev pub place_of : State → ℕ → Family → ℕ → Option ℕ
 place_of a limit family bytes = place_among (live_pieces a) limit family (size_of bytes)

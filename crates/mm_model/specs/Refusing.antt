@@ -1,5 +1,5 @@
 -- When a command is refused, before anything is tried.
-use Rattle.std.specs.Prelude.{ℕ, Bool, true, false, ◌&&◌, ◌||◌, ◌==◌, nat_lt, List, [], ◌∷◌, length, Option, Some, None}
+use Rattle.std.specs.Prelude.{Bool, true, false, ◌&&◌, ◌||◌, ◌==◌, nat_lt, List, [], ◌∷◌, length, Option, Some, None}
 use Rattle.mm_model.specs.declared.object.Kind.{Kind}
 use Rattle.mm_model.specs.declared.object.Kind.TheVariants.{Traced, Leaf, Counted, Weak}
 use Rattle.mm_model.specs.declared.object.Shape.{Shape}

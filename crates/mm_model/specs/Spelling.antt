@@ -75,7 +75,8 @@ spelling (lines.Phase what freed) = indented (phase_word what ∷ decimal freed 
 spelling (lines.Free base) = indented (codes "free" ∷ decimal base ∷ [])
 spelling (lines.Reply reply) = reply_spelling reply
 spelling (lines.Total totals) =
-    sentence (codes "total" ∷ decimal totals.commands ∷ decimal totals.born ∷ decimal totals.freed ∷ decimal totals.live ∷ [])
+    sentence
+    (codes "total" ∷ decimal totals.commands ∷ decimal totals.born ∷ decimal totals.freed ∷ decimal totals.live ∷ [])
 
 abbrev pub fault_text : LineFault → List ℕ
 fault_text faults.UnknownCommand = codes "unknown command"

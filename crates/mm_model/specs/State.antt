@@ -1,8 +1,8 @@
 -- The state of a heap, in which objects never leave the list and values know their origin.
-use Rattle.std.specs.Prelude.{ℕ, ◌+◌, ◌-◌, Bool, List, [], ◌∷◌, ◌++◌, length, Option, Some, None}
+use Rattle.std.specs.Prelude.{ℕ, ◌+◌, ◌-◌, Bool, List, [], ◌∷◌, ◌++◌, length, Option, None}
 use Rattle.std.specs.Option.{option_map}
 use Rattle.mm_model.specs.declared.object.Colour.{Colour}
-use Rattle.mm_model.specs.declared.object.Colour.TheVariants.{White, Gray, Black}
+use Rattle.mm_model.specs.declared.object.Colour.TheVariants.{Black}
 use Rattle.mm_model.specs.declared.line.Totals.{Totals}
 use Rattle.mm_model.specs.declared.settings.Settings.{Settings}
 use Rattle.mm_model.specs.Value.{Value}
@@ -48,8 +48,13 @@ pub record State : Type 0 where
 abbrev pub empty_state : Settings → State
 empty_state settings =
     record {
-      objects = []; stack = []; areas = []; cycle = None;
-      threshold = settings.zct; commands = 0; settings = settings;
+      objects = [];
+      stack = [];
+      areas = [];
+      cycle = None;
+      threshold = settings.zct;
+      commands = 0;
+      settings = settings;
     }
 
 abbrev pub live_count : State → ℕ
@@ -58,8 +63,10 @@ live_count a = length (live_objects a.objects)
 abbrev pub totals_of : State → Totals
 totals_of a =
     record {
-      commands = a.commands; born = length a.objects;
-      freed = length a.objects - live_count a; live = live_count a;
+      commands = a.commands;
+      born = length a.objects;
+      freed = length a.objects - live_count a;
+      live = live_count a;
     }
 
 abbrev pub pushed : Value → State → State

@@ -71,8 +71,13 @@ base_of a birth = option_map (λ object. object.base) (slice_get a.objects birth
 abbrev pub held : State → Object → HeldObject
 held a object =
     record {
-      base = object.base; extent = object.extent; kind = object.kind; finalize = object.finalize;
-      counted = object.counted; words = words_of object.slots; sticky = object.sticky;
+      base = object.base;
+      extent = object.extent;
+      kind = object.kind;
+      finalize = object.finalize;
+      counted = object.counted;
+      words = words_of object.slots;
+      sticky = object.sticky;
       partner = option_and_then (base_of a) object.partner;
     }
 
@@ -87,8 +92,12 @@ shown_at a base = option_map (held a) (find (lives_at base) a.objects)
 abbrev pub held_area : Area → HeldArea
 held_area area =
     record {
-      number = area.number; base = area.base; extent = area.extent;
-      scanned = area.scanned; counted = area.counted; words = words_of area.cells;
+      number = area.number;
+      base = area.base;
+      extent = area.extent;
+      scanned = area.scanned;
+      counted = area.counted;
+      words = words_of area.cells;
     }
 
 -- the colour of the live object that begins there

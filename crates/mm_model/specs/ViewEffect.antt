@@ -27,9 +27,14 @@ held_pieces view = map held_area_piece view.areas ++ map held_piece view.objects
 abbrev pub held_newborn : Shape → ℕ → HeldObject
 held_newborn shape base =
     record {
-      base = base; extent = extent_of (object_bytes shape.slots);
-      kind = shape.kind; finalize = shape.finalize; counted = shape.counted;
-      words = replicate shape.slots 0; sticky = false; partner = None;
+      base = base;
+      extent = extent_of (object_bytes shape.slots);
+      kind = shape.kind;
+      finalize = shape.finalize;
+      counted = shape.counted;
+      words = replicate shape.slots 0;
+      sticky = false;
+      partner = None;
     }
 
 abbrev pub held_black_birth : ℕ → HeldCycle → HeldCycle

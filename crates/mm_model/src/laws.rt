@@ -31,8 +31,7 @@ pub fn worked_lines()
     ensures too_great { line_reading (codes "push 4294967296") ≡ Err BadNumber }
     ensures eleven_digits { line_reading (codes "push 00000000001") ≡ Err BadNumber }
     ensures upper_case { line_reading (codes "Push 1") ≡ Err UnknownCommand }
-{
-}
+{}
 
 /// How bytes are cut into lines.
 pub fn worked_cuts()
@@ -40,8 +39,7 @@ pub fn worked_cuts()
     ensures no_rest { lines_of (codes "a\n\n") ≡ codes "a" ∷ [] ∷ [] }
     ensures incomplete { complete_lines (codes "a\nb") ≡ codes "a" ∷ [] }
     ensures nothing { lines_of [] ≡ [] }
-{
-}
+{}
 
 /// How lines of a log are spelled.
 pub fn worked_spelling()
@@ -67,25 +65,35 @@ pub fn worked_sizes()
     ensures one_page { size_of 4096 ≡ sizes.Pages 1 }
     ensures two_pages { size_of 4097 ≡ sizes.Pages 2 }
     ensures greatest_object { size_of (object_bytes 1048575) ≡ sizes.Pages 1025 }
-{
-}
+{}
 
 /// A sequence of places in one heap of six pages, in which the second object is freed after the fifth place.
 #[tactic(auto, unfolding(crate::specs::SizeClass::class_sizes))]
 pub fn worked_places()
     ensures first_object { place_among [] 6 Objects (size_of 32) ≡ Some 4096 }
     ensures second_class { place_among (objects (4096 ∷ []) 32) 6 Objects (size_of 16) ≡ Some 8192 }
-    ensures area_page { place_among (objects (8192 ∷ []) 16 ++ objects (4096 ∷ []) 32) 6 Areas (size_of 4) ≡ Some 12288 }
-    ensures next_cell { place_among (areas (12288 ∷ []) 16 ++ objects (8192 ∷ []) 16 ++ objects (4096 ∷ []) 32) 6 Objects (size_of 32) ≡ Some 4128 }
-    ensures two_pages { place_among (areas (12288 ∷ []) 16 ++ objects (8192 ∷ []) 16 ++ objects (4096 ∷ 4128 ∷ []) 32) 6 Objects (size_of 4100) ≡ Some 16384 }
-    ensures freed_page { place_among (areas (12288 ∷ []) 16 ++ objects (16384 ∷ []) 8192 ++ objects (4096 ∷ 4128 ∷ []) 32) 6 Objects (size_of 2052) ≡ Some 8192 }
-    ensures area_cell { place_among (areas (12288 ∷ []) 16 ++ objects (8192 ∷ []) 4096 ++ objects (16384 ∷ []) 8192 ++ objects (4096 ∷ 4128 ∷ []) 32) 6 Areas (size_of 16) ≡ Some 12304 }
-    ensures no_place { place_among (areas (12288 ∷ 12304 ∷ []) 16 ++ objects (8192 ∷ []) 4096 ++ objects (16384 ∷ []) 8192 ++ objects (4096 ∷ 4128 ∷ []) 32) 6 Objects (size_of 16) ≡ None }
-{
-}
+    ensures area_page { place_among (objects (8192 ∷ []) 16 ++ objects (4096 ∷ []) 32) 6 Areas (size_of 4)
+        ≡ Some 12288 }
+    ensures next_cell { place_among
+        (areas (12288 ∷ []) 16 ++ objects (8192 ∷ []) 16 ++ objects (4096 ∷ []) 32) 6 Objects (size_of 32)
+        ≡ Some 4128 }
+    ensures two_pages { place_among
+        (areas (12288 ∷ []) 16 ++ objects (8192 ∷ []) 16 ++ objects (4096 ∷ 4128 ∷ []) 32) 6 Objects (size_of 4100)
+        ≡ Some 16384 }
+    ensures freed_page { place_among
+        (areas (12288 ∷ []) 16 ++ objects (16384 ∷ []) 8192 ++ objects (4096 ∷ 4128 ∷ []) 32) 6 Objects (size_of 2052)
+        ≡ Some 8192 }
+    ensures area_cell { place_among
+        (areas (12288 ∷ []) 16 ++ objects (8192 ∷ []) 4096 ++ objects (16384 ∷ []) 8192
+        ++ objects (4096 ∷ 4128 ∷ []) 32) 6 Areas (size_of 16)
+        ≡ Some 12304 }
+    ensures no_place { place_among
+        (areas (12288 ∷ 12304 ∷ []) 16 ++ objects (8192 ∷ []) 4096 ++ objects (16384 ∷ []) 8192
+        ++ objects (4096 ∷ 4128 ∷ []) 32) 6 Objects (size_of 16)
+        ≡ None }
+{}
 
 /// The empty state is good.
 pub fn empty_is_good()
     ensures { (settings : Settings) → IsGood (empty_state settings) }
-{
-}
+{}

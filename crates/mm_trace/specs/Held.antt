@@ -20,8 +20,9 @@ at_end held = record { bytes = held.bytes; ended = true }
 abbrev pub with_byte : Held → ℕ → Held
 with_byte held byte = record { bytes = held.bytes ++ byte ∷ []; ended = false }
 
--- A newline byte ends the line, any other byte is too much where 1,024 are held, and else it is held too.
-abbrev pub Cuts : Held → ℕ → Cut → Held → Type 0
-Cuts old byte Line new = (byte ≡ 10) × (new ≡ at_end old)
-Cuts old byte TooLong new = (byte ≢ 10) × (length old.bytes ≡ 1024) × (new ≡ at_end old)
-Cuts old byte More new = (byte ≢ 10) × (length old.bytes < 1024) × (new ≡ with_byte old byte)
+-- What a byte makes of the line: a newline ends it, any other byte is too much where 1,024 are held, and else it
+-- is held too.
+abbrev pub AfterPush : Held → ℕ → Cut → Held → Type 0
+AfterPush old byte Line new = (byte ≡ 10) × (new ≡ at_end old)
+AfterPush old byte TooLong new = (byte ≢ 10) × (length old.bytes ≡ 1024) × (new ≡ at_end old)
+AfterPush old byte More new = (byte ≢ 10) × (length old.bytes < 1024) × (new ≡ with_byte old byte)

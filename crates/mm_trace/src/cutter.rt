@@ -37,7 +37,7 @@ impl Model for Cutter {
 }
 
 impl Cutter {
-    ghost use Rattle.mm_trace.specs.Held.{Cuts, nothing_held};
+    ghost use Rattle.mm_trace.specs.Held.{AfterPush, nothing_held};
 
     /// A cutter that holds nothing.
     pub fn make() -> Cutter
@@ -54,7 +54,7 @@ impl Cutter {
     #[inline]
     pub fn push(&mut self, byte: u8) -> Cut
         requires { self.old.ended ≡ false }
-        ensures { Cuts self.old byte result self.new }
+        ensures { AfterPush self.old byte result self.new }
     {
         if byte == b'\n' {
             self.ended = true;

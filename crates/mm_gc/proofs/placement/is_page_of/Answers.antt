@@ -9,4 +9,5 @@ use Rattle.mm_gc.proofs.placement.is_page_of.Goals as goal
 pub returns : goal.returns
 returns c =
     c.any_is_of.ensures ∙ sym (any-map piece_of
-      (λ piece. same_family piece.family Objects && piece.extent == c.args.extent && overlaps (4096 * c.args.page) 4096 piece) c.args.objects.now)
+    (λ piece. same_family piece.family Objects && piece.extent == c.args.extent
+    && overlaps (4096 * c.args.page) 4096 piece) c.args.objects.now)

@@ -6,4 +6,6 @@ use Rattle.mm_gc.specs.Held.{piece_of}
 use Rattle.mm_gc.proofs.placement.is_vacant.Goals as goal
 
 pub returns : goal.returns
-returns c = ap not (c.any_overlaps.ensures ∙ sym (any-map piece_of (overlaps c.args.low c.args.bytes) c.args.objects.now))
+returns c =
+    ap not (c.any_overlaps.ensures
+    ∙ sym (any-map piece_of (overlaps c.args.low c.args.bytes) c.args.objects.now))
