@@ -1,0 +1,4 @@
+pub mod Ends
+pub mod Replays
+pub mod Telling
+pub mod WritingLemmas

@@ -1,0 +1,9 @@
+use Rattle.mmgc.proofs.Replays.{carries_out}
+use Rattle.mmgc.specs.Keeping.{keeps-trans}
+use Rattle.mmgc.proofs.replay.execute.Goals as goal
+
+pub returns-clause-carried : goal.returns-clause-carried
+returns-clause-carried g c = carries_out c.execute-reply.ensures.step c.line.ensures.written
+
+pub returns-clause-kept : goal.returns-clause-kept
+returns-clause-kept g c = keeps-trans c.execute-reply.ensures.kept c.line.ensures.kept

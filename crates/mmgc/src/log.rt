@@ -1,0 +1,282 @@
+// The journal that writes the log.
+ghost use Rattle.std.specs.Prelude.{◌≡◌, ◌↔◌, ◌+◌, ◌≤◌, ◌%◌, ◌^◌, [], false, not, sum, IsTrue, OnOk, IsErr};
+ghost use Rattle.arrayvec.specs.ArrayVec.{array_vec_len};
+ghost use Rattle.mm_model.specs.Journal.{Writes};
+ghost use Rattle.mm_model.specs.Spelling.{spelling};
+ghost use Rattle.mmgc.specs.Writing.{kept_bytes, Keeps};
+ghost use Rattle.mmgc.specs.Keeping.{keeps-same, keeps-trans};
+
+use arrayvec::ArrayVec;
+use mm_gc::{Finalizer, Journal};
+use mm_io::{Failed, Sink, write_all};
+use mm_model::{Line, Phase};
+use mm_trace::write_line;
+
+/// Writes the lines of a log to a sink that it borrows, in pieces of at most 4,096 bytes.
+///
+/// After a failed write or flush it is broken: it writes nothing more, and what was pending is lost.
+#[derive(Drop)]
+pub struct LogWriter<'a, K: Sink> {
+    pub(crate) sink: &'a mut K,
+    pub(crate) pending: ArrayVec<u8, 4096>,
+    pub(crate) broken: bool,
+}
+
+impl<'a, K: Sink> LogWriter<'a, K> {
+    /// A writer of no lines yet, which is whole.
+    pub fn make(sink: &'a mut K) -> LogWriter<'a, K>
+        ensures same_sink { result.sink.ghost_name ≡ sink.entry.ghost_name }
+        ensures sink { result.sink.now ≡ sink.old }
+        ensures pending { result.pending.items ≡ [] }
+        ensures whole { result.broken ≡ false }
+    {
+        LogWriter {
+            sink,
+            pending: ArrayVec::new(),
+            broken: false,
+        }
+    }
+
+    /// Writes a line. It reaches the sink when the next piece is full, or at the latest when the writer settles.
+    pub fn line(&mut self, line: &Line)
+        ensures written { Writes
+            (kept_bytes (K.taken self.old.sink.now) self.old.broken self.old.pending.items) self.old.broken
+            (kept_bytes (K.taken self.new.sink.now) self.new.broken self.new.pending.items) self.new.broken
+            (spelling line.now) }
+        ensures kept { Keeps self.old.sink.ghost_name self.new.sink.ghost_name
+            (K.faults self.old.sink.now) (K.faults self.new.sink.now)
+            (K.taken self.old.sink.now) (K.taken self.new.sink.now) self.old.broken self.new.broken }
+    {
+        self.make_room();
+        self.append(line);
+    }
+
+    /// Writes what is pending to the sink. An error says that the writer is broken.
+    pub fn settle(&mut self) -> Result<(), Failed>
+        ensures broken { IsErr result ↔ IsTrue self.new.broken }
+        ensures nothing_pending { OnOk result (self.new.pending.items ≡ []) }
+        ensures written { Writes
+            (kept_bytes (K.taken self.old.sink.now) self.old.broken self.old.pending.items) self.old.broken
+            (kept_bytes (K.taken self.new.sink.now) self.new.broken self.new.pending.items) self.new.broken [] }
+        ensures kept { Keeps self.old.sink.ghost_name self.new.sink.ghost_name
+            (K.faults self.old.sink.now) (K.faults self.new.sink.now)
+            (K.taken self.old.sink.now) (K.taken self.new.sink.now) self.old.broken self.new.broken }
+    {
+        self.write_pending();
+        self.outcome()
+    }
+
+    /// Settles, and asks the sink to pass on what it still holds back.
+    pub(crate) fn finish(&mut self) -> Result<(), Failed>
+        ensures broken { IsErr result ↔ IsTrue self.new.broken }
+        ensures nothing_pending { OnOk result (self.new.pending.items ≡ []) }
+        ensures written { Writes
+            (kept_bytes (K.taken self.old.sink.now) self.old.broken self.old.pending.items) self.old.broken
+            (kept_bytes (K.taken self.new.sink.now) self.new.broken self.new.pending.items) self.new.broken [] }
+        ensures kept { Keeps self.old.sink.ghost_name self.new.sink.ghost_name
+            (K.faults self.old.sink.now) (K.faults self.new.sink.now)
+            (K.taken self.old.sink.now) (K.taken self.new.sink.now) self.old.broken self.new.broken }
+    {
+        self.write_pending();
+        self.flush();
+        self.outcome()
+    }
+
+    /// Whether nothing that it was given is lost.
+    pub fn whole(&self) -> bool
+        ensures { result ≡ not self.now.broken }
+    {
+        !self.broken
+    }
+
+    fn outcome(&self) -> Result<(), Failed>
+        ensures { IsErr result ↔ IsTrue self.now.broken }
+    {
+        if self.broken { Err(Failed) } else { Ok(()) }
+    }
+
+    // The longest line fits behind what is pending.
+    fn make_room(&mut self)
+        ensures room { array_vec_len self.new.pending + 64 ≤ 4096 }
+        ensures written { Writes
+            (kept_bytes (K.taken self.old.sink.now) self.old.broken self.old.pending.items) self.old.broken
+            (kept_bytes (K.taken self.new.sink.now) self.new.broken self.new.pending.items) self.new.broken [] }
+        ensures kept { Keeps self.old.sink.ghost_name self.new.sink.ghost_name
+            (K.faults self.old.sink.now) (K.faults self.new.sink.now)
+            (K.taken self.old.sink.now) (K.taken self.new.sink.now) self.old.broken self.new.broken }
+    {
+        if self.pending.remaining_capacity() < 64 {
+            self.write_pending();
+        }
+    }
+
+    fn append(&mut self, line: &Line)
+        requires { array_vec_len self.old.pending + 64 ≤ 4096 }
+        ensures written { Writes
+            (kept_bytes (K.taken self.old.sink.now) self.old.broken self.old.pending.items) self.old.broken
+            (kept_bytes (K.taken self.new.sink.now) self.new.broken self.new.pending.items) self.new.broken
+            (spelling line.now) }
+        ensures kept { Keeps self.old.sink.ghost_name self.new.sink.ghost_name
+            (K.faults self.old.sink.now) (K.faults self.new.sink.now)
+            (K.taken self.old.sink.now) (K.taken self.new.sink.now) self.old.broken self.new.broken }
+    {
+        if self.whole() {
+            write_line(line, &mut self.pending);
+        }
+    }
+
+    // Nothing is pending afterwards: the sink has it, or it is lost.
+    fn write_pending(&mut self)
+        ensures nothing_pending { self.new.pending.items ≡ [] }
+        ensures written { Writes
+            (kept_bytes (K.taken self.old.sink.now) self.old.broken self.old.pending.items) self.old.broken
+            (kept_bytes (K.taken self.new.sink.now) self.new.broken self.new.pending.items) self.new.broken [] }
+        ensures kept { Keeps self.old.sink.ghost_name self.new.sink.ghost_name
+            (K.faults self.old.sink.now) (K.faults self.new.sink.now)
+            (K.taken self.old.sink.now) (K.taken self.new.sink.now) self.old.broken self.new.broken }
+    {
+        if self.whole() {
+            self.broken = write_all(self.sink, self.pending.as_slice()).is_err();
+        }
+        self.pending.clear();
+    }
+
+    fn flush(&mut self)
+        ensures pending { self.new.pending ≡ self.old.pending }
+        ensures written { Writes
+            (kept_bytes (K.taken self.old.sink.now) self.old.broken self.old.pending.items) self.old.broken
+            (kept_bytes (K.taken self.new.sink.now) self.new.broken self.new.pending.items) self.new.broken [] }
+        ensures kept { Keeps self.old.sink.ghost_name self.new.sink.ghost_name
+            (K.faults self.old.sink.now) (K.faults self.new.sink.now)
+            (K.taken self.old.sink.now) (K.taken self.new.sink.now) self.old.broken self.new.broken }
+    {
+        self.broken = self.broken || self.sink.flush().is_err();
+    }
+}
+
+impl<'a, K: Sink> Finalizer for LogWriter<'a, K> {
+    ghost kept = { λ w. kept_bytes (K.taken w.sink.now) w.broken w.pending.items };
+
+    ghost is_broken = { λ w. w.broken };
+
+    ghost keeps = { λ v w. Keeps v.sink.ghost_name w.sink.ghost_name (K.faults v.sink.now) (K.faults w.sink.now)
+        (K.taken v.sink.now) (K.taken w.sink.now) v.broken w.broken };
+
+    ghost keeps_itself = { λ _. keeps-same };
+
+    ghost keeps_on = { λ _ _ _. keeps-trans };
+
+    fn finalize(&mut self, base: u32, slots: &[u32]) {
+        self.line(&Line::Final {
+            base,
+            slots: slots.len() as u32,
+            sum: wrapping_sum(slots),
+        });
+    }
+}
+
+impl<'a, K: Sink> Journal for LogWriter<'a, K> {
+    fn phase(&mut self, what: Phase, freed: u32) {
+        self.line(&Line::Phase { what, freed });
+    }
+
+    fn free(&mut self, base: u32) {
+        self.line(&Line::Free(base));
+    }
+
+    fn scan(&mut self, base: u32, slots: u32) {
+        self.line(&Line::Scan { base, slots });
+    }
+}
+
+fn wrapping_sum(words: &[u32]) -> u32
+    ensures { result ≡ sum words.now % 2 ^ 32 }
+{
+    let mut total = 0u32;
+    for word in words {
+        total = total.wrapping_add(*word);
+    }
+    total
+}
+
+#[cfg(test)]
+mod tests {
+    use super::LogWriter;
+    use mm_gc::Journal;
+    use mm_io::{Failed, MemSink, Sink};
+    use mm_model::{Line, Phase, Reply};
+    use std::test::Fail;
+
+    // Lines of 21 bytes in all.
+    fn write_two<K: Sink>(log: &mut LogWriter<'_, K>) {
+        log.line(&Line::Free(4096));
+        log.line(&Line::Scan { base: 8, slots: 2 });
+    }
+
+    fn tell<J: Journal>(journal: &mut J) {
+        journal.phase(Phase::Reap, 1);
+        journal.finalize(16, &[4294967295, 2]);
+        journal.free(16);
+        journal.scan(24, 3);
+    }
+
+    #[test]
+    fn lines_longer_than_the_buffer_arrive_whole_and_in_order(rt: HostRuntime) -> Result<(), Fail> {
+        let alloc = rt.alloc();
+        let mut sink = MemSink::make(alloc, 8400, 7, Vec::new(alloc))?;
+        let mut log = LogWriter::make(&mut sink);
+        let mut expected = Vec::new(alloc);
+        for _ in 0..400 {
+            write_two(&mut log);
+            expected.extend_from_slice(b" free 4096\n scan 8 2\n")?;
+        }
+        assert_eq!(rt; log.settle(), Ok(()));
+        assert!(rt; log.whole());
+        assert_eq!(rt; sink.taken(), expected.as_slice());
+        Ok(())
+    }
+
+    #[test]
+    fn a_failed_write_leaves_a_front_and_ends_the_log(rt: HostRuntime) -> Result<(), Fail> {
+        let alloc = rt.alloc();
+        let mut sink = MemSink::make(alloc, 100, 7, [2].to_vec(alloc)?)?;
+        let mut log = LogWriter::make(&mut sink);
+        write_two(&mut log);
+        assert!(rt; log.whole());
+        assert_eq!(rt; log.settle(), Err(Failed));
+        assert!(rt; !log.whole());
+        write_two(&mut log);
+        assert_eq!(rt; log.settle(), Err(Failed));
+        assert_eq!(rt; log.finish(), Err(Failed));
+        assert_eq!(rt; sink.taken(), b" free 4".as_slice());
+        Ok(())
+    }
+
+    #[test]
+    fn a_failed_flush_breaks_a_log_whose_bytes_arrived(rt: HostRuntime) -> Result<(), Fail> {
+        let alloc = rt.alloc();
+        for (fails, whole) in [(2, false), (3, true)] {
+            let mut sink = MemSink::make(alloc, 100, 7, [fails].to_vec(alloc)?)?;
+            let mut log = LogWriter::make(&mut sink);
+            log.line(&Line::Reply(Reply::Done));
+            assert_eq!(rt; log.finish().is_ok(), whole, "{fails}");
+            assert_eq!(rt; log.whole(), whole, "{fails}");
+            assert_eq!(rt; sink.taken(), b"ok\n".as_slice(), "{fails}");
+        }
+        Ok(())
+    }
+
+    #[test]
+    fn a_journal_spells_what_it_is_told(rt: HostRuntime) -> Result<(), Fail> {
+        let alloc = rt.alloc();
+        let mut sink = MemSink::make(alloc, 100, 7, Vec::new(alloc))?;
+        let mut log = LogWriter::make(&mut sink);
+        tell(&mut log);
+        assert_eq!(rt; log.settle(), Ok(()));
+        assert_eq!(rt;
+            sink.taken(),
+            b" reap 1\n final 16 2 1\n free 16\n scan 24 3\n".as_slice()
+        );
+        Ok(())
+    }
+}

@@ -1,0 +1,195 @@
+ghost use Rattle.std.specs.Prelude.{◌≤◌};
+
+use crate::{Outcome, run};
+use mm_io::{MemSink, MemSource};
+use std::alloc::Global;
+use std::process::Abort;
+use std::test::Fail;
+
+/// Bytes that a run took from its source, and the numbers of the calls that fail.
+#[derive(Clone, Copy)]
+struct Given<'a> {
+    trace: &'a [u8],
+    piece: usize,
+    reads: &'a [u32],
+    writes: &'a [u32],
+}
+
+impl<'a> Given<'a> {
+    fn whole(trace: &'a [u8]) -> Given<'a>
+        ensures { 1 ≤ result.piece }
+    {
+        Given {
+            trace,
+            piece: 5,
+            reads: &[],
+            writes: &[],
+        }
+    }
+}
+
+fn check(
+    rt: &impl Abort,
+    alloc: Global,
+    given: &Given<'_>,
+    status: u8,
+    log: &[u8],
+    said: &[u8],
+) -> Result<(), Fail>
+    requires { 1 ≤ given.now.piece }
+{
+    let words = Vec::new(alloc);
+    let mut source = MemSource::make(
+        given.trace.to_vec(alloc)?,
+        given.piece,
+        given.reads.to_vec(alloc)?,
+    );
+    let mut out = MemSink::make(alloc, 100, 7, given.writes.to_vec(alloc)?)?;
+    let mut err = MemSink::make(alloc, 100, 3, Vec::new(alloc))?;
+    let outcome = run(alloc, &words, &mut source, &mut out, &mut err);
+    let Outcome {
+        status: ended,
+        heap,
+    } = outcome;
+    if let Some(heap) = heap {
+        heap.close();
+    }
+    assert_eq!(rt; ended, status);
+    assert_eq!(rt; out.taken(), log);
+    assert_eq!(rt; err.taken(), said);
+    Ok(())
+}
+
+#[test]
+fn whole_traces_end_with_a_total_line(rt: HostRuntime) -> Result<(), Fail> {
+    for (trace, log) in [
+        ("", "total 0 0 0 0\n"),
+        ("new t 0 4\n", "new 4096\ntotal 1 1 0 1\n"),
+        (
+            "# two\n\nnew t 0 4\nnew t 0 4",
+            "new 4096\nnew 4128\ntotal 2 2 0 2\n",
+        ),
+        (
+            "new t 0 1048575\nnew t 0 1048576\n",
+            "full\nbad shape\ntotal 2 0 0 0\n",
+        ),
+    ] {
+        check(
+            &rt,
+            rt.alloc(),
+            &Given::whole(trace.as_bytes()),
+            0,
+            log.as_bytes(),
+            b"",
+        )?;
+    }
+    Ok(())
+}
+
+#[test]
+fn the_first_fault_ends_a_trace(rt: HostRuntime) -> Result<(), Fail> {
+    for (trace, log, said) in [
+        (
+            "new t 0 4\npop 1\n",
+            "new 4096\n",
+            "mmgc: line 2: not built yet\n",
+        ),
+        (
+            "pushh 1\nnew t 0 4\n",
+            "",
+            "mmgc: line 1: unknown command\n",
+        ),
+        ("# none\npush 4294967296", "", "mmgc: line 2: bad number\n"),
+        ("new t 0\n", "", "mmgc: line 1: wrong number of words\n"),
+        ("\nnew q 0 1\n", "", "mmgc: line 2: bad word\n"),
+    ] {
+        check(
+            &rt,
+            rt.alloc(),
+            &Given::whole(trace.as_bytes()),
+            1,
+            log.as_bytes(),
+            said.as_bytes(),
+        )?;
+    }
+    Ok(())
+}
+
+#[test]
+fn a_line_may_have_1024_bytes(rt: HostRuntime) -> Result<(), Fail> {
+    let alloc = rt.alloc();
+    let mut line = Vec::new(alloc);
+    line.resize(1024, b'#')?;
+    check(
+        &rt,
+        rt.alloc(),
+        &Given::whole(&line),
+        0,
+        b"total 0 0 0 0\n",
+        b"",
+    )?;
+    line.push(b'#')?;
+    check(
+        &rt,
+        rt.alloc(),
+        &Given::whole(&line),
+        1,
+        b"",
+        b"mmgc: line 1: line too long\n",
+    )
+}
+
+#[test]
+fn a_failed_read_keeps_the_log_so_far(rt: HostRuntime) -> Result<(), Fail> {
+    let given = Given {
+        trace: b"new t 0 0\nnew t 0 0\n",
+        piece: 16,
+        reads: &[2],
+        writes: &[],
+    };
+    check(
+        &rt,
+        rt.alloc(),
+        &given,
+        3,
+        b"new 4096\n",
+        b"mmgc: read failed\n",
+    )
+}
+
+#[test]
+fn a_failed_write_leaves_a_front_of_the_log(rt: HostRuntime) -> Result<(), Fail> {
+    let given = Given {
+        trace: b"new t 0 0\nnew t 0 0\n",
+        piece: 100,
+        reads: &[],
+        writes: &[2],
+    };
+    check(
+        &rt,
+        rt.alloc(),
+        &given,
+        4,
+        b"new 409",
+        b"mmgc: write failed\n",
+    )
+}
+
+#[test]
+fn words_are_refused(rt: HostRuntime) -> Result<(), Fail> {
+    let alloc = rt.alloc();
+    let mut words = Vec::new(alloc);
+    words.push(String::from_str(alloc, "x")?)?;
+    let mut source = MemSource::make(b"new t 0 4\n".to_vec(alloc)?, 5, Vec::new(alloc));
+    let mut out = MemSink::make(alloc, 100, 7, Vec::new(alloc))?;
+    let mut err = MemSink::make(alloc, 100, 3, Vec::new(alloc))?;
+    let Outcome { status, heap } = run(alloc, &words, &mut source, &mut out, &mut err);
+    assert!(rt; heap.is_none());
+    if let Some(heap) = heap {
+        heap.close();
+    }
+    assert_eq!(rt; status, 2);
+    assert_eq!(rt; out.taken(), b"".as_slice());
+    assert_eq!(rt; err.taken(), b"mmgc: bad arguments\n".as_slice());
+    Ok(())
+}
