@@ -44,7 +44,7 @@ fn check(
         given.piece,
         given.reads.to_vec(alloc)?,
     );
-    let mut out = MemSink::make(alloc, 100, 7, given.writes.to_vec(alloc)?)?;
+    let mut out = MemSink::make(alloc, 20000, 7, given.writes.to_vec(alloc)?)?;
     let mut err = MemSink::make(alloc, 100, 3, Vec::new(alloc))?;
     let outcome = run(alloc, &words, &mut source, &mut out, &mut err);
     let Outcome {
@@ -84,6 +84,22 @@ fn whole_traces_end_with_a_total_line(rt: HostRuntime) -> Result<(), Fail> {
         )?;
     }
     Ok(())
+}
+
+#[test]
+fn the_stack_is_full_before_the_region_is(rt: HostRuntime) -> Result<(), Fail> {
+    let alloc = rt.alloc();
+    let mut trace = Vec::new(alloc);
+    let mut log = Vec::new(alloc);
+    for cell in 0..1024u32 {
+        trace.extend_from_slice(b"new t 0 0\n")?;
+        log.extend_from_slice(b"new ")?;
+        log.extend_from_slice(itoa::Buffer::new().format(4096 + 16 * cell).as_bytes())?;
+        log.push(b'\n')?;
+    }
+    trace.extend_from_slice(b"new t 0 0\n")?;
+    log.extend_from_slice(b"stack full\ntotal 1025 1024 0 1024\n")?;
+    check(&rt, rt.alloc(), &Given::whole(&trace), 0, &log, b"")
 }
 
 #[test]
