@@ -1,2 +1,10 @@
+pub mod Accessing
+pub mod Answering
+pub mod Counting
 pub mod Creation
 pub mod Executing
+pub mod Keeping
+pub mod Memory
+pub mod Resolving
+pub mod Showing
+pub mod Telling

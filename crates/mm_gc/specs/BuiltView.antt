@@ -1,4 +1,4 @@
--- What built commands do to a view.
+-- What built commands do to a view, and what calls answer.
 use Rattle.std.specs.Prelude.{ℕ, Option, Some, None, Result, Ok, Err}
 use Rattle.mm_model.specs.declared.object.Shape.{Shape}
 use Rattle.mm_model.specs.declared.command.Command.{Command}
@@ -6,28 +6,48 @@ use Rattle.mm_model.specs.declared.command.Command.TheVariants as commands
 use Rattle.mm_model.specs.declared.refusal.Refusal.{Refusal}
 use Rattle.mm_model.specs.declared.reply.Reply.{Reply}
 use Rattle.mm_model.specs.declared.reply.Reply.TheVariants as replies
+use Rattle.mm_model.specs.declared.reply.Put.{Put}
+use Rattle.mm_model.specs.declared.reply.Put.TheVariants.{Tight, Loose}
+use Rattle.mm_model.specs.declared.reply.Mapped.{Mapped}
 use Rattle.mm_model.specs.SizeClass.{size_of, object_bytes}
 use Rattle.mm_model.specs.Place.{Objects, place_among}
 use Rattle.mm_model.specs.View.{View}
-use Rattle.mm_model.specs.ViewEffect.{HeldEffect, held_pieces, held_new_refusal, held_new_effect}
+use Rattle.mm_model.specs.ViewEffect.{HeldEffect, held_pieces, held_refusal, held_new_effect, held_plain_effect}
 
 -- where an object of this shape goes
 abbrev pub held_place : View → Shape → Option ℕ
 held_place view shape = place_among (held_pieces view) view.settings.max Objects (size_of (object_bytes shape.slots))
 
+abbrev pub held_carried : View → Command → HeldEffect
+held_carried view (commands.New shape) = held_new_effect view shape (held_place view shape)
+held_carried view command = held_plain_effect view command
+
 abbrev pub held_unless_refused : Option Refusal → View → HeldEffect → HeldEffect
 held_unless_refused None view effect = effect
-held_unless_refused (Some refusal) view effect = record { view = view; reply = replies.Refused refusal }
-
-abbrev pub held_new : View → Shape → HeldEffect
-held_new view shape =
-    held_unless_refused (held_new_refusal view shape) view (held_new_effect view shape (held_place view shape))
-
--- the reply to `new`
-abbrev pub new_reply : Result ℕ Refusal → Reply
-new_reply (Ok base) = replies.New base
-new_reply (Err refusal) = replies.Refused refusal
+held_unless_refused (Some because) view effect = record { view = view; reply = replies.Refused because }
 
 abbrev pub held_built : View → Command → HeldEffect
-held_built view (commands.New shape) = held_new view shape
-held_built view command = record { view = view; reply = replies.Nothing }
+held_built view command = held_unless_refused (held_refusal view command) view (held_carried view command)
+
+-- the replies that the answers of calls stand for
+abbrev pub new_reply : Result ℕ Refusal → Reply
+new_reply (Ok base) = replies.New base
+new_reply (Err because) = replies.Refused because
+
+abbrev pub done_reply : {X : Type 0} → Result X Refusal → Reply
+done_reply (Ok x) = replies.Done
+done_reply (Err because) = replies.Refused because
+
+abbrev pub word_reply : Result ℕ Refusal → Reply
+word_reply (Ok word) = replies.Word word
+word_reply (Err because) = replies.Refused because
+
+abbrev pub put_reply : Result Put Refusal → Reply
+put_reply (Ok Tight) = replies.Done
+put_reply (Ok Loose) = replies.Loose
+put_reply (Err because) = replies.Refused because
+
+abbrev pub map_reply : Result (Option Mapped) Refusal → Reply
+map_reply (Ok None) = replies.Nothing
+map_reply (Ok (Some found)) = replies.Object found
+map_reply (Err because) = replies.Refused because

@@ -1,5 +1,5 @@
--- What `execute` promises.
-use Rattle.std.specs.Prelude.{ℕ, Bool, List, [], ◌∷◌, ◌++◌, Option}
+-- What `execute` and the calls for single commands promise.
+use Rattle.std.specs.Prelude.{◌≡◌, ℕ, Bool, List, [], ◌∷◌, ◌++◌, Option}
 use Rattle.mm_model.specs.declared.command.Command.{Command}
 use Rattle.mm_model.specs.declared.reply.Reply.{Reply}
 use Rattle.mm_model.specs.declared.line.Line.{Line}
@@ -9,7 +9,7 @@ use Rattle.mm_model.specs.Good.{IsGood}
 use Rattle.mm_model.specs.View.{View, Shows}
 use Rattle.mm_model.specs.Journal.{Writes}
 use Rattle.mm_model.specs.Spelling.{spelling_of}
-use Rattle.mm_gc.specs.Built.{Step, after}
+use Rattle.mm_gc.specs.Built.{Step, after, built_effect}
 
 -- The lines of a group are a step of a state, which stays good, and the heap shows the state after it.
 pub record IsStep (new : View) (command : Command) (group : List Line) (a : State) : Type 0 where
@@ -24,3 +24,14 @@ pub record Executes (old new : View) (command : Command) (reply : Reply)
   pub before_reply : List Line
   pub step : (a : State) → IsGood a → Shows old a → IsStep new command (before_reply ++ lines.Reply reply ∷ []) a
   pub written : Writes kept broken kept_after broken_after (spelling_of before_reply)
+
+-- The command's row holds of a state, refusals included: the answer is its reply, the state that it leaves is good, and
+-- the heap shows it. The number of commands stays.
+pub record IsAnswered (new : View) (command : Command) (reply : Reply) (a : State) : Type 0 where
+  pub reply_is : reply ≡ (built_effect a command).reply
+  pub good : IsGood (built_effect a command).state
+  pub shows : Shows new (built_effect a command).state
+
+-- a call for a single command, which writes no lines
+abbrev pub Answers : View → View → Command → Reply → Type 0
+Answers old new command reply = (a : State) → IsGood a → Shows old a → IsAnswered new command reply a

@@ -1,5 +1,5 @@
--- What the heap's own list of objects shows.
-use Rattle.std.specs.Prelude.{false, List, map, replicate, None}
+-- What the heap's own list of objects and its memory show.
+use Rattle.std.specs.Prelude.{ℕ, ◌+◌, ◌/◌, false, List, map, take, drop, None}
 use Rattle.mm_model.specs.Place.{Piece, Objects}
 use Rattle.mm_model.specs.View.{HeldObject}
 use Rattle.mm_gc.specs.declared.object.Object.{Object}
@@ -11,16 +11,24 @@ piece_of object = record { base = object.base; extent = object.extent; family = 
 abbrev pub pieces_of : List Object → List Piece
 pieces_of objects = map piece_of objects
 
--- the object in words: no slot was ever written
-abbrev pub held_of : Object → HeldObject
-held_of object =
+-- where in memory, in words, the slots of an object at a base begin: behind a header of four words
+abbrev pub first_slot : ℕ → ℕ
+first_slot base = base / 4 + 4
+
+-- so many words of memory from a place on
+abbrev pub words_at : List ℕ → ℕ → ℕ → List ℕ
+words_at memory from count = take count (drop from memory)
+
+-- the object in words
+abbrev pub held_of : List ℕ → Object → HeldObject
+held_of memory object =
     record {
       base = object.base;
       extent = object.extent;
       kind = object.shape.kind;
       finalize = object.shape.finalize;
       counted = object.shape.counted;
-      words = replicate object.shape.slots 0;
+      words = words_at memory (first_slot object.base) object.shape.slots;
       sticky = false;
       partner = None;
     }

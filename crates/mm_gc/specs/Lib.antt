@@ -3,4 +3,5 @@ pub mod BuiltView
 pub mod Execution
 pub mod Held
 pub mod Plain
+pub mod Resolve
 pub mod Sizes

@@ -1,15 +1,19 @@
 // Where the next object goes: the lowest place that fits.
-ghost use Rattle.std.specs.Prelude.{◌≡◌, ℕ, ◌+◌, ◌-◌, ◌*◌, ◌/◌, ◌<◌, ◌≤◌, ◌^◌, ◌==◌, ◌&&◌, IfSome};
+ghost use Rattle.std.specs.Prelude.{◌≡◌, ℕ, ◌+◌, ◌-◌, ◌*◌, ◌/◌, ◌<◌, ◌≤◌, ◌^◌, ◌==◌, ◌&&◌, false, IsTrue, IfSome};
 ghost use Rattle.std.specs.List.{list_any};
+ghost use Rattle.std.specs.Option.{option_map};
 ghost use Rattle.mm_model.specs.Place.{Objects, overlaps, is_vacant, is_page_of, free_cell, has_room, cell_place, first_from, place_among};
 ghost use Rattle.mm_model.specs.declared.object.Size.TheVariants as sizes;
-ghost use Rattle.mm_model.specs.SizeClass.{extent_of_size};
+ghost use Rattle.mm_model.specs.SizeClass.{size_of, object_bytes, extent_of, extent_of_size};
+ghost use Rattle.mm_model.specs.Good.{IsPlaced};
+ghost use Rattle.mm_model.specs.Refusing.{is_bad_shape};
+ghost use Rattle.mm_gc.specs.Built.{is_plain};
 ghost use Rattle.mm_gc.specs.Held.{piece_of, pieces_of};
 ghost use Rattle.mm_gc.specs.Sizes.{IsSize};
 
 use crate::object::Object;
-use crate::size::{PAGE_BYTES, extent_for};
-use mm_model::Size;
+use crate::size::{PAGE_BYTES, extent_for, size_for};
+use mm_model::{Shape, Size};
 
 fn any_overlaps(objects: &[Object], low: u32, bytes: u32) -> bool
     requires { low + bytes ≤ 2 ^ 24 }
@@ -19,7 +23,7 @@ fn any_overlaps(objects: &[Object], low: u32, bytes: u32) -> bool
 }
 
 /// Whether no object lies in so many bytes from `low` on.
-fn is_vacant(objects: &[Object], low: u32, bytes: u32) -> bool
+pub(crate) fn is_vacant(objects: &[Object], low: u32, bytes: u32) -> bool
     requires { low + bytes ≤ 2 ^ 24 }
     ensures { result ≡ is_vacant (pieces_of objects.now) low bytes }
 {
@@ -118,4 +122,24 @@ pub(crate) fn place(objects: &[Object], limit: u32, size: &Size) -> Option<u32>
         Size::Small(_) => lowest_cell(objects, limit, extent_for(size)),
         Size::Pages(count) => lowest_run(objects, limit, *count),
     }
+}
+
+/// A new object of this shape, where it goes.
+pub(crate) fn place_object(objects: &[Object], limit: u32, shape: Shape) -> Option<Object>
+    requires whole { is_bad_shape shape ≡ false }
+    requires plain { IsTrue (is_plain shape) }
+    requires placed { IsPlaced limit (pieces_of objects.now) }
+    requires within { limit ≤ 4096 }
+    ensures base { option_map (λ object. object.base) result
+        ≡ place_among (pieces_of objects.now) limit Objects (size_of (object_bytes shape.slots)) }
+    ensures shape { IfSome result (λ object. object.shape ≡ shape) }
+    ensures extent { IfSome result (λ object. object.extent ≡ extent_of (object_bytes shape.slots)) }
+{
+    let size = size_for(16 + 4 * shape.slots);
+    let base = place(objects, limit, &size)?;
+    Some(Object {
+        base,
+        extent: extent_for(&size),
+        shape,
+    })
 }

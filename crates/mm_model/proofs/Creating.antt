@@ -1,20 +1,17 @@
 -- What `new` does to a view is what it does to each good state that the view shows.
-use Rattle.std.proofs.Common.{◌≡◌, ℕ, [], ◌∷◌, length, Option, Some, None, refl, ap, ◌∙◌, arith}
-use Rattle.std.proofs.lemmas.List.{length-map}
-use Rattle.std.specs.Prelude.{◌==◌}
+use Rattle.std.proofs.Common.{◌≡◌, ℕ, Option, Some, None, refl, ap, ◌∙◌, arith}
 use Rattle.mm_model.specs.declared.object.Shape.{Shape}
-use Rattle.mm_model.specs.declared.refusal.Refusal.TheVariants as refusals
 use Rattle.mm_model.specs.SizeClass.{size_of, object_bytes}
 use Rattle.mm_model.specs.State.{State}
 use Rattle.mm_model.specs.Place.{Objects, live_pieces, place_among, place_of}
-use Rattle.mm_model.specs.Refusing.{first_refusal, is_bad_shape, is_stack_full, new_refusal}
 use Rattle.mm_model.specs.Effect.{Effect, new_effect}
 use Rattle.mm_model.specs.Good.{IsGood}
 use Rattle.mm_model.specs.View.{View, Shows}
-use Rattle.mm_model.specs.ViewEffect.{HeldEffect, held_pieces, held_new_effect, held_new_refusal, is_held_stack_full}
+use Rattle.mm_model.specs.ViewEffect.{HeldEffect, held_pieces, held_new_effect}
 use Rattle.mm_model.proofs.Births.{made_is_good, goes_at}
 use Rattle.mm_model.proofs.SeenAlike.{place_among-alike}
-use Rattle.mm_model.proofs.Showing.{pieces_alike, nothing_at, shows-made, some_extent}
+use Rattle.mm_model.proofs.Living.{some_extent}
+use Rattle.mm_model.proofs.Showing.{pieces_alike, nothing_at, shows-made}
 
 -- an effect on a view is that on a state
 pub record Refines (held : HeldEffect) (effect : Effect) : Type 0 where
@@ -23,13 +20,6 @@ pub record Refines (held : HeldEffect) (effect : Effect) : Type 0 where
   pub reply : held.reply ≡ effect.reply
 
 module _ (view : View) (a : State) (good : IsGood a) (shows : Shows view a) (shape : Shape) where
-  pub refusal-shown : held_new_refusal view shape ≡ new_refusal a shape
-  refusal-shown =
-      let full : is_held_stack_full view ≡ is_stack_full a =
-      ap (λ n. n == view.settings.stack) (ap length shows.stack ∙ length-map a.stack (λ v. v.word))
-      ∙ ap (λ s. length a.stack == s.stack) shows.settings in
-      ap (λ b. first_refusal ((is_bad_shape shape, refusals.Shape) ∷ (b, refusals.StackFull) ∷ [])) full
-
   pub place-shown : place_among (held_pieces view) view.settings.max Objects (size_of (object_bytes shape.slots))
       ≡ place_of a a.settings.max Objects (object_bytes shape.slots)
   place-shown =

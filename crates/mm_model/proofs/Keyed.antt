@@ -1,6 +1,6 @@
 -- Lists in which each element stands under a number of its own, and what tests over them see.
-use Rattle.std.proofs.Common.{◌≡◌, ℕ, Bool, true, false, ◌||◌, List, [], ◌∷◌, ◌++◌, map, Option, Some, None, refl, sym, ap, ◌∙◌, subst, arith}
-use Rattle.std.specs.Prelude.{nat_eq}
+use Rattle.std.proofs.Common.{◌≡◌, ℕ, zero, suc, Bool, true, false, ◌||◌, List, [], ◌∷◌, ◌++◌, map, Option, Some, None, refl, sym, ap, ◌∙◌, subst, arith}
+use Rattle.std.specs.Prelude.{nat_eq, slice_get}
 use Rattle.std.specs.List.{list_any, find, AllByRecursion, IsDistinct}
 use Rattle.std.specs.Option.{option_map}
 use Rattle.std.proofs.lemmas.Bool.Decides.{nat_tests}
@@ -62,7 +62,7 @@ module _ {X : Type 0} (key : X → ℕ) where
       split (nat_eq (key y) k) refl e
 
   -- a number that none of them has finds nothing
-  not_found : (xs : List X) (k : ℕ) → AllByRecursion (λ n. nat_eq k n ≡ false) (map key xs) → (x : X)
+  pub not_found : (xs : List X) (k : ℕ) → AllByRecursion (λ n. nat_eq k n ≡ false) (map key xs) → (x : X)
       → at xs k ≡ Some x → ⊥
   not_found [] k none x e = cc
   not_found (y ∷ ys) k none x e =
@@ -75,6 +75,20 @@ module _ {X : Type 0} (key : X → ℕ) where
         | false ↦ λ p q. not_found ys k none.1 x q
       ] in
       split (nat_eq (key y) k) refl e
+
+  -- what stands in the list is found under its number
+  pub keyed-get : (xs : List X) → IsKeyed xs → (i : ℕ) (x : X) → slice_get xs i ≡ Some x → at xs (key x) ≡ Some x
+  unfolding IsDistinct
+  keyed-get [] d i x e = cc
+  keyed-get (y ∷ ys) d zero x e =
+      let same : y ≡ x = cc in
+      ap (λ (z : X). cond (nat_eq (key z) (key x)) (Some z) (at ys (key x))) same
+      ∙ ap (λ b. cond b (Some x) (at ys (key x))) (eq-eqb (key x) (key x) refl)
+  keyed-get (y ∷ ys) d (suc i) x e =
+      let rest = keyed-get ys d.1 i x e in
+      let other : nat_eq (key y) (key x) ≡ false =
+      refuted _ (λ h. not_found ys (key y) d.0 x (ap (at ys) (eqb-true _ _ h) ∙ rest)) in
+      ap (λ b. cond b (Some y) (at ys (key x))) other ∙ rest
 
   pub at_from_any : (test : X → Bool) (xs : List X) → IsKeyed xs → list_any test xs ≡ true → Passes test xs
   unfolding IsDistinct

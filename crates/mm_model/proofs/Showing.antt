@@ -2,25 +2,25 @@
 use Rattle.std.proofs.Common.{◌≡◌, ℕ, zero, suc, ◌+◌, ◌-◌, ◌<◌, ◌≤◌, Bool, true, false, cond, eqb-true, ◌&&◌, ◌||◌, List, [], ◌∷◌, ◌++◌, map, length, replicate, Option, Some, None, refl, sym, ap, ◌∙◌, ⊎_elim, arith}
 use Rattle.std.proofs.lemmas.List.{length_push, get_or_append_left, get_or_push}
 use Rattle.std.proofs.lemmas.List.Elements.{filter-append}
-use Rattle.std.specs.Prelude.{IsTrue, IfSome, slice_get, slice_index_or, nat_eq}
+use Rattle.std.specs.Prelude.{IfSome, slice_get, slice_index_or, nat_eq}
 use Rattle.std.specs.List.{find, position_from, list_any, AllByRecursion, IsDistinct}
 use Rattle.std.specs.Option.{option_map, option_and_then, option_or}
 use Rattle.mm_model.specs.declared.object.Shape.{Shape}
-use Rattle.mm_model.specs.Value.{integer}
+use Rattle.mm_model.specs.Value.{integer, words_of}
 use Rattle.mm_model.specs.Object.{Object, newborn, is_live, live_objects}
 use Rattle.mm_model.specs.declared.line.Totals.{Totals}
 use Rattle.mm_model.specs.declared.object.Colour.TheVariants.{White, Black}
-use Rattle.mm_model.specs.State.{State, Area, Cycle, Partial, totals_of, live_count, with_black_birth, one_more_command}
+use Rattle.mm_model.specs.State.{State, Area, Cycle, Partial, lives_at, totals_of, live_count, with_black_birth}
 use Rattle.mm_model.specs.Place.{Piece, object_piece, area_piece, live_pieces}
-use Rattle.mm_model.specs.Good.{IsCell, IsPages, AreApart, AreAllApart, IsInside, IsPaired, IsColoured, IsGood}
-use Rattle.mm_model.specs.View.{View, HeldObject, HeldColour, HeldCycle, Shows, ShowsCycles, colour_at, held_partial, held_at, held, held_area, shown_at, lives_at, base_of, words_of}
-use Rattle.mm_model.specs.ViewEffect.{held_piece, held_area_piece, held_pieces, held_newborn, held_black_birth, one_more_birth, held_made, one_more_carried_out}
+use Rattle.mm_model.specs.Good.{AreApart, AreAllApart, IsInside, IsPaired, IsPartial, IsColoured, IsGood}
+use Rattle.mm_model.specs.View.{View, HeldObject, HeldColour, HeldCycle, Shows, ShowsCycles, colour_at, held_partial, held_at, held, held_area, shown_at, base_of}
+use Rattle.mm_model.specs.ViewEffect.{held_piece, held_area_piece, held_pieces, held_newborn, held_black_birth, one_more_birth, held_made}
 use Rattle.mm_model.specs.Effect.{made_at}
 use Rattle.std.proofs.lemmas.Bool.{eq-eqb}
 use Rattle.mm_model.specs.SizeClass.{extent_of, object_bytes}
 use Rattle.mm_model.proofs.Placing.{some_with, each_both, both}
 use Rattle.mm_model.proofs.Keyed.{at, IsKeyed, seen_alike, refuted, found_key, any_from_at, any-map, keyed-push}
-use Rattle.mm_model.proofs.SizeClassLemmas.{class_bounds}
+use Rattle.mm_model.proofs.Living.{each_after, all_apart-after, some_extent}
 use Rattle.mm_model.proofs.Lists.{Found, find-Some, find-push, position_from-push, position_from-below, get-front}
 use Rattle.mm_model.proofs.SeenAlike.{AreSeenAlike}
 
@@ -33,11 +33,6 @@ find-live (o ∷ os) base =
     find (λ (o : Object). nat_eq o.base base) (cond b (o ∷ live_objects os) (live_objects os)) =
     elim [ true ↦ ap (cond (nat_eq o.base base) (Some o)) (find-live os base) | false ↦ find-live os base ] in
     split (is_live o)
-
-pub some_extent : (limit : ℕ) (p : Piece) → IsInside limit p → 0 < p.extent
-some_extent limit p h =
-    ⊎_elim (λ (cell : IsCell p). let bounds = class_bounds p.extent cell.class in omega arith)
-    (λ (pages : IsPages p). pages.some) h.placed
 
 distinct_bases : (limit : ℕ) (p q : Piece) → IsInside limit p → IsInside limit q → AreApart p q
     → nat_eq p.base q.base ≡ false
@@ -61,14 +56,6 @@ keyed-live limit (o ∷ os) i a = (others os i.1 a.0, keyed-live limit os i.1 a.
         → AllByRecursion (λ base. nat_eq o.base base ≡ false) (map (λ o. o.base) qs)
     others [] j b = tt
     others (q ∷ qs) j b = (distinct_bases limit (object_piece o) (object_piece q) i.0 j.0 b.0, others qs j.1 b.1)
-
-each_after : {X : Type 0} (P : X → Type 0) (xs ys : List X) → AllByRecursion P (xs ++ ys) → AllByRecursion P ys
-each_after P [] ys h = h
-each_after P (x ∷ xs) ys h = each_after P xs ys h.1
-
-all_apart-after : (ps qs : List Piece) → AreAllApart (ps ++ qs) → AreAllApart qs
-all_apart-after [] qs h = h
-all_apart-after (p ∷ ps) qs h = all_apart-after ps qs h.1
 
 -- the live objects of a good state stand under their bases
 pub keyed_good : (a : State) → IsGood a → IsKeyed (λ o. o.base) (live_objects a.objects)
@@ -108,6 +95,38 @@ pieces_alike view a good shows test =
     ∙ ap (λ ps. list_any test ps || list_any test (map held_piece view.objects)) (area_pieces-held a.areas)
     ∙ ap (λ b. list_any test (map area_piece a.areas) || b) objects
     ∙ sym (any-append test (map area_piece a.areas) (map object_piece (live_objects a.objects)))
+
+any-live : (test : Object → Bool) (objects : List Object)
+    → list_any test (live_objects objects) ≡ list_any (λ o. is_live o && test o) objects
+any-live test [] = refl
+any-live test (o ∷ os) =
+    let split : (b : Bool) → list_any test (cond b (o ∷ live_objects os) (live_objects os))
+    ≡ ((b && test o) || list_any (λ o. is_live o && test o) os) =
+    elim [ true ↦ ap (λ b. test o || b) (any-live test os) | false ↦ any-live test os ] in
+    split (is_live o)
+
+map-itself : {X : Type 0} (xs : List X) → map (λ x. x) xs ≡ xs
+map-itself [] = refl
+map-itself (x ∷ xs) = ap (λ ys. x ∷ ys) (map-itself xs)
+
+option_map-itself : {X : Type 0} (found : Option X) → option_map (λ x. x) found ≡ found
+option_map-itself None = refl
+option_map-itself (Some x) = refl
+
+-- under each base the view has what the live objects are in words
+pub objects_alike : (view : View) (a : State) → Shows view a → (k : ℕ)
+    → option_map (λ x. x) (held_at view.objects k) ≡ option_map (held a) (at (λ o. o.base) (live_objects a.objects) k)
+objects_alike view a shows k =
+    option_map-itself (held_at view.objects k) ∙ shows.objects k ∙ ap (option_map (held a)) (find-live a.objects k)
+
+-- a test of some object of a view is one of some live object
+pub any-shown : (view : View) (a : State) → IsGood a → Shows view a → (test : HeldObject → Bool)
+    → list_any test view.objects ≡ list_any (λ o. is_live o && test (held a o)) a.objects
+any-shown view a good shows test =
+    ap (list_any test) (sym (map-itself view.objects))
+    ∙ seen_alike (λ o. o.base) (λ o. o.base) (λ x. x) (held a) view.objects (live_objects a.objects) shows.distinct
+    (keyed_good a good) (objects_alike view a shows) test
+    ∙ any-map (held a) test (live_objects a.objects) ∙ any-live (λ o. test (held a o)) a.objects
 
 words_of-zeros : (n : ℕ) → words_of (replicate n (integer 0)) ≡ replicate n 0
 words_of-zeros zero = refl
@@ -149,10 +168,10 @@ module _ (a : State) (shape : Shape) (base : ℕ) (good : IsGood a) where
   base_of-made birth o is =
       ap (option_map (λ o. o.base)) (is ∙ sym (get-front a.objects (newborn shape base ∷ []) birth o is))
 
-  partner-made : (birth : ℕ) (o : Object) (partner : Option ℕ) → IfSome partner (IsPaired a.objects birth o) →
+  partner-made : (birth : ℕ) (o : Object) (partner : Option ℕ) → IfSome partner (IsPaired a birth o) →
       option_and_then (base_of a) partner ≡ option_and_then (base_of after) partner
   partner-made birth o None h = refl
-  partner-made birth o (Some other) h = base_of-made other h.partner h.is
+  partner-made birth o (Some other) h = base_of-made other h.partner h.lives.is
 
   -- the objects that lived are held as before
   held-made : (b : ℕ) (o : Object) → Found (lives_at b) a.objects o → held a o ≡ held after o
@@ -167,7 +186,8 @@ module _ (a : State) (shape : Shape) (base : ℕ) (good : IsGood a) where
         words = words_of o.slots;
         sticky = o.sticky;
         partner = partner;
-      }) (partner-made found.place o o.partner (good.paired found.place o found.is live.0))
+      }) (partner-made found.place o o.partner
+      (good.paired found.place o (record { is = found.is; live = live.0 })))
 
   held-newborn : held after (newborn shape base) ≡ held_newborn shape base
   held-newborn =
@@ -246,12 +266,12 @@ module _ (a : State) (shape : Shape) (base : ℕ) (good : IsGood a) where
       last true = ap Some (sym (get_or_push cycle.colours Black White (0 + length a.objects) (omega arith)))
       last false = refl
 
-  partial-made : (partial : Option Partial) →
-      IfSome partial (λ partial. (o : Object) × (slice_get a.objects partial.object ≡ Some o) × IsTrue (is_live o)) →
+  partial-made : (cycle : Cycle) (partial : Option Partial) → IfSome partial (IsPartial a cycle) →
       option_and_then (held_partial a) partial ≡ option_and_then (held_partial after) partial
-  partial-made None h = refl
-  partial-made (Some partial) h =
-      ap (option_map (λ base. record { base = base; done = partial.done })) (base_of-made partial.object h.0 h.1)
+  partial-made cycle None h = refl
+  partial-made cycle (Some partial) h =
+      ap (option_map (λ base. record { base = base; done = partial.done }))
+      (base_of-made partial.object h.object h.lives.is)
 
   cycle-made : (entries : Option HeldCycle) (cycle : Option Cycle) → IfSome cycle (IsColoured a)
       → ShowsCycles entries a cycle
@@ -263,7 +283,7 @@ module _ (a : State) (shape : Shape) (base : ℕ) (good : IsGood a) where
       record {
         colours = λ b. colour-made cycle entries.colours b h.each (shows.colours b);
         gone = shows.gone;
-        partial = shows.partial ∙ partial-made cycle.partial h.partial;
+        partial = shows.partial ∙ partial-made cycle cycle.partial h.partial;
       }
 
   totals-made : one_more_birth (totals_of a) ≡ totals_of after
@@ -296,25 +316,3 @@ module _ (a : State) (shape : Shape) (base : ℕ) (good : IsGood a) where
         totals = ap one_more_birth shows.totals ∙ totals-made;
         settings = shows.settings;
       }
-
-cycles-carried_out : (a : State) (entries : Option HeldCycle) (cycle : Option Cycle) → ShowsCycles entries a cycle
-    → ShowsCycles entries (one_more_command a) cycle
-cycles-carried_out a None None shows = tt
-cycles-carried_out a None (Some cycle) shows = shows
-cycles-carried_out a (Some entries) None shows = shows
-cycles-carried_out a (Some entries) (Some cycle) shows =
-    record { colours = shows.colours; gone = shows.gone; partial = shows.partial }
-
-pub shows-carried_out : (view : View) (a : State) → Shows view a
-    → Shows (one_more_carried_out view) (one_more_command a)
-shows-carried_out view a shows =
-    record {
-      objects = shows.objects;
-      distinct = shows.distinct;
-      stack = shows.stack;
-      areas = shows.areas;
-      cycle = cycles-carried_out a view.cycle a.cycle shows.cycle;
-      threshold = shows.threshold;
-      totals = ap (λ (totals : Totals). record totals { commands = totals.commands + 1 }) shows.totals;
-      settings = shows.settings;
-    }

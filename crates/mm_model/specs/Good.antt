@@ -1,11 +1,18 @@
--- Which states can be reached.
-use Rattle.std.specs.Prelude.{◌≡◌, ℕ, ◌+◌, ◌*◌, ◌%◌, ◌<◌, ◌≤◌, ◌⊎◌, ◌≢◌, IsTrue, List, [], ◌∷◌, Some, IfSome, slice_get, length, ⊤}
+-- What holds of each state that can be reached.
+use Rattle.std.specs.Prelude.{◌≡◌, ℕ, ◌+◌, ◌*◌, ◌%◌, ◌<◌, ◌≤◌, ◌⊎◌, ◌≢◌, Bool, false, ◌||◌, ◌==◌, IsTrue, List, [], ◌∷◌, map, Some, IfSome, slice_get, length, take, ⊤}
 use Rattle.std.specs.List.{AllByRecursion, Contains}
+use Rattle.mm_model.specs.declared.object.Colour.TheVariants.{White, Gray, Black}
 use Rattle.mm_model.specs.SizeClass.{class_sizes}
 use Rattle.mm_model.specs.Place.{Piece, overlaps, live_pieces}
-use Rattle.mm_model.specs.Object.{Object, is_live}
-use Rattle.mm_model.specs.Refusing.{is_weak}
-use Rattle.mm_model.specs.State.{State, Cycle}
+use Rattle.mm_model.specs.Value.{Value}
+use Rattle.mm_model.specs.Object.{Object, is_counted, is_weak}
+use Rattle.mm_model.specs.State.{State, Area, Cycle, Partial, Lives}
+use Rattle.mm_model.specs.Words.{SlotKind, slot_kind, cell_kind, scanned_slots, counted_words, names, falls}
+use Rattle.mm_model.specs.Meaning.{stored}
+use Rattle.mm_model.specs.Count.{refs, names_counted}
+use Rattle.mm_model.specs.Marking.{colour_of}
+use Rattle.mm_model.specs.Areas.{most_areas}
+use Rattle.mm_model.specs.Phase.{IsAscending}
 
 -- it begins on the grid of its size class
 pub record IsCell (piece : Piece) : Type 0 where
@@ -41,22 +48,77 @@ pub record IsPlaced (limit : ℕ) (pieces : List Piece) : Type 0 where
   pub inside : AllByRecursion (IsInside limit) pieces
   pub apart : AreAllApart pieces
 
+-- the origin of a value, if it has one, is a live object in which its word falls
+abbrev pub IsReferring : State → Value → Type 0
+IsReferring a value =
+    IfSome value.origin
+    (λ birth. (object : Object) × Lives a birth object × IsTrue (falls value.word object.base object.extent))
+
+-- a value as a slot of this kind can have it: what storing it there leaves
+pub record IsStored (a : State) (kind : SlotKind) (value : Value) : Type 0 where
+  pub refers : IsReferring a value
+  pub kept : stored a kind value ≡ value
+
+-- References mean live objects, on the stack, in slots and in cells.
+pub record IsReferred (a : State) : Type 0 where
+  pub stack : AllByRecursion (IsReferring a) a.stack
+  pub slots : (birth : ℕ) (object : Object) → Lives a birth object → (s : ℕ) (value : Value)
+      → slice_get object.slots s ≡ Some value → IsStored a (slot_kind object s) value
+  pub cells : (n : ℕ) (area : Area) → slice_get a.areas n ≡ Some area → (s : ℕ) (value : Value)
+      → slice_get area.cells s ≡ Some value → IsStored a (cell_kind area s) value
+
+-- the word is 0 or the base of a live counted object
+abbrev pub is_tight : State → ℕ → Bool
+is_tight a word = word == 0 || names_counted a word
+
 -- The partner of an object is live and has it as its partner, and exactly one of the two is a weak reference.
-pub record IsPaired (objects : List Object) (birth : ℕ) (object : Object) (other : ℕ) : Type 0 where
+pub record IsPaired (a : State) (birth : ℕ) (object : Object) (other : ℕ) : Type 0 where
   pub partner : Object
-  pub is : slice_get objects other ≡ Some partner
-  pub live : IsTrue (is_live partner)
+  pub lives : Lives a other partner
   pub back : partner.partner ≡ Some birth
   pub one_weak : is_weak partner.kind ≢ is_weak object.kind
 
--- In a cycle each object has a colour, and the partly scanned one lives.
+-- none of the words falls in a white object
+abbrev pub NamesNoWhite : State → Cycle → List ℕ → Type 0
+NamesNoWhite a cycle words =
+    (birth : ℕ) (object : Object) → Lives a birth object → colour_of cycle birth ≡ White
+    → IsTrue (names words object) → ⊥
+
+-- The partly scanned object lives and is gray, some of its slots are done and some aren't, and no word of those that are
+-- falls in a white object.
+pub record IsPartial (a : State) (cycle : Cycle) (partial : Partial) : Type 0 where
+  pub object : Object
+  pub lives : Lives a partial.object object
+  pub gray : colour_of cycle partial.object ≡ Gray
+  pub some_done : 1 ≤ partial.done
+  pub some_left : partial.done < length (scanned_slots object)
+  pub names : NamesNoWhite a cycle (take partial.done (scanned_slots object))
+
+-- areas stand by ascending number, each below the greatest number of areas
+pub record AreNumbered (areas : List Area) : Type 0 where
+  pub ascending : IsAscending (map (λ area. area.number) areas)
+  pub below : AllByRecursion (λ area. area.number < most_areas) areas
+
+-- In a cycle each object has a colour, and no word of a scanned slot of a black object falls in a white one.
 pub record IsColoured (a : State) (cycle : Cycle) : Type 0 where
   pub each : length cycle.colours ≡ length a.objects
-  pub partial : IfSome cycle.partial
-      (λ partial. (object : Object) × (slice_get a.objects partial.object ≡ Some object) × IsTrue (is_live object))
+  pub black : (birth : ℕ) (object : Object) → Lives a birth object → colour_of cycle birth ≡ Black
+      → NamesNoWhite a cycle (scanned_slots object)
+  pub partial : IfSome cycle.partial (IsPartial a cycle)
 
 pub record IsGood (a : State) : Type 0 where
+  -- blocks never overlap
   pub placed : IsPlaced a.settings.max (live_pieces a)
-  pub paired : (birth : ℕ) (object : Object) → slice_get a.objects birth ≡ Some object → IsTrue (is_live object) →
-      IfSome object.partner (IsPaired a.objects birth object)
+  -- each area has a number of its own
+  pub numbered : AreNumbered a.areas
+  -- references mean live objects
+  pub referred : IsReferred a
+  -- each counted slot and cell holds 0 or the base of a live counted object
+  pub tight : AllByRecursion (λ word. IsTrue (is_tight a word)) (counted_words a)
+  -- what 255 counted places hold is sticky
+  pub counted : (birth : ℕ) (object : Object) → Lives a birth object → IsTrue (is_counted object.kind)
+      → object.sticky ≡ false → refs a object.base ≤ 254
+  -- weak references and their targets name each other
+  pub paired : (birth : ℕ) (object : Object) → Lives a birth object → IfSome object.partner (IsPaired a birth object)
+  -- what marking has passed names nothing white
   pub coloured : IfSome a.cycle (IsColoured a)

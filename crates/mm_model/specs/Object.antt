@@ -1,10 +1,36 @@
 -- Objects, as a list by birth that none ever leaves.
-use Rattle.std.specs.Prelude.{ℕ, Bool, false, not, List, replicate, Option, None}
+use Rattle.std.specs.Prelude.{ℕ, Bool, true, false, not, List, replicate, Option, None}
 use Rattle.std.specs.List.{filter}
 use Rattle.mm_model.specs.declared.object.Kind.{Kind}
+use Rattle.mm_model.specs.declared.object.Kind.TheVariants.{Traced, Leaf, Counted, Weak}
 use Rattle.mm_model.specs.declared.object.Shape.{Shape}
 use Rattle.mm_model.specs.Value.{Value, integer}
 use Rattle.mm_model.specs.SizeClass.{extent_of, object_bytes}
+
+abbrev pub is_leaf : Kind → Bool
+is_leaf Traced = false
+is_leaf Leaf = true
+is_leaf Counted = false
+is_leaf Weak = false
+
+abbrev pub is_counted : Kind → Bool
+is_counted Traced = false
+is_counted Leaf = false
+is_counted Counted = true
+is_counted Weak = false
+
+abbrev pub is_weak : Kind → Bool
+is_weak Traced = false
+is_weak Leaf = false
+is_weak Counted = false
+is_weak Weak = true
+
+-- marking looks at the slots of a traced or counted object; those of a leaf are raw, and a weak reference has none
+abbrev pub is_scanned : Kind → Bool
+is_scanned Traced = true
+is_scanned Leaf = false
+is_scanned Counted = true
+is_scanned Weak = false
 
 pub record Object : Type 0 where
   pub base : ℕ

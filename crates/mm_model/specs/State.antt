@@ -1,12 +1,12 @@
 -- The state of a heap, in which objects never leave the list and values know their origin.
-use Rattle.std.specs.Prelude.{ℕ, ◌+◌, ◌-◌, Bool, List, [], ◌∷◌, ◌++◌, length, Option, None}
+use Rattle.std.specs.Prelude.{◌≡◌, ℕ, ◌+◌, ◌-◌, ◌&&◌, Bool, IsTrue, nat_eq, List, [], ◌∷◌, ◌++◌, length, Option, Some, None, slice_get}
 use Rattle.std.specs.Option.{option_map}
 use Rattle.mm_model.specs.declared.object.Colour.{Colour}
 use Rattle.mm_model.specs.declared.object.Colour.TheVariants.{Black}
 use Rattle.mm_model.specs.declared.line.Totals.{Totals}
 use Rattle.mm_model.specs.declared.settings.Settings.{Settings}
 use Rattle.mm_model.specs.Value.{Value}
-use Rattle.mm_model.specs.Object.{Object, live_objects}
+use Rattle.mm_model.specs.Object.{Object, is_live, live_objects}
 
 -- unmanaged memory under a number below 1,024
 pub record Area : Type 0 where
@@ -57,17 +57,24 @@ empty_state settings =
       settings = settings;
     }
 
+-- the object with a birth number, which lives
+pub record Lives (a : State) (birth : ℕ) (object : Object) : Type 0 where
+  pub is : slice_get a.objects birth ≡ Some object
+  pub live : IsTrue (is_live object)
+
+-- whether a live object begins there
+abbrev pub lives_at : ℕ → Object → Bool
+lives_at base object = is_live object && nat_eq object.base base
+
 abbrev pub live_count : State → ℕ
 live_count a = length (live_objects a.objects)
 
+abbrev pub gone_count : State → ℕ
+gone_count a = length a.objects - live_count a
+
 abbrev pub totals_of : State → Totals
 totals_of a =
-    record {
-      commands = a.commands;
-      born = length a.objects;
-      freed = length a.objects - live_count a;
-      live = live_count a;
-    }
+    record { commands = a.commands; born = length a.objects; freed = gone_count a; live = live_count a }
 
 abbrev pub pushed : Value → State → State
 pushed value a = record a { stack = value ∷ a.stack }

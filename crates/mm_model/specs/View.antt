@@ -1,5 +1,5 @@
 -- What a heap shows, in words alone: no origins, no birth numbers, no gone objects.
-use Rattle.std.specs.Prelude.{◌≡◌, ℕ, Bool, ◌&&◌, nat_eq, List, map, Option, Some, None, slice_get, slice_index_or, ⊤}
+use Rattle.std.specs.Prelude.{◌≡◌, ℕ, Bool, nat_eq, List, map, Option, Some, None, slice_get, slice_index_or, ⊤}
 use Rattle.std.specs.List.{find, position_from, IsDistinct}
 use Rattle.std.specs.Option.{option_map, option_and_then}
 use Rattle.mm_model.specs.declared.object.Kind.{Kind}
@@ -7,9 +7,9 @@ use Rattle.mm_model.specs.declared.object.Colour.{Colour}
 use Rattle.mm_model.specs.declared.object.Colour.TheVariants.{White}
 use Rattle.mm_model.specs.declared.line.Totals.{Totals}
 use Rattle.mm_model.specs.declared.settings.Settings.{Settings}
-use Rattle.mm_model.specs.Value.{Value}
-use Rattle.mm_model.specs.Object.{Object, is_live}
-use Rattle.mm_model.specs.State.{State, Area, Cycle, Partial, totals_of}
+use Rattle.mm_model.specs.Value.{words_of}
+use Rattle.mm_model.specs.Object.{Object}
+use Rattle.mm_model.specs.State.{State, Area, Cycle, Partial, lives_at, totals_of}
 
 -- a live object as the heap holds it
 pub record HeldObject : Type 0 where
@@ -60,9 +60,6 @@ pub record View : Type 0 where
 abbrev pub held_at : List HeldObject → ℕ → Option HeldObject
 held_at objects base = find (λ object. nat_eq object.base base) objects
 
-abbrev pub words_of : List Value → List ℕ
-words_of values = map (λ value. value.word) values
-
 -- the base of the object with a birth number
 abbrev pub base_of : State → ℕ → Option ℕ
 base_of a birth = option_map (λ object. object.base) (slice_get a.objects birth)
@@ -80,10 +77,6 @@ held a object =
       sticky = object.sticky;
       partner = option_and_then (base_of a) object.partner;
     }
-
--- whether a live object begins there
-abbrev pub lives_at : ℕ → Object → Bool
-lives_at base object = is_live object && nat_eq object.base base
 
 -- the live object that begins there, as the heap holds it
 abbrev pub shown_at : State → ℕ → Option HeldObject

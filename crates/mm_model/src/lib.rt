@@ -2,7 +2,6 @@
 #![tactic(auto)]
 
 mod command;
-mod laws;
 mod line;
 mod object;
 mod refusal;

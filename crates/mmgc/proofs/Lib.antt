@@ -1,4 +1,6 @@
+pub mod Completing
 pub mod Ends
+pub mod FrontFaults
 pub mod Replays
 pub mod Telling
 pub mod WritingLemmas

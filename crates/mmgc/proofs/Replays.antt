@@ -12,14 +12,13 @@ use Rattle.mm_model.specs.declared.refusal.LineFault.TheVariants.{LineTooLong}
 use Rattle.mm_model.specs.declared.reply.Reply.{Reply}
 use Rattle.mm_model.specs.declared.line.Line.{Line}
 use Rattle.mm_model.specs.declared.line.Line.TheVariants as lines
-use Rattle.mm_model.specs.declared.object.Shape.{Shape}
 use Rattle.mm_model.specs.declared.refusal.Refusal.{Refusal}
 use Rattle.mm_model.specs.declared.line.Totals.{Totals}
 use Rattle.mm_model.specs.SizeClass.{object_bytes}
-use Rattle.mm_model.specs.Object.{newborn}
-use Rattle.mm_model.specs.Place.{Objects, place_of}
-use Rattle.mm_model.specs.Refusing.{new_refusal}
-use Rattle.mm_model.specs.Effect.{Effect, new_effect}
+use Rattle.mm_model.specs.Place.{Objects}
+use Rattle.mm_model.specs.Search.{place_grown}
+use Rattle.mm_model.specs.Refusing.{refusal}
+use Rattle.mm_model.specs.Effect.{Effect}
 use Rattle.mm_model.specs.State.{State, empty_state}
 use Rattle.mm_model.specs.Good.{IsGood}
 use Rattle.mm_model.specs.Log.{Steps, IsRun}
@@ -27,11 +26,13 @@ use Rattle.mm_model.specs.View.{View, Shows}
 use Rattle.mm_model.specs.Journal.{Writes}
 use Rattle.mm_model.specs.Spelling.{spelling, spelling_of}
 use Rattle.mm_model.specs.Trace.{line_reading, words_reading, words_of, is_comment, complete_lines, lines_of, Reading, FaultAt}
+use Rattle.mm_model.proofs.Starting.{empty_is_good}
+use Rattle.mm_model.proofs.Numbers.{BearsFew, bears_few-new, bears_few-plain}
 use Rattle.mm_model.proofs.Journals.{writes-none, writes-append}
 use Rattle.mm_model.proofs.TraceLemmas.{Cuts, Cuts-none, Cuts-byte, Cuts-newline}
 use Rattle.mm_model.proofs.FaultLemmas.{fault_at_end, reading-end-none, reading-end-nothing, reading-end-command, complete_lines-held, fault_at_newline, fault_too_long, reading-next-nothing, reading-next-command, lines-fewer, commands-fewer}
 use Rattle.mm_trace.specs.Held.{Held, nothing_held, at_end, with_byte}
-use Rattle.mm_gc.specs.Built.{Step, unless_refused, built_effect, after}
+use Rattle.mm_gc.specs.Built.{Step, carried_effect, unless_refused, built_effect, after}
 use Rattle.mm_gc.specs.Execution.{IsStep, Executes}
 use Rattle.mmgc.specs.Replaying.{built_reading, only_built, reading_of, default_settings, CarriedOut, Stopped, Progress, DoesLine, CarriesOut, GoesOn, IsUnderWay, most_bytes}
 
@@ -76,26 +77,18 @@ run-push Step a (c ∷ commands) log b command group d run step = (
   run-push Step run.2 commands run.1 b command group d run.5 step,
 )
 
--- what a built command leaves of the numbers that a state counts
-record Small (a : State) (effect : Effect) : Type 0 where
-  births : length effect.state.objects ≤ length a.objects + 1
-  commands : effect.state.commands ≡ a.commands
+-- a built command bears at most one object and counts no command
+few_unless : (a : State) (effect : Effect) → BearsFew a effect → (because : Option Refusal) →
+    BearsFew a (unless_refused because a effect)
+few_unless a effect few None = few
+few_unless a effect few (Some because) = record { births = omega arith; commands = refl; settings = refl }
 
-small_new : (a : State) (shape : Shape) (found : Option ℕ) → Small a (new_effect a shape found)
-small_new a shape None = record { births = omega arith; commands = refl }
-small_new a shape (Some base) = let more = length_push a.objects (newborn shape base) in
-    record { births = omega (arith, more); commands = refl }
+few_carried : (a : State) (command : Command) → BearsFew a (carried_effect a command)
+few_carried a (commands.New shape) = bears_few-new a shape (place_grown a Objects (object_bytes shape.slots))
+few_carried a command = bears_few-plain a command
 
-small_unless : (a : State) (effect : Effect) → Small a effect → (refusal : Option Refusal) →
-    Small a (unless_refused refusal a effect)
-small_unless a effect small None = small
-small_unless a effect small (Some refusal) = record { births = omega arith; commands = refl }
-
-small_built : (a : State) (command : Command) → Small a (built_effect a command)
-small_built a (commands.New shape) =
-    small_unless a _ (small_new a shape (place_of a a.settings.max Objects (object_bytes shape.slots)))
-    (new_refusal a shape)
-small_built a command = record { births = omega arith; commands = refl }
+few_built : (a : State) (command : Command) → BearsFew a (built_effect a command)
+few_built a command = few_unless a (carried_effect a command) (few_carried a command) (refusal a command)
 
 -- the commands so far and one more
 pub carried_out-push : {commands : List Command} {log : List Line} {old new : View} {command : Command}
@@ -105,15 +98,15 @@ pub carried_out-push : {commands : List Command} {log : List Line} {old new : Vi
 carried_out-push {commands} {log} {command = command} {group = group} c step =
     let s = step c.state c.good c.shows in
     let more = length_push commands command in
-    let small = small_built c.state command in
+    let few = few_built c.state command in
     record {
       state = after c.state command group;
       legal = run-push Step (empty_state default_settings) commands log c.state command group
           (after c.state command group) c.legal s.step;
       good = s.good;
       shows = s.shows;
-      counted = omega (arith, more, small.commands, c.counted);
-      births = omega (arith, more, small.births, c.births);
+      counted = omega (arith, more, few.commands, c.counted);
+      births = omega (arith, more, few.births, c.births);
     }
 
 -- how the numbers of a view stand to its commands
@@ -184,7 +177,7 @@ progress-byte {bytes = bytes} {held = held} byte p other room =
     }
 
 -- a line that is too long
-too_long : (line : List ℕ) → 1024 < length line → built_reading line ≡ Err LineTooLong
+pub too_long : (line : List ℕ) → 1024 < length line → built_reading line ≡ Err LineTooLong
 unfolding built_reading line_reading
 too_long line long =
     let passes : nat_lt 1024 (length line) ≡ true = grind (arith, nat_tests) in
@@ -459,12 +452,7 @@ progress-none view kept shows =
         carried = record {
           state = empty_state default_settings;
           legal = (refl, refl);
-          good = record {
-            placed = record { inside = tt; apart = tt };
-            paired = λ birth object is live.
-                cc;
-            coloured = tt;
-          };
+          good = empty_is_good default_settings;
           shows = shows;
           counted = refl;
           births = omega arith;

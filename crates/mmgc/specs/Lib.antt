@@ -1,3 +1,4 @@
+pub mod Completing
 pub mod Keeping
 pub mod Logging
 pub mod Replaying

@@ -1,5 +1,6 @@
 // The program, over whatever its bytes come from and go to.
 ghost use Rattle.std.specs.Prelude.{◌≡◌, ◌≤◌, ◌++◌, not, length, nat_eq};
+ghost use Rattle.mmgc.specs.Completing.{IsComplete};
 ghost use Rattle.mmgc.specs.Run.{Ran, Replayed, status_of};
 ghost use Rattle.mmgc.specs.Telling.{IsTold, Takes, end_text, line_text};
 
@@ -102,6 +103,8 @@ pub fn run<S: Source, K: Sink, E: Sink>(
         (λ end heap. Replayed end (S.left source.old) (S.left source.new) (S.faults source.old)
         (S.faults source.new)
         (K.taken out.old) (K.taken out.new) (K.faults out.old) (K.faults out.new) heap) }
+    ensures complete { IsComplete result.status (length words.now) (S.left source.old) (S.left source.new)
+        (S.faults source.old) (S.faults source.new) (K.faults out.old) (K.faults out.new) }
     ensures source { S.faults source.old ≤ S.faults source.new }
     ensures out { K.faults out.old ≤ K.faults out.new }
     ensures err { E.faults err.old ≤ E.faults err.new }

@@ -1,29 +1,38 @@
 ghost use Rattle.std.specs.Prelude.{◌≤◌};
 
+mod faults;
+mod rows;
+
 use crate::{Outcome, run};
 use mm_io::{MemSink, MemSource};
 use std::alloc::Global;
 use std::process::Abort;
 use std::test::Fail;
 
-/// Bytes that a run took from its source, and the numbers of the calls that fail.
+/// A trace, the most bytes of one read and of one write of the log, and the numbers of the calls that fail: of the
+/// source, of the log's sink, and of the sink for what is said.
 #[derive(Clone, Copy)]
 struct Given<'a> {
     trace: &'a [u8],
     piece: usize,
+    log_piece: usize,
     reads: &'a [u32],
     writes: &'a [u32],
+    says: &'a [u32],
 }
 
 impl<'a> Given<'a> {
     fn whole(trace: &'a [u8]) -> Given<'a>
-        ensures { 1 ≤ result.piece }
+        ensures piece { 1 ≤ result.piece }
+        ensures log_piece { 1 ≤ result.log_piece }
     {
         Given {
             trace,
             piece: 5,
+            log_piece: 7,
             reads: &[],
             writes: &[],
+            says: &[],
         }
     }
 }
@@ -36,7 +45,8 @@ fn check(
     log: &[u8],
     said: &[u8],
 ) -> Result<(), Fail>
-    requires { 1 ≤ given.now.piece }
+    requires piece { 1 ≤ given.now.piece }
+    requires log_piece { 1 ≤ given.now.log_piece }
 {
     let words = Vec::new(alloc);
     let mut source = MemSource::make(
@@ -44,8 +54,8 @@ fn check(
         given.piece,
         given.reads.to_vec(alloc)?,
     );
-    let mut out = MemSink::make(alloc, 20000, 7, given.writes.to_vec(alloc)?)?;
-    let mut err = MemSink::make(alloc, 100, 3, Vec::new(alloc))?;
+    let mut out = MemSink::make(alloc, 20000, given.log_piece, given.writes.to_vec(alloc)?)?;
+    let mut err = MemSink::make(alloc, 100, 3, given.says.to_vec(alloc)?)?;
     let outcome = run(alloc, &words, &mut source, &mut out, &mut err);
     let Outcome {
         status: ended,
@@ -106,7 +116,7 @@ fn the_stack_is_full_before_the_region_is(rt: HostRuntime) -> Result<(), Fail> {
 fn the_first_fault_ends_a_trace(rt: HostRuntime) -> Result<(), Fail> {
     for (trace, log, said) in [
         (
-            "new t 0 4\npop 1\n",
+            "new t 0 4\nweak 0\n",
             "new 4096\n",
             "mmgc: line 2: not built yet\n",
         ),
@@ -152,42 +162,6 @@ fn a_line_may_have_1024_bytes(rt: HostRuntime) -> Result<(), Fail> {
         1,
         b"",
         b"mmgc: line 1: line too long\n",
-    )
-}
-
-#[test]
-fn a_failed_read_keeps_the_log_so_far(rt: HostRuntime) -> Result<(), Fail> {
-    let given = Given {
-        trace: b"new t 0 0\nnew t 0 0\n",
-        piece: 16,
-        reads: &[2],
-        writes: &[],
-    };
-    check(
-        &rt,
-        rt.alloc(),
-        &given,
-        3,
-        b"new 4096\n",
-        b"mmgc: read failed\n",
-    )
-}
-
-#[test]
-fn a_failed_write_leaves_a_front_of_the_log(rt: HostRuntime) -> Result<(), Fail> {
-    let given = Given {
-        trace: b"new t 0 0\nnew t 0 0\n",
-        piece: 100,
-        reads: &[],
-        writes: &[2],
-    };
-    check(
-        &rt,
-        rt.alloc(),
-        &given,
-        4,
-        b"new 409",
-        b"mmgc: write failed\n",
     )
 }
 

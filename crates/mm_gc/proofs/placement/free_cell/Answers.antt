@@ -1,3 +1,4 @@
+-- One more cell, which is not free.
 use Rattle.std.proofs.Common.{◌≡◌, ℕ, ◌+◌, ◌-◌, ◌*◌, ◌/◌, ◌<◌, false, sym, ap, ◌∙◌, arith}
 use Rattle.mm_model.specs.Place.{is_vacant, first_from}
 use Rattle.mm_model.proofs.Tests.{first_from-next}

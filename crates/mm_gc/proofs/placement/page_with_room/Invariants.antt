@@ -1,3 +1,4 @@
+-- The search for a page with room, as far as the walk has come.
 use Rattle.std.proofs.Common.{◌≡◌, ◌-◌}
 use Rattle.mm_model.specs.Place.{Objects, has_room, first_from}
 use Rattle.mm_gc.specs.Held.{pieces_of}

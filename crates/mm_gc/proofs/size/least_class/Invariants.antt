@@ -1,3 +1,4 @@
+-- No class so far is large enough.
 use Rattle.std.proofs.Common.{ℕ, ◌<◌, get_or}
 use Rattle.mm_gc.proofs.size.least_class.Given as goal
 

@@ -1,3 +1,4 @@
+-- The ledger of the steps.
 use Rattle.mm_gc.proofs.tests.reply.Given as goal
 
 abbrev pub ghosts-execute : goal.ghosts-execute

@@ -1,3 +1,4 @@
+-- 32 bits count the objects.
 use Rattle.std.proofs.Common.{arith}
 use Rattle.mm_gc.proofs.Creation.{few_objects}
 use Rattle.mm_gc.proofs.gc.Gc.totals.Goals as goal

@@ -1,0 +1,8 @@
+pub mod Members
+pub mod Growth
+pub mod Sets
+pub mod Freeing
+pub mod Searching
+pub mod Scanning
+pub mod Stepping
+pub mod Running

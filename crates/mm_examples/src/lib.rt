@@ -1,0 +1,12 @@
+//! Worked examples of the definitions of `mm_model`, each the contract of a function that does nothing.
+#![tactic(auto)]
+
+mod areas;
+mod collecting;
+mod counting;
+mod cycles;
+mod places;
+mod room;
+mod text;
+mod weak;
+mod words;

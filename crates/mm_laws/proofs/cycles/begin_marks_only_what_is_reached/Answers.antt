@@ -1,0 +1,5 @@
+use Rattle.mm_model.proofs.CourseLaws.{begin_marks_reached}
+use Rattle.mm_laws.proofs.cycles.begin_marks_only_what_is_reached.Goals as goal
+
+pub returns : goal.returns
+returns c = begin_marks_reached

@@ -1,0 +1,7 @@
+-- The lemmas say it.
+use Rattle.mm_laws.proofs.Choosing.{extent_of-enough}
+use Rattle.mm_laws.proofs.LeastClass.{class-least, pages-least}
+use Rattle.mm_laws.proofs.places.extents_are_least.Goals as goal
+
+pub returns : goal.returns
+returns c = record { enough = extent_of-enough; cell = class-least; pages = pages-least }

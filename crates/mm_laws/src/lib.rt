@@ -1,0 +1,35 @@
+//! Laws that show that the model's definitions are what they should be.
+#![tactic(auto)]
+
+mod cycles;
+mod places;
+mod reachability;
+mod references;
+mod spelling;
+mod states;
+mod steps;
+mod traces;
+mod weak;
+
+pub use cycles::{
+    begin_marks_only_what_is_reached, finish_frees_what_neither_reaches,
+    finish_frees_what_was_unreachable_throughout, marking_gains_only_what_is_reached,
+};
+pub use places::{extents_are_least, place_is_free, place_is_lowest};
+pub use reachability::{
+    collections_leave_what_is_reached, phases_spare_protected, protected_is_reached,
+    reapable_is_not_protected, unheld_is_reapable, unmarked_is_not_reached,
+};
+pub use references::{reads_through_references, words_mean_their_origin};
+pub use spelling::{
+    a_log_is_determined_by_its_bytes, different_lines_are_spelled_differently,
+    no_spelling_begins_another,
+};
+pub use states::{empty_is_good, legal_logs_lead_to_good_states, steps_keep_states_good};
+pub use steps::{lines_determine_the_state, only_step_chooses};
+pub use traces::{lines_are_cut_at_newlines, traces_join_at_a_newline};
+pub use weak::{
+    look_is_empty_exactly_once_the_target_is_gone, looks_tell_whether_the_target_is_gone,
+    runs_leave_weak_references_their_targets, weak_references_are_made_for_a_target,
+    weak_references_follow_their_targets,
+};
