@@ -4,4 +4,3 @@ pub mod Execution
 pub mod Held
 pub mod Plain
 pub mod Resolve
-pub mod Sizes

@@ -9,7 +9,6 @@ mod object;
 mod placement;
 mod reply;
 mod resolve;
-mod size;
 mod slots;
 mod stack;
 mod stage;

@@ -9,10 +9,10 @@ ghost use Rattle.mm_model.specs.Good.{IsPlaced};
 ghost use Rattle.mm_model.specs.Refusing.{is_bad_shape};
 ghost use Rattle.mm_gc.specs.Built.{is_plain};
 ghost use Rattle.mm_gc.specs.Held.{piece_of, pieces_of};
-ghost use Rattle.mm_gc.specs.Sizes.{IsSize};
+ghost use Rattle.mm_cells.specs.Sizes.{IsSize};
 
 use crate::object::Object;
-use crate::size::{PAGE_BYTES, extent_for, size_for};
+use mm_cells::{PAGE_BYTES, class_of, extent_of};
 use mm_model::{Shape, Size};
 
 fn any_overlaps(objects: &[Object], low: u32, bytes: u32) -> bool
@@ -119,7 +119,7 @@ pub(crate) fn place(objects: &[Object], limit: u32, size: &Size) -> Option<u32>
     ensures { result ≡ place_among (pieces_of objects.now) limit Objects size.now }
 {
     match size {
-        Size::Small(_) => lowest_cell(objects, limit, extent_for(size)),
+        Size::Small(_) => lowest_cell(objects, limit, extent_of(*size)),
         Size::Pages(count) => lowest_run(objects, limit, *count),
     }
 }
@@ -135,11 +135,11 @@ pub(crate) fn place_object(objects: &[Object], limit: u32, shape: Shape) -> Opti
     ensures shape { IfSome result (λ object. object.shape ≡ shape) }
     ensures extent { IfSome result (λ object. object.extent ≡ extent_of (object_bytes shape.slots)) }
 {
-    let size = size_for(16 + 4 * shape.slots);
+    let size = class_of(16 + 4 * shape.slots);
     let base = place(objects, limit, &size)?;
     Some(Object {
         base,
-        extent: extent_for(&size),
+        extent: extent_of(size),
         shape,
     })
 }

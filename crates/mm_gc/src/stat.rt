@@ -6,7 +6,7 @@ ghost use Rattle.mm_gc.specs.Held.{pieces_of};
 
 use crate::object::Object;
 use crate::placement::is_vacant;
-use crate::size::PAGE_BYTES;
+use mm_cells::PAGE_BYTES;
 
 /// How many pages the region has: at least so many, and all in which an object lies.
 pub(crate) fn region_pages(objects: &[Object], least: u32) -> u32

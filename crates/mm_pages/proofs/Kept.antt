@@ -6,7 +6,7 @@ use Rattle.std.proofs.lemmas.List.{length-set, get_or-set_same, get_or-set_other
 use Rattle.std.proofs.lemmas.List.{length-replicate, get_or_past}
 use Rattle.mm_pages.specs.Free.{Marks, AllFree, IsFreeButFirst, LowestFit, Sums, beyond, marked}
 use Rattle.mm_pages.specs.Tree.{Shows}
-use Rattle.mm_pages.specs.Place.{Place}
+use Rattle.mm_words.specs.Place.{Place}
 use Rattle.mm_pages.specs.Entries.{Entries, BeginsEmpty}
 use Rattle.mm_pages.specs.Pages.{Pages, Run, run_at, unused, is_free_page, count_below, IsFreePage, IsFreeRun}
 use Rattle.mm_pages.specs.Pages.{IsLowestRun, IsOut, IsUsed, IsHighestUsed, EndsBy, IsSound}

@@ -1,6 +1,6 @@
 use Rattle.std.specs.Prelude.{ℕ, ◌+◌, ◌*◌, ◌≤◌, ◌≡◌, replicate, List, length, take, drop}
 use Rattle.mm_words.specs.Piece.{Piece}
-use Rattle.mm_pages.specs.Place.{Place, place_of}
+use Rattle.mm_words.specs.Place.{Place, place_of}
 use Rattle.mm_pages.specs.Tree.{tree_words}
 
 -- the parts of a table: for each page the length of the run out that begins there and that of the run parked there,

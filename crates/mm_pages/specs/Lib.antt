@@ -2,6 +2,5 @@ pub mod Entries
 pub mod Free
 pub mod Kept
 pub mod Pages
-pub mod Place
 pub mod Tree
 pub mod Visits

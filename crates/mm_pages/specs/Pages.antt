@@ -1,6 +1,6 @@
 use Rattle.std.specs.Prelude.{◌≡◌, ℕ, zero, suc, ◌+◌, ◌*◌, ◌^◌, ◌<◌, ◌≤◌, ◌⊎◌, Bool, false, ◌&&◌, ◌||◌, not, nat_lt}
 use Rattle.std.specs.Prelude.{if◌then◌else◌, List, length, replicate, slice_index, slice_set}
-use Rattle.mm_pages.specs.Place.{Place}
+use Rattle.mm_words.specs.Place.{Place}
 use Rattle.mm_pages.specs.Free.{Marks}
 
 -- what callers see of a page heap: where its table lies, how many pages it has, below which page pages may be free, and

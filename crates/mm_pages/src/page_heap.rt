@@ -1,7 +1,7 @@
 // The pages of a region: which are free, and the runs that are out or parked.
 ghost use Rattle.std.specs.Prelude.{◌≡◌, ◌↔◌, ℕ, ◌-◌, ◌*◌, ◌^◌, ◌<◌, ◌≤◌};
 ghost use Rattle.std.specs.Prelude.{length, slice_index, IfOk, OnErr, IsTrue};
-ghost use Rattle.mm_pages.specs.Place.{place_of};
+ghost use Rattle.mm_words.specs.Place.{place_of};
 ghost use Rattle.mm_pages.specs.Pages.{fresh, with_out, with_parked, run_of, is_free_page, count_below, table_size};
 ghost use Rattle.mm_pages.specs.Pages.{IsFreePage, IsFreeRun, IsLowestRun, IsOut, HasNoRun, IsHighestUsed};
 ghost use Rattle.mm_pages.specs.Pages.{EndsBy, IsSound, IsQuick};

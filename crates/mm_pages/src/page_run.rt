@@ -13,7 +13,7 @@ pub struct PageRun {
 }
 
 impl Model for PageRun {
-    ghost use Rattle.mm_pages.specs.Place.{place_of};
+    ghost use Rattle.mm_words.specs.Place.{place_of};
     ghost use Rattle.mm_pages.specs.Pages.{Run};
 
     ghost Value = { Run };

@@ -30,7 +30,7 @@ impl Model for Table {
 }
 
 impl Table {
-    ghost use Rattle.mm_pages.specs.Place.{place_of};
+    ghost use Rattle.mm_words.specs.Place.{place_of};
     ghost use Rattle.mm_pages.specs.Entries.{BeginsEmpty};
     ghost use Rattle.std.specs.Prelude.{replicate};
 

@@ -2,6 +2,7 @@ pub mod Kept
 pub mod Lending
 pub mod Ownership
 pub mod Piece
+pub mod Place
 pub mod Runs
 pub mod Seated
 pub mod Stock

@@ -1,3 +1,4 @@
+-- Where a piece of an arena lies.
 use Rattle.std.specs.Prelude.{ℕ, length}
 use Rattle.mm_words.specs.Piece.{Name, Piece}
 

@@ -1,0 +1,19 @@
+-- Each word of the page has eight free cells.
+use Rattle.std.proofs.Common.{◌≡◌, ◌+◌, ◌*◌, ◌/◌, ◌%◌, get_or, sym, ap, ◌∙◌, arith}
+use Rattle.mm_cells.specs.declared.marks.TheConstants.{ALL_FREE}
+use Rattle.mm_cells.specs.Marks.{mark_in, page_marks}
+use Rattle.mm_cells.proofs.Free.{ALL_FREE-free}
+use Rattle.mm_cells.proofs.Pages.{page_marks-word}
+use Rattle.mm_cells.proofs.marks.fill_free.Goals as goal
+
+pub returns-clause-page : goal.returns-clause-page
+returns-clause-page c = λ cell within.
+    let table = c.loop-word.table in
+    let first = c.args.first_word in
+    let whole : 8 * (cell / 8) + cell % 8 ≡ cell = omega arith in
+    let filled : get_or table (first + cell / 8) 0 ≡ ALL_FREE =
+    c.loop-word.invariant.filled (first + cell / 8) (omega arith) (omega arith) in
+    ap (λ k. page_marks table first k) (sym whole)
+    ∙ page_marks-word table first (cell / 8) (cell % 8) (omega arith)
+    ∙ ap (λ w. mark_in w (cell % 8)) filled
+    ∙ ALL_FREE-free (cell % 8) (omega arith)

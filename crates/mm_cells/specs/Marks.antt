@@ -1,0 +1,45 @@
+-- What a table of marks says: each word has the marks of eight cells, each of them in four bits.
+use Rattle.std.specs.Prelude.{◌≡◌, ℕ, ◌+◌, ◌*◌, ◌/◌, ◌%◌, ◌^◌, ◌<◌, ◌==◌, if◌then◌else◌, List, slice_index}
+use Rattle.mm_model.specs.declared.object.Colour.{Colour}
+use Rattle.mm_model.specs.declared.object.Colour.TheVariants.{White, Gray, Black}
+use Rattle.mm_cells.specs.declared.marks.CellBits.{CellBits}
+use Rattle.mm_cells.specs.declared.marks.Mark.{Mark}
+use Rattle.mm_cells.specs.declared.marks.Mark.TheVariants.{Free, Taken}
+
+-- the colour of a taken cell, by the low two of its bits
+abbrev pub colour_of : ℕ → Colour
+colour_of low = if low == 0 then White else (if low == 1 then Black else Gray)
+
+-- the other two bits: 4 with a finalizer, 8 with a live weak object
+abbrev pub bits_of : ℕ → CellBits
+bits_of code = record { finalize = code / 4 % 2 == 1; has_weak = code / 8 % 2 == 1 }
+
+-- the mark that four bits mean: a cell is free where the low two of them are 3
+abbrev pub mark_of : ℕ → Mark
+mark_of code = if code % 4 == 3 then Free else Taken (colour_of (code % 4)) (bits_of code)
+
+-- the four bits at one of the eight places of a word
+abbrev pub code_in : ℕ → ℕ → ℕ
+code_in word place = word / 16 ^ place % 16
+
+-- the mark there
+abbrev pub mark_in : ℕ → ℕ → Mark
+mark_in word place = mark_of (code_in word place)
+
+-- the mark of a cell
+abbrev pub mark_of_cell : List ℕ → ℕ → Mark
+mark_of_cell table cell = mark_in (slice_index table (cell / 8)) (cell % 8)
+
+-- no one of so many marks says that a cell is free
+abbrev pub NoneFree : (ℕ → Mark) → ℕ → Type 0
+NoneFree marks cells = (cell : ℕ) → cell < cells → ¬ (marks cell ≡ Free)
+
+-- the lowest one of them that does
+pub record IsLowestFree (marks : ℕ → Mark) (cells cell : ℕ) : Type 0 where
+  pub within : cell < cells
+  pub free : marks cell ≡ Free
+  pub lowest : NoneFree marks cell
+
+-- the marks of the cells of a page, whose marks begin at a word of the table
+abbrev pub page_marks : List ℕ → ℕ → ℕ → Mark
+page_marks table first_word cell = mark_of_cell table (8 * first_word + cell)

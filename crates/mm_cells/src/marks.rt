@@ -1,0 +1,167 @@
+// The marks of cells in a table of words: four bits for each cell, and those of eight cells in each word.
+ghost use Rattle.std.specs.Prelude.{◌≡◌, ◌≢◌, ℕ, ◌+◌, ◌*◌, ◌/◌, ◌%◌, ◌<◌, ◌≤◌, ◌⊎◌, length, MatchOption};
+ghost use Rattle.mm_cells.specs.Marks.{code_in, colour_of, bits_of, mark_of, mark_in, mark_of_cell, page_marks};
+ghost use Rattle.mm_cells.specs.Marks.{NoneFree, IsLowestFree};
+
+use mm_model::Colour;
+
+/// What a taken cell says of its object beside the colour.
+#[derive(Clone, Copy, Debug, PartialEq, Eq)]
+pub struct CellBits {
+    /// It has a finalizer.
+    pub finalize: bool,
+    /// It has a live weak object.
+    pub has_weak: bool,
+}
+
+/// What a table says of a cell.
+#[derive(Clone, Copy, Debug, PartialEq, Eq)]
+pub(crate) enum Mark {
+    Free,
+    Taken(Colour, CellBits),
+}
+
+const WHITE: u32 = 0;
+
+const BLACK: u32 = 1;
+
+const GRAY: u32 = 2;
+
+const FREE: u32 = 3;
+
+const FINALIZE: u32 = 4;
+
+const HAS_WEAK: u32 = 8;
+
+/// The lowest bit of each of a word's eight marks.
+const LOWEST_BITS: u32 = 0x1111_1111;
+
+/// A word whose eight cells are free.
+const ALL_FREE: u32 = 0x3333_3333;
+
+fn colour_code(colour: Colour) -> u32
+    ensures means { colour_of result ≡ colour }
+    ensures small { result < 3 }
+{
+    match colour {
+        Colour::White => WHITE,
+        Colour::Gray => GRAY,
+        Colour::Black => BLACK,
+    }
+}
+
+fn bits_code(bits: CellBits) -> u32
+    ensures means { bits_of result ≡ bits }
+    ensures high { result % 4 ≡ 0 }
+    ensures small { result < 16 }
+{
+    let finalize = if bits.finalize { FINALIZE } else { 0 };
+    let has_weak = if bits.has_weak { HAS_WEAK } else { 0 };
+    finalize + has_weak
+}
+
+/// The four bits of a mark.
+fn encode(mark: Mark) -> u32
+    ensures means { mark_of result ≡ mark }
+    ensures small { result < 16 }
+{
+    match mark {
+        Mark::Free => FREE,
+        Mark::Taken(colour, bits) => colour_code(colour) + bits_code(bits),
+    }
+}
+
+/// The mark that four bits mean.
+fn decode(code: u32) -> Mark
+    requires { code < 16 }
+    ensures { result ≡ mark_of code }
+{
+    let bits = CellBits {
+        finalize: code & FINALIZE != 0,
+        has_weak: code & HAS_WEAK != 0,
+    };
+    match code % 4 {
+        WHITE => Mark::Taken(Colour::White, bits),
+        BLACK => Mark::Taken(Colour::Black, bits),
+        GRAY => Mark::Taken(Colour::Gray, bits),
+        _ => Mark::Free,
+    }
+}
+
+/// The four bits at a place of a word.
+fn code_at(word: u32, place: u32) -> u32
+    requires { place < 8 }
+    ensures value { result ≡ code_in word place }
+    ensures small { result < 16 }
+{
+    word >> (4 * place) & 15
+}
+
+/// A word with another mark at one of its places.
+fn with_mark(word: u32, place: u32, mark: Mark) -> u32
+    requires { place < 8 }
+    ensures given { mark_in result place ≡ mark }
+    ensures others { (p : ℕ) → p < 8 → p ≢ place → mark_in result p ≡ mark_in word p }
+{
+    let shift = 4 * place;
+    word - (code_at(word, place) << shift) + (encode(mark) << shift)
+}
+
+/// The lowest place of a word whose mark says that a cell is free.
+fn lowest_free_place(word: u32) -> Option<u32>
+    ensures { MatchOption result (NoneFree (mark_in word) 8) (λ p. IsLowestFree (mark_in word) 8 p) }
+{
+    let free = word & (word >> 1) & LOWEST_BITS;
+    if free == 0 {
+        None
+    } else {
+        Some(free.trailing_zeros() / 4)
+    }
+}
+
+/// The mark of a cell.
+pub(crate) fn mark_at(table: &[u32], cell: u32) -> Mark
+    requires { cell / 8 < length table.now }
+    ensures { result ≡ mark_of_cell table.now cell }
+{
+    decode(code_at(table[(cell / 8) as usize], cell % 8))
+}
+
+/// Gives a cell another mark.
+pub(crate) fn set_mark(table: &mut [u32], cell: u32, mark: Mark)
+    requires { cell / 8 < length table.old }
+    ensures given { mark_of_cell table.new cell ≡ mark }
+    ensures others { (c : ℕ) → c ≢ cell → mark_of_cell table.new c ≡ mark_of_cell table.old c }
+{
+    let word = &mut table[(cell / 8) as usize];
+    *word = with_mark(*word, cell % 8, mark);
+}
+
+/// The lowest free one of the first cells of a page, whose marks begin at that word.
+pub(crate) fn lowest_free(table: &[u32], first_word: u32, cells: u32) -> Option<u32>
+    requires cells { cells ≤ 256 }
+    requires within { 8 * first_word + cells ≤ 8 * length table.now }
+    ensures { let marks = page_marks table.now first_word in
+        MatchOption result (NoneFree marks cells) (λ c. IsLowestFree marks cells c) }
+{
+    for word in 0..cells.div_ceil(8) {
+        if let Some(place) = lowest_free_place(table[first_word as usize + word as usize]) {
+            let cell = 8 * word + place;
+            return if cell < cells { Some(cell) } else { None };
+        }
+    }
+    None
+}
+
+/// Makes all 256 cells of a page free.
+pub(crate) fn fill_free(table: &mut [u32], first_word: u32)
+    requires { first_word + 32 ≤ length table.old }
+    ensures page { (c : ℕ) → c < 256 → page_marks table.new first_word c ≡ Mark.Free }
+    ensures others { (c : ℕ) → (c < 8 * first_word) ⊎ (8 * first_word + 256 ≤ c) →
+        mark_of_cell table.new c ≡ mark_of_cell table.old c }
+{
+    let first = first_word as usize;
+    for word in first..first + 32 {
+        table[word] = ALL_FREE;
+    }
+}

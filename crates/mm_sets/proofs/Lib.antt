@@ -1,0 +1,4 @@
+pub mod BitWrites
+pub mod Changes
+pub mod LowestBits
+pub mod Sets
