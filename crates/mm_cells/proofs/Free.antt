@@ -27,10 +27,10 @@ free-low_bits code three =
     rw low refl
 
 -- the two low bits of the mark at a place
-low_bit : (word place : ℕ) → bit_at word (4 * place) ≡ code_in word place % 2
+pub low_bit : (word place : ℕ) → bit_at word (4 * place) ≡ code_in word place % 2
 low_bit word place = rw pow-sixteen (omega arith)
 
-next_bit : (word place : ℕ) → bit_at (word / 2) (4 * place) ≡ code_in word place / 2 % 2
+pub next_bit : (word place : ℕ) → bit_at (word / 2) (4 * place) ≡ code_in word place / 2 % 2
 next_bit word place =
     let halved : word / 2 / 16 ^ place ≡ word / 16 ^ place / 2 =
     div-div-eq-div-mul word 2 (16 ^ place) ∙ ap (λ m. word / m) (mul_comm 2 (16 ^ place))
@@ -49,13 +49,13 @@ free_bits-at word i =
     ∙ ap (λ x. min x (bit_at LOWEST_BITS i)) (bit_at_and word (word / 2) i)
 
 -- the mask has the lowest bit of each place, and no other
-lowest_bits-at : (place : ℕ) → place < 8 → bit_at LOWEST_BITS (4 * place) ≡ 1
+pub lowest_bits-at : (place : ℕ) → place < 8 → bit_at LOWEST_BITS (4 * place) ≡ 1
 lowest_bits-at place within =
     let found : (bit_at LOWEST_BITS (4 * place) == 1) ≡ true =
     agree_below_at (λ p. bit_at LOWEST_BITS (4 * p) == 1) (λ _. true) 8 place refl within in
     grind (arith, nat_tests)
 
-lowest_bits-off : (i : ℕ) → i < 32 → bit_at LOWEST_BITS i ≡ 1 → i % 4 ≡ 0
+pub lowest_bits-off : (i : ℕ) → i < 32 → bit_at LOWEST_BITS i ≡ 1 → i % 4 ≡ 0
 lowest_bits-off i within set =
     let same : (bit_at LOWEST_BITS i == 1) ≡ (i % 4 == 0) =
     agree_below_at (λ p. bit_at LOWEST_BITS p == 1) (λ p. p % 4 == 0) 32 i refl within in

@@ -1,2 +1,10 @@
+pub mod Cells
+pub mod Kept
+pub mod Map
 pub mod Marks
+pub mod Parking
+pub mod Placing
+pub mod Seats
 pub mod Sizes
+pub mod Spans
+pub mod Uses

@@ -1,5 +1,5 @@
 -- What a table of marks says: each word has the marks of eight cells, each of them in four bits.
-use Rattle.std.specs.Prelude.{◌≡◌, ℕ, ◌+◌, ◌*◌, ◌/◌, ◌%◌, ◌^◌, ◌<◌, ◌==◌, if◌then◌else◌, List, slice_index}
+use Rattle.std.specs.Prelude.{◌≡◌, ◌≢◌, ℕ, ◌+◌, ◌*◌, ◌/◌, ◌%◌, ◌^◌, ◌<◌, ◌≤◌, ◌==◌, if◌then◌else◌, List, slice_index}
 use Rattle.mm_model.specs.declared.object.Colour.{Colour}
 use Rattle.mm_model.specs.declared.object.Colour.TheVariants.{White, Gray, Black}
 use Rattle.mm_cells.specs.declared.marks.CellBits.{CellBits}
@@ -43,3 +43,14 @@ pub record IsLowestFree (marks : ℕ → Mark) (cells cell : ℕ) : Type 0 where
 -- the marks of the cells of a page, whose marks begin at a word of the table
 abbrev pub page_marks : List ℕ → ℕ → ℕ → Mark
 page_marks table first_word cell = mark_of_cell table (8 * first_word + cell)
+
+-- the lowest cell of those from a number on that has a mark that isn't free
+pub record IsLowestTaken (marks : ℕ → Mark) (from cells cell : ℕ) : Type 0 where
+  pub reached : from ≤ cell
+  pub within : cell < cells
+  pub taken : marks cell ≢ Free
+  pub lowest : (other : ℕ) → from ≤ other → other < cell → marks other ≡ Free
+
+-- all those are free
+abbrev pub AllFreeFrom : (ℕ → Mark) → ℕ → ℕ → Type 0
+AllFreeFrom marks from cells = (cell : ℕ) → from ≤ cell → cell < cells → marks cell ≡ Free

@@ -1,10 +1,17 @@
 //! Cells of the size classes, and the marks of their objects.
 #![tactic(auto)]
 
+mod cells;
 mod class;
 mod marks;
+mod page_use;
+mod parking;
+mod placing;
+mod table;
+mod taking;
 #[cfg(test)]
 mod tests;
 
+pub use cells::{Cell, Cells, cells_words};
 pub use class::{PAGE_BYTES, cells_per_page, class_of, extent_of};
 pub use marks::CellBits;

@@ -1,7 +1,7 @@
 // The marks of cells in a table of words: four bits for each cell, and those of eight cells in each word.
 ghost use Rattle.std.specs.Prelude.{◌≡◌, ◌≢◌, ℕ, ◌+◌, ◌*◌, ◌/◌, ◌%◌, ◌<◌, ◌≤◌, ◌⊎◌, length, MatchOption};
 ghost use Rattle.mm_cells.specs.Marks.{code_in, colour_of, bits_of, mark_of, mark_in, mark_of_cell, page_marks};
-ghost use Rattle.mm_cells.specs.Marks.{NoneFree, IsLowestFree};
+ghost use Rattle.mm_cells.specs.Marks.{NoneFree, IsLowestFree, AllFreeFrom, IsLowestTaken};
 
 use mm_model::Colour;
 
@@ -119,6 +119,19 @@ fn lowest_free_place(word: u32) -> Option<u32>
     }
 }
 
+/// The lowest place of a word, from `from` on, whose mark says that a cell is taken.
+fn lowest_taken_place(word: u32, from: u32) -> Option<u32>
+    requires { from < 8 }
+    ensures { MatchOption result (AllFreeFrom (mark_in word) from 8) (λ p. IsLowestTaken (mark_in word) from 8 p) }
+{
+    let taken = (!(word & (word >> 1)) & LOWEST_BITS) >> (4 * from);
+    if taken == 0 {
+        None
+    } else {
+        Some(from + taken.trailing_zeros() / 4)
+    }
+}
+
 /// The mark of a cell.
 pub(crate) fn mark_at(table: &[u32], cell: u32) -> Mark
     requires { cell / 8 < length table.now }
@@ -146,6 +159,26 @@ pub(crate) fn lowest_free(table: &[u32], first_word: u32, cells: u32) -> Option<
 {
     for word in 0..cells.div_ceil(8) {
         if let Some(place) = lowest_free_place(table[first_word as usize + word as usize]) {
+            let cell = 8 * word + place;
+            return if cell < cells { Some(cell) } else { None };
+        }
+    }
+    None
+}
+
+/// The lowest taken one of the cells of a page from `from` to before `cells`.
+pub(crate) fn lowest_taken(table: &[u32], first_word: u32, from: u32, cells: u32) -> Option<u32>
+    requires cells { cells ≤ 256 }
+    requires within { 8 * first_word + cells ≤ 8 * length table.now }
+    ensures { let marks = page_marks table.now first_word in
+        MatchOption result (AllFreeFrom marks from cells) (λ cell. IsLowestTaken marks from cells cell) }
+{
+    for word in from / 8..cells.div_ceil(8) {
+        let skipped = from.saturating_sub(8 * word);
+        if let Some(place) = lowest_taken_place(
+            table[first_word as usize + word as usize],
+            skipped,
+        ) {
             let cell = 8 * word + place;
             return if cell < cells { Some(cell) } else { None };
         }

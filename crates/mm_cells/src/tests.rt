@@ -1,4 +1,6 @@
 // Sizes at the edges of the classes, and marks in literal words.
+mod cells;
+
 use crate::marks::{Mark, fill_free, lowest_free, mark_at, set_mark};
 use crate::{CellBits, PAGE_BYTES, cells_per_page, class_of, extent_of};
 use mm_model::{Colour, Size};

@@ -111,11 +111,6 @@ MatchOption-joined limit words from to None order low high = IsEmptyFrom-joined 
 MatchOption-joined limit words from to (Some n) order low high =
     IsLowestFrom-joined limit words from to n order low high
 
--- a place that the summary shows lies within the set
-pub shown_within : (limit : ℕ) (words : List ℕ) (place : ℕ) → IsSet limit words → place < 128 →
-    bit_of words place ≡ 1 → 4 + place < length words
-shown_within limit words place s small one = omega (arith, s.room, s.own place small one)
-
 -- words that are all 0 are the empty set, whatever stands behind them
 pub IsSet-zeros : (limit : ℕ) (words : List ℕ) → limit ≤ 4096 → set_size limit ≤ length words →
     ((i : ℕ) → i < set_size limit → slice_index words i ≡ 0) → IsSet limit words

@@ -14,8 +14,8 @@ set_size limit = 4 + member_words limit
 abbrev pub members : List ℕ → ℕ → Bool
 members words n = nat_eq (bit_of words (128 + n)) 1
 
--- the words begin with a set of numbers below the limit: bit i of the summary says whether there is a member word i that
--- isn't 0, and the member words have no number from the limit on. What stands behind them may be anything
+-- the words begin with a set of numbers below the limit: bit i of the summary says whether there is a member word i
+-- that isn't 0, and the member words have no number from the limit on. What stands behind them may be anything
 pub record IsSet (limit : ℕ) (words : List ℕ) : Type 0 where
   pub small : limit ≤ 4096
   pub room : set_size limit ≤ length words

@@ -1,5 +1,5 @@
 -- Each word of the page has eight free cells.
-use Rattle.std.proofs.Common.{◌≡◌, ◌+◌, ◌*◌, ◌/◌, ◌%◌, get_or, sym, ap, ◌∙◌, arith}
+use Rattle.std.proofs.Common.{◌≡◌, ◌+◌, ◌*◌, ◌/◌, ◌%◌, get_or, inl, inr, sym, ap, ◌∙◌, arith}
 use Rattle.mm_cells.specs.declared.marks.TheConstants.{ALL_FREE}
 use Rattle.mm_cells.specs.Marks.{mark_in, page_marks}
 use Rattle.mm_cells.proofs.Free.{ALL_FREE-free}
@@ -17,3 +17,10 @@ returns-clause-page c = λ cell within.
     ∙ page_marks-word table first (cell / 8) (cell % 8) (omega arith)
     ∙ ap (λ w. mark_in w (cell % 8)) filled
     ∙ ALL_FREE-free (cell % 8) (omega arith)
+
+pub returns-clause-others : goal.returns-clause-others
+returns-clause-others c = λ cell apart.
+    ap (λ w. mark_in w (cell % 8)) (elim apart [
+      | inl before ↦ c.loop-word.invariant.below (cell / 8) (omega arith)
+      | inr behind ↦ c.loop-word.invariant.above (cell / 8) (omega arith)
+    ])

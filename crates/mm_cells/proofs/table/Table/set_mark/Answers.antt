@@ -1,0 +1,11 @@
+-- The part that was written has the marks alone.
+use Rattle.mm_cells.proofs.Maps.{marks_lent, SetsMark-with_marks}
+use Rattle.mm_cells.proofs.table.Table.set_mark.Goals as goal
+
+pub returns : goal.returns
+returns c =
+    let lent = marks_lent c.self.inside.words c.self.inside.pages c.part_mut.result.now c.self.invariant
+    c.part_mut.ensures.value in
+    rw (← c.self.view_is) (SetsMark-with_marks c.self.inside.words c.self.inside.pages c.args.page c.args.cell
+    c.args.mark c.part_mut.result.now c.set_mark.new.table c.self.invariant lent c.set_mark.auto.table c.requires.cell
+    c.set_mark.ensures.given c.set_mark.ensures.others)

@@ -1,0 +1,16 @@
+use Rattle.std.proofs.Common.{◌+◌, refl, arith}
+use Rattle.mm_cells.specs.declared.page_use.PageUse.TheVariants.{Unused}
+use Rattle.mm_cells.proofs.Spans.{SetsUses-none, SetsUses-more}
+use Rattle.mm_cells.proofs.taking.clear_uses.Goals as goal
+
+pub loop-distance-init : goal.loop-distance-init
+loop-distance-init c = SetsUses-none c.args.table.now c.args.first (λ distance. Unused)
+
+pub set_use-requires-clause-within : goal.set_use-requires-clause-within
+set_use-requires-clause-within c = omega (arith, c.requires, c.loop-distance.invariant.same.pages)
+
+pub loop-distance-preserved : goal.loop-distance-preserved
+loop-distance-preserved c =
+    SetsUses-more c.args.table.now c.loop-distance.table c.set_use.new.self c.args.first c.loop-distance.distance
+    (c.args.first + c.loop-distance.distance) Unused (λ distance. Unused)
+    c.loop-distance.invariant c.set_use.ensures refl refl

@@ -1,0 +1,17 @@
+-- The table stays where it is.
+use Rattle.std.proofs.Common.{◌+◌, ap, arith, subst, ◌∙◌}
+use Rattle.mm_words.specs.Place.{Place}
+use Rattle.mm_cells.specs.Cells.{Cells, Begins}
+use Rattle.mm_cells.proofs.tests.cells.Trial.paint.Goals as goal
+
+pub invariant_of-self : goal.invariant_of-self
+invariant_of-self g c =
+    let found = c.in-Some.ensures.cell in
+    let begins = subst (λ b. Begins c.args.self.now.cells b found.0) c.if-cell-base.true found.1.begins in
+    let cells = ap (λ (v : Cells). v.table) (c.set_colour.ensures.colour found.0 begins) in
+    record {
+      fits = c.set_colour.ensures.fits c.args.self.now.heap c.args.self.now.fits;
+      heap_own = c.args.self.now.heap_own;
+      cells_own = ap (λ (p : Place). p.arena) cells ∙ c.args.self.now.cells_own;
+      owed = let size = ap (λ (p : Place). p.size) cells in omega (arith, c.args.self.now.owed, size);
+    }

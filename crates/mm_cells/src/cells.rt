@@ -1,0 +1,280 @@
+// The cells of a region: which are taken, and what is told of the objects in them.
+ghost use Rattle.std.specs.Prelude.{◌≡◌, ◌≢◌, ◌+◌, ◌*◌, ◌/◌, ◌<◌, ◌≤◌, ℕ, length, MatchOption, Some};
+ghost use Rattle.mm_words.specs.Place.{place_of};
+ghost use Rattle.mm_pages.specs.Pages.{Pages};
+ghost use Rattle.mm_cells.specs.Parking.{Fits};
+ghost use Rattle.mm_cells.specs.Map.{table_size, use_at, mark_at};
+ghost use Rattle.mm_cells.specs.Cells.{Taken, fresh, with_cell, Begins, IsTaken, Covers, HasNoCell, IsSound};
+ghost use Rattle.mm_cells.specs.Cells.{IsNextTaken, NoneTakenFrom, IsWalk};
+ghost use Rattle.mm_cells.specs.Kept.{class_size, cells_in, cells_of, IsKept};
+ghost use Rattle.mm_cells.specs.Seats.{IsSeatOf, NoneInPage, IsLowestInPage, IsTakenIn, NoneIn, IsLowestIn};
+
+use crate::class::{PAGE_BYTES, cells_per_page, extent_of};
+use crate::marks::{CellBits, Mark};
+use crate::page_use::PageUse;
+use crate::table::Table;
+use mm_model::{Colour, Size};
+use mm_sets::set_words;
+use mm_steps::Steps;
+use mm_words::Words;
+use std::marker::Model;
+use std::sync::ledger::Ledger;
+
+/// The cells of a region, which objects are put into. A cell is one of 19 sizes, or some whole pages.
+///
+/// The pages with cells are runs of a page heap, in which they stay parked. It stands on words of an arena, which go
+/// back by `close`, and can't be dropped.
+pub struct Cells {
+    pub(crate) table: Table,
+}
+
+impl Model for Cells {
+    ghost use Rattle.mm_cells.specs.Cells;
+    ghost use Rattle.mm_cells.specs.Kept.{cells_of, IsKept};
+
+    ghost Value = { Cells.Cells };
+
+    ghost view = { λ c. cells_of c.table };
+
+    ghost invariant = { λ c. IsKept c.table };
+}
+
+/// The room of a taken cell, in bytes.
+#[derive(Clone, Copy, Debug, PartialEq, Eq)]
+pub struct Cell {
+    pub base: u32,
+    pub extent: u32,
+}
+
+/// How many words the table of cells must have.
+pub fn cells_words(pages: u32) -> u32
+    requires two { 2 ≤ pages }
+    requires most { pages ≤ 4096 }
+    ensures { result ≡ table_size pages }
+{
+    33 * pages + 19 * set_words(pages)
+}
+
+impl Cells {
+    /// The cells of a region of at most so many pages. None is taken. The table's words may hold anything.
+    pub fn make(table: Words, pages: u32) -> Cells
+        requires two { 2 ≤ pages }
+        requires most { pages ≤ 4096 }
+        requires room { table_size pages ≤ length table.words }
+        ensures value { result ≡ fresh (place_of table) pages }
+        ensures fits { (heap : Pages) → heap.pages ≤ pages → Fits result heap }
+    {
+        Cells {
+            table: Table::make(table, pages),
+        }
+    }
+
+    /// Gives the table's words back, which may hold anything.
+    pub fn close(self) -> Words
+        requires { HasNoCell self }
+        ensures { place_of result ≡ self.table }
+    {
+        let Cells { table } = self;
+        table.into_words()
+    }
+
+    /// The taken cell in which a word falls.
+    pub fn resolve<L: Ledger>(&self, word: u32, steps: &mut Steps<L>) -> Option<Cell>
+        ensures cell { MatchOption result
+            ((base : ℕ) (cell : Taken) → Covers self.now word base cell → ⊥)
+            (λ found. (cell : Taken) × Covers self.now word found.base cell × (cell.extent ≡ found.extent)) }
+        ensures sound { IsSound self.now }
+        ensures cost { steps.new ≡ steps.old + 1 }
+    {
+        steps.tick();
+        let page = word / PAGE_BYTES;
+        if self.table.pages() <= page {
+            return None;
+        }
+        match self.table.use_at(page) {
+            PageUse::Unused => None,
+            PageUse::Class(class) => small_cell(&self.table, page, class, word % PAGE_BYTES),
+            PageUse::First(count) => Some(whole_cell(page, count)),
+            PageUse::Later(distance) => Some(cell_from(&self.table, page - distance)),
+        }
+    }
+
+    /// The colour of the object in a taken cell.
+    pub fn colour<L: Ledger>(&self, base: u32, steps: &mut Steps<L>) -> Colour
+        requires { IsTaken self.now base }
+        ensures colour { (cell : Taken) → Begins self.now base cell → result ≡ cell.colour }
+        ensures cost { steps.new ≡ steps.old + 1 }
+    {
+        steps.tick();
+        told_at(&self.table, seat_of(&self.table, base)).colour
+    }
+
+    pub fn set_colour<L: Ledger>(&mut self, base: u32, colour: Colour, steps: &mut Steps<L>)
+        requires { IsTaken self.old base }
+        ensures colour { (cell : Taken) → Begins self.old base cell
+            → self.new ≡ with_cell self.old base (Some (record cell { colour = colour })) }
+        ensures fits { (heap : Pages) → Fits self.old heap → Fits self.new heap }
+        ensures cost { steps.new ≡ steps.old + 1 }
+    {
+        steps.tick();
+        let seat = seat_of(&self.table, base);
+        let told = told_at(&self.table, seat);
+        self.table
+            .set_mark(seat.page, seat.number, Mark::Taken(colour, told.flags));
+    }
+
+    /// What else is told of the object in a taken cell.
+    pub fn flags<L: Ledger>(&self, base: u32, steps: &mut Steps<L>) -> CellBits
+        requires { IsTaken self.now base }
+        ensures flags { (cell : Taken) → Begins self.now base cell → result ≡ cell.flags }
+        ensures cost { steps.new ≡ steps.old + 1 }
+    {
+        steps.tick();
+        told_at(&self.table, seat_of(&self.table, base)).flags
+    }
+
+    pub fn set_flags<L: Ledger>(&mut self, base: u32, flags: CellBits, steps: &mut Steps<L>)
+        requires { IsTaken self.old base }
+        ensures flags { (cell : Taken) → Begins self.old base cell
+            → self.new ≡ with_cell self.old base (Some (record cell { flags = flags })) }
+        ensures fits { (heap : Pages) → Fits self.old heap → Fits self.new heap }
+        ensures cost { steps.new ≡ steps.old + 1 }
+    {
+        steps.tick();
+        let seat = seat_of(&self.table, base);
+        let told = told_at(&self.table, seat);
+        self.table
+            .set_mark(seat.page, seat.number, Mark::Taken(told.colour, flags));
+    }
+
+    /// The least base of a taken cell that is at least `from`. A page without taken cells costs one step.
+    pub fn next_taken<L: Ledger>(&self, from: u32, steps: &mut Steps<L>) -> Option<u32>
+        ensures base { MatchOption result (NoneTakenFrom self.now from) (λ base. IsNextTaken self.now from base) }
+        ensures cost { IsWalk self.now from result steps.old steps.new }
+    {
+        for page in from / PAGE_BYTES..self.table.pages() {
+            steps.tick();
+            if let Some(base) = lowest_in_page(&self.table, page, from) {
+                return Some(base);
+            }
+        }
+        None
+    }
+}
+
+/// Where the mark of a cell stands.
+#[derive(Clone, Copy)]
+struct Seat {
+    page: u32,
+    number: u32,
+}
+
+/// What is told of the object in a taken cell.
+#[derive(Clone, Copy)]
+struct Told {
+    colour: Colour,
+    flags: CellBits,
+}
+
+/// The cell of a page of a class that has the byte which is so many bytes into the page, if it is taken.
+fn small_cell(table: &Table, page: u32, class: u32, offset: u32) -> Option<Cell>
+    requires page { page < table.now.pages }
+    requires most { table.now.pages ≤ 4096 }
+    requires class { class < 19 }
+    requires offset { offset < 4096 }
+    ensures { let number = offset / class_size class in MatchOption result
+        (number < cells_in class → mark_at table.now page number ≡ Mark.Free)
+        (λ found. IsTakenIn table.now page class number found.base × (found.extent ≡ class_size class)) }
+{
+    let size = extent_of(Size::Small(class));
+    let number = offset / size;
+    if cells_per_page(class) <= number || table.mark_at(page, number) == Mark::Free {
+        return None;
+    }
+    Some(Cell {
+        base: page * PAGE_BYTES + number * size,
+        extent: size,
+    })
+}
+
+/// The room of a cell of whole pages.
+fn whole_cell(page: u32, count: u32) -> Cell
+    requires page { page ≤ 4096 }
+    requires count { count ≤ 4096 }
+    ensures base { result.base ≡ 4096 * page }
+    ensures extent { result.extent ≡ 4096 * count }
+{
+    Cell {
+        base: page * PAGE_BYTES,
+        extent: count * PAGE_BYTES,
+    }
+}
+
+/// The room of the cell whose first page it is.
+fn cell_from(table: &Table, page: u32) -> Cell
+    requires within { page < table.now.pages }
+    requires most { table.now.pages ≤ 4096 }
+    requires first { (count : ℕ) × (use_at table.now page ≡ PageUse.First count) × (count ≤ 4096) }
+    ensures base { result.base ≡ 4096 * page }
+    ensures extent { (count : ℕ) → use_at table.now page ≡ PageUse.First count → result.extent ≡ 4096 * count }
+{
+    match table.use_at(page) {
+        PageUse::First(count) => whole_cell(page, count),
+        _ => unreachable!(),
+    }
+}
+
+/// Where the mark of the taken cell stands that begins at a base.
+fn seat_of(table: &Table, base: u32) -> Seat
+    requires kept { IsKept table.now }
+    requires taken { IsTaken (cells_of table.now) base }
+    ensures { IsSeatOf table.now result.page result.number base }
+{
+    let page = base / PAGE_BYTES;
+    let number = match table.use_at(page) {
+        PageUse::Class(class) => base % PAGE_BYTES / extent_of(Size::Small(class)),
+        _ => 0,
+    };
+    Seat { page, number }
+}
+
+/// What the mark of a taken cell tells.
+fn told_at(table: &Table, seat: Seat) -> Told
+    requires page { seat.page < table.now.pages }
+    requires number { seat.number < 256 }
+    requires taken { mark_at table.now seat.page seat.number ≢ Mark.Free }
+    ensures { mark_at table.now seat.page seat.number ≡ Mark.Taken result.colour result.flags }
+{
+    match table.mark_at(seat.page, seat.number) {
+        Mark::Taken(colour, flags) => Told { colour, flags },
+        Mark::Free => unreachable!(),
+    }
+}
+
+/// The least base at `from` or above of the taken cells that begin in a page.
+fn lowest_in_page(table: &Table, page: u32, from: u32) -> Option<u32>
+    requires kept { IsKept table.now }
+    requires page { page < table.now.pages }
+    ensures { let v = cells_of table.now in
+        MatchOption result (NoneInPage v page from) (λ base. IsLowestInPage v page from base) }
+{
+    let start = page * PAGE_BYTES;
+    match table.use_at(page) {
+        PageUse::Class(class) => lowest_small(table, page, class, from.saturating_sub(start)),
+        PageUse::First(_) => (from <= start).then_some(start),
+        PageUse::Unused | PageUse::Later(_) => None,
+    }
+}
+
+/// The base of the lowest taken cell of a page of a class that begins at least so many bytes into the page.
+fn lowest_small(table: &Table, page: u32, class: u32, offset: u32) -> Option<u32>
+    requires page { page < table.now.pages }
+    requires most { table.now.pages ≤ 4096 }
+    requires class { class < 19 }
+    ensures { MatchOption result (NoneIn table.now page class offset)
+        (λ base. IsLowestIn table.now page class offset base) }
+{
+    let size = extent_of(Size::Small(class));
+    let number = table.lowest_taken(page, offset.div_ceil(size), cells_per_page(class))?;
+    Some(page * PAGE_BYTES + number * size)
+}

@@ -1,0 +1,180 @@
+// The words of the cells' table, and what stands where in them.
+ghost use Rattle.std.specs.Prelude.{◌≡◌, ◌≢◌, ℕ, ◌+◌, ◌*◌, ◌<◌, ◌≤◌, length, MatchOption};
+ghost use Rattle.mm_sets.specs.Set.{members, IsSet, Admits};
+ghost use Rattle.mm_cells.specs.Marks.{NoneFree, IsLowestFree, AllFreeFrom, IsLowestTaken};
+ghost use Rattle.mm_cells.specs.Uses.{IsUse};
+ghost use Rattle.mm_cells.specs.Map.{use_at, mark_at, room_at, SetsUse, SetsMark, FreesPage, SetsRoom};
+ghost use Rattle.mm_cells.specs.Map.{NoPageWithRoom, IsLowestRoom};
+
+use crate::marks;
+use crate::marks::Mark;
+use crate::page_use::{PageUse, decode, encode};
+use mm_sets::{insert, lowest, remove, set_words};
+use mm_words::Words;
+use std::marker::Model;
+
+/// How many size classes there are.
+const CLASSES: u32 = 19;
+
+/// Makes a page a member of a set, or no member.
+fn set_member(set: &mut [u32], page: u32, is_member: bool)
+    requires { Admits page set.old }
+    ensures member { members set.new page ≡ is_member }
+    ensures others { (other : ℕ) → other ≢ page → members set.new other ≡ members set.old other }
+    ensures set { (limit : ℕ) → page < limit → IsSet limit set.old → IsSet limit set.new }
+{
+    if is_member {
+        insert(set, page);
+    } else {
+        remove(set, page);
+    }
+}
+
+/// A use for each page, marks for 256 cells of each page, and for each class the set of its pages that have room.
+pub(crate) struct Table {
+    words: Words,
+    pages: u32,
+}
+
+impl Model for Table {
+    ghost use Rattle.mm_cells.specs.Map.{Map, map_of, HasRoom};
+
+    ghost Value = { Map };
+
+    ghost view = { λ t. map_of t.words t.pages };
+
+    ghost invariant = { λ t. HasRoom t.words t.pages };
+}
+
+impl Table {
+    ghost use Rattle.mm_words.specs.Place.{place_of};
+    ghost use Rattle.mm_cells.specs.Map.{table_size, IsUntouched};
+
+    /// A table of unused pages. The words may hold anything.
+    pub fn make(words: Words, pages: u32) -> Table
+        requires two { 2 ≤ pages }
+        requires most { pages ≤ 4096 }
+        requires room { table_size pages ≤ length words.words }
+        ensures { IsUntouched (place_of words) pages result }
+    {
+        let mut words = words;
+        words.fill(0, pages, 0);
+        words.fill(33 * pages, CLASSES * set_words(pages), 0);
+        Table { words, pages }
+    }
+
+    /// The words, which may hold anything.
+    pub fn into_words(self) -> Words
+        ensures { place_of result ≡ self.place }
+    {
+        let Table { words, pages: _ } = self;
+        words
+    }
+
+    /// How many pages there are.
+    pub fn pages(&self) -> u32
+        ensures value { result ≡ self.now.pages }
+        ensures two { 2 ≤ self.now.pages }
+        ensures most { self.now.pages ≤ 4096 }
+    {
+        self.pages
+    }
+
+    /// What a page is used for.
+    pub fn use_at(&self, page: u32) -> PageUse
+        requires { page < self.now.pages }
+        ensures { result ≡ use_at self.now page }
+    {
+        decode(self.words.get(page))
+    }
+
+    pub fn set_use(&mut self, page: u32, page_use: PageUse)
+        requires within { page < self.old.pages }
+        requires small { IsUse page_use }
+        ensures { SetsUse self.old self.new page page_use }
+    {
+        self.words.set(page, encode(page_use));
+    }
+
+    /// The mark of a cell of a page.
+    pub fn mark_at(&self, page: u32, cell: u32) -> Mark
+        requires page { page < self.now.pages }
+        requires cell { cell < 256 }
+        ensures { result ≡ mark_at self.now page cell }
+    {
+        let marks = self.marks();
+        marks::mark_at(marks, 256 * page + cell)
+    }
+
+    pub fn set_mark(&mut self, page: u32, cell: u32, mark: Mark)
+        requires page { page < self.old.pages }
+        requires cell { cell < 256 }
+        ensures { SetsMark self.old self.new page cell mark }
+    {
+        marks::set_mark(
+            self.words.part_mut(self.pages, 32 * self.pages),
+            256 * page + cell,
+            mark,
+        );
+    }
+
+    /// Makes all 256 cells of a page free.
+    pub fn free_page(&mut self, page: u32)
+        requires { page < self.old.pages }
+        ensures { FreesPage self.old self.new page }
+    {
+        marks::fill_free(self.words.part_mut(self.pages, 32 * self.pages), 32 * page);
+    }
+
+    /// The lowest free one of the first cells of a page.
+    pub fn lowest_free(&self, page: u32, cells: u32) -> Option<u32>
+        requires page { page < self.now.pages }
+        requires cells { cells ≤ 256 }
+        ensures { let marks = mark_at self.now page in
+            MatchOption result (NoneFree marks cells) (λ cell. IsLowestFree marks cells cell) }
+    {
+        let marks = self.marks();
+        marks::lowest_free(marks, 32 * page, cells)
+    }
+
+    /// The lowest taken one of the cells of a page from `from` to before `cells`.
+    pub fn lowest_taken(&self, page: u32, from: u32, cells: u32) -> Option<u32>
+        requires page { page < self.now.pages }
+        requires cells { cells ≤ 256 }
+        ensures { let marks = mark_at self.now page in
+            MatchOption result (AllFreeFrom marks from cells) (λ cell. IsLowestTaken marks from cells cell) }
+    {
+        let marks = self.marks();
+        marks::lowest_taken(marks, 32 * page, from, cells)
+    }
+
+    /// The lowest page of a class that has room.
+    pub fn page_with_room(&self, class: u32) -> Option<u32>
+        requires { class < 19 }
+        ensures { MatchOption result (NoPageWithRoom self.now class) (λ page. IsLowestRoom self.now class page) }
+    {
+        let size = set_words(self.pages);
+        lowest(self.words.part(33 * self.pages + class * size, size))
+    }
+
+    /// Notes whether a page of a class has room.
+    pub fn set_room(&mut self, class: u32, page: u32, has_room: bool)
+        requires class { class < 19 }
+        requires page { page < self.old.pages }
+        ensures { SetsRoom self.old self.new class page has_room }
+    {
+        let size = set_words(self.pages);
+        let set = self.words.part_mut(33 * self.pages + class * size, size);
+        set_member(set, page, has_room);
+    }
+}
+
+impl Table {
+    fn marks(&self) -> &[u32]
+        ensures part { result.now ≡ self.now.marks }
+        ensures sized { length result.now ≡ 32 * self.now.pages }
+        ensures most { self.now.pages ≤ 4096 }
+    {
+        self.words.part(self.pages, 32 * self.pages)
+    }
+}
