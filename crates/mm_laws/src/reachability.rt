@@ -44,7 +44,7 @@ pub fn phases_spare_protected()
         → Spares a bases (IsProtected a) }
 {}
 
-/// A full collection leaves exactly the live objects that are reached.
+/// A full collection leaves exactly the live objects that are not unreached.
 pub fn collections_leave_what_is_reached()
     ensures exactly { (a : State) (bases : List ℕ) (birth : ℕ) (object : Object) → IsGood a → AreCollected a bases
         → Lives a birth object
