@@ -3,7 +3,7 @@ use Rattle.std.proofs.Common.{◌≡◌, ◌≢◌, ℕ, ◌*◌, ◌/◌, ◌<�
 use Rattle.std.specs.Prelude.{Option, Some, None, Result, Ok, Err, OnErr}
 use Rattle.std.proofs.lemmas.Bool.{cases_eq}
 use Rattle.std.proofs.lemmas.List.{get_or-set_same, get_or-set_other}
-use Rattle.mm_model.proofs.Sets.{get-set_cases}
+use Rattle.mm_model.proofs.Lists.Replaced.{get-set_cases}
 use Rattle.mm_pages.specs.Pages.{Pages, with_parked, IsFreeRun, IsSound}
 use Rattle.mm_cells.specs.Cells.{Taken, Cells, with_cell, Begins}
 use Rattle.mm_cells.specs.Parking.{IsPageOf, IsParked, Page_of_cells, Whole_pages, Fits}

@@ -28,7 +28,7 @@ scan_log a (base ∷ bases) = part_log a (birth_at a base) ++ scan_log (part_don
 -- another object isn't partly scanned
 abbrev is_turn : Option Cycle → ℕ → Bool
 is_turn None birth = true
-is_turn (Some cycle) birth = may_continue cycle.partial birth
+is_turn (Some cycle) birth = may_continue cycle.partly_scanned birth
 
 abbrev may_scan : State → ℕ → Object → Bool
 may_scan a birth object = is_live object && (is_gray (colour_in a.cycle birth) && is_turn a.cycle birth)
@@ -63,7 +63,7 @@ abbrev pub scan_checks : State → ℕ → List ℕ → Bool
 scan_checks a k bases = may_scan_all a bases && is_enough k (scan_log a bases) (parts_done a bases)
 
 turn_if : (cycle : Option Cycle) (birth : ℕ) → is_turn cycle birth ≡ true
-    → IfSome cycle (λ cycle. may_continue cycle.partial birth ≡ true)
+    → IfSome cycle (λ cycle. may_continue cycle.partly_scanned birth ≡ true)
 turn_if None birth e = tt
 turn_if (Some cycle) birth e = e
 

@@ -10,7 +10,7 @@ use Rattle.mm_model.specs.Words.{root_words, scanned_slots, counted_slots, names
 use Rattle.mm_model.specs.Reached.{IsReached}
 use Rattle.mm_model.specs.Reached as reached
 use Rattle.mm_model.specs.Reapable.{IsReapable, Reapable, only_slots_hold}
-use Rattle.mm_model.specs.Marking.{IsMarked, is_white, is_gray, colour_in}
+use Rattle.mm_model.specs.Marking.{IsKeptAtFinish, is_white, is_gray, colour_in}
 use Rattle.mm_model.specs.Marking as marking
 use Rattle.mm_examples.proofs.Members.{Numbered, numbered, living, has_birth, IsMember, each_implied, from_any, each_from_all, all_from_each, at_live, each_living, in_from_has_birth}
 use Rattle.mm_examples.proofs.Growth.{Joining, joined, is_closed, joined_each, has_birth_if_closed, any_with_birth}
@@ -87,29 +87,29 @@ white_if Black e = cc
 
 module _ (a : State) where
   marked_join : (members : List Numbered) (birth : ℕ) (object : Object)
-      → AllByRecursion (IsMember a (IsMarked a)) members → Lives a birth object
-      → joins_marked a members (numbered birth object) ≡ true → IsMarked a birth
+      → AllByRecursion (IsMember a (IsKeptAtFinish a)) members → Lives a birth object
+      → joins_marked a members (numbered birth object) ≡ true → IsKeptAtFinish a birth
   marked_join members birth object h lives e =
       let colour : Colour = colour_in a.cycle birth in
       ⊎_elim (λ (p : is_gray colour ≡ true). marking.Already birth object lives (gray_if colour p))
       (λ (p : (is_white colour && is_named_by members object) ≡ true).
       let parts = and_parts (is_white colour) (is_named_by members object) p in
-      from_any (λ by. names (scanned_slots by.object) object) (IsMarked a birth) members parts.1
-      (each_implied (IsMember a (IsMarked a))
-      (λ by. names (scanned_slots by.object) object ≡ true → IsMarked a birth)
+      from_any (λ by. names (scanned_slots by.object) object) (IsKeptAtFinish a birth) members parts.1
+      (each_implied (IsMember a (IsKeptAtFinish a))
+      (λ by. names (scanned_slots by.object) object ≡ true → IsKeptAtFinish a birth)
       (λ by is named.
       marking.By_slot birth object by.birth by.object lives (white_if colour parts.0) is.lives named is.in_set)
       members h))
       (or_cases (is_gray colour) (is_white colour && is_named_by members object) e)
 
-  marked_each : AllByRecursion (IsMember a (IsMarked a)) (marked_members a)
-  marked_each = joined_each (joins_marked a) a (IsMarked a) marked_join
+  marked_each : AllByRecursion (IsMember a (IsKeptAtFinish a)) (marked_members a)
+  marked_each = joined_each (joins_marked a) a (IsKeptAtFinish a) marked_join
 
-  pub marked_from_member : (birth : ℕ) → has_birth (marked_members a) birth ≡ true → IsMarked a birth
-  marked_from_member birth e = in_from_has_birth a (IsMarked a) (marked_members a) birth marked_each e
+  pub marked_from_member : (birth : ℕ) → has_birth (marked_members a) birth ≡ true → IsKeptAtFinish a birth
+  marked_from_member birth e = in_from_has_birth a (IsKeptAtFinish a) (marked_members a) birth marked_each e
 
   pub member_from_marked : is_closed (joins_marked a) a (marked_members a) ≡ true → (birth : ℕ)
-      → IsMarked a birth → has_birth (marked_members a) birth ≡ true
+      → IsKeptAtFinish a birth → has_birth (marked_members a) birth ≡ true
   member_from_marked closed n (marking.Already birth object lives gray) =
       has_birth_if_closed (joins_marked a) a (marked_members a) closed birth object lives
       (or_left (is_gray (colour_in a.cycle birth))
@@ -120,7 +120,7 @@ module _ (a : State) where
       (or_right (is_gray (colour_in a.cycle birth))
       (is_white (colour_in a.cycle birth) && is_named_by (marked_members a) object)
       (and_from (is_white (colour_in a.cycle birth)) (is_named_by (marked_members a) object) (ap is_white white)
-      (any_with_birth a (IsMarked a) (marked_members a) (λ o. names (scanned_slots o) object) by holder marked_each
+      (any_with_birth a (IsKeptAtFinish a) (marked_members a) (λ o. names (scanned_slots o) object) by holder marked_each
       lives_by named member)))
 
 module _ (a : State) where

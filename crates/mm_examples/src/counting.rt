@@ -36,12 +36,12 @@ pub fn ends()
 {}
 
 /// What 255 counted slots held once is left to a collection, and what 254 held isn't.
-pub fn stuck_counts()
+pub fn sticky_counts()
     ensures below { IsLogOf usual
         (new Counted 0 0 ∷ new Counted 254 254 ∷ puts 254 ++ Pop 2 ∷ Reap ∷ [])
         (made 4096 ∷ made 8192 ∷ replicate 254 done ++ done ∷ reaped 2 ∷ freed 4096 ∷ freed 8192 ∷ done ∷
         total 258 2 2 0 ∷ []) }
-    ensures stuck { IsLogOf usual
+    ensures sticky { IsLogOf usual
         (new Counted 0 0 ∷ new Counted 255 255 ∷ puts 255 ++ Pop 2 ∷ Reap ∷ Collect ∷ [])
         (made 4096 ∷ made 8192 ∷ replicate 255 done ++ done ∷ reaped 1 ∷ freed 8192 ∷ done ∷
         collected 1 ∷ freed 4096 ∷ done ∷ total 260 2 2 0 ∷ []) }

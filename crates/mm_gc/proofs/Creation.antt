@@ -12,10 +12,10 @@ use Rattle.mm_model.specs.declared.object.Size.TheVariants.{Small, Pages}
 use Rattle.mm_model.specs.Place.{Objects, place_among}
 use Rattle.mm_model.specs.Good.{AreApart, IsPlaced}
 use Rattle.mm_model.specs.ViewEffect.{held_piece, held_made, held_newborn}
-use Rattle.mm_model.proofs.Placing.{Goes, place_goes, both}
-use Rattle.mm_model.proofs.SizeClassLemmas.{class_fits}
-use Rattle.mm_model.proofs.Births.{size_of-IsSize, placed-push}
-use Rattle.mm_model.proofs.Room.{room_for_pieces}
+use Rattle.mm_model.proofs.Places.Placing.{Goes, place_goes, both}
+use Rattle.mm_model.proofs.Places.SizeClasses.{class_fits}
+use Rattle.mm_model.proofs.Good.Births.{size_of-IsSize, placed-push}
+use Rattle.mm_model.proofs.Places.Room.{room_for_pieces}
 use Rattle.mm_gc.specs.declared.object.Object.{Object}
 use Rattle.mm_gc.specs.declared.gc.Gc.TheInside.{Inside}
 use Rattle.mm_gc.specs.Built.{is_plain}

@@ -19,10 +19,10 @@ use Rattle.mm_model.specs.Words.{falls}
 use Rattle.mm_model.specs.Store.{is_counted_slot}
 use Rattle.mm_model.specs.View.{View, HeldObject, Shows}
 use Rattle.mm_model.specs.ViewEffect.{HeldEffect, held_resolved, held_slot_kind, held_new_effect, one_more_carried_out}
-use Rattle.mm_model.proofs.Around.{carried_out_is_good, shows-carried_out}
-use Rattle.mm_model.proofs.Creating.{Refines, place-shown, new-refines}
-use Rattle.mm_model.proofs.PlainEffects.{IsUncounted, plain-refines}
-use Rattle.mm_model.proofs.RefusalsShown.{is_told, refusal-shown}
+use Rattle.mm_model.proofs.Good.Around.{carried_out_is_good, shows-carried_out}
+use Rattle.mm_model.proofs.View.Creating.{Refines, place-shown, new-refines}
+use Rattle.mm_model.proofs.View.PlainEffects.{IsUncounted, plain-refines}
+use Rattle.mm_model.proofs.View.RefusalsShown.{is_told, refusal-shown}
 use Rattle.mm_gc.specs.Built.{IsBuilt, unless_refused, carried_effect, built_effect}
 use Rattle.mm_gc.specs.BuiltView.{held_unless_refused, held_carried, held_built}
 use Rattle.mm_gc.specs.Execution.{IsStep, IsAnswered}

@@ -8,7 +8,7 @@ use Rattle.mm_model.specs.Good.{IsInside, AreApart, AreAllApart, IsPlaced}
 use Rattle.mm_model.specs.Words.{falls}
 use Rattle.mm_model.specs.View.{HeldObject}
 use Rattle.mm_model.specs.ViewEffect.{held_resolved}
-use Rattle.mm_model.proofs.Placing.{each_weaker}
+use Rattle.mm_model.proofs.Places.Placing.{each_weaker}
 use Rattle.mm_gc.specs.declared.object.Object.{Object}
 use Rattle.mm_gc.specs.Held.{piece_of, pieces_of, held_of, first_slot}
 use Rattle.mm_gc.specs.declared.gc.Gc.TheInside.{Inside}

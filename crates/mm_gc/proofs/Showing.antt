@@ -16,7 +16,7 @@ use Rattle.mm_model.specs.Store.{is_counted_slot}
 use Rattle.mm_model.specs.Good.{AreAllApart}
 use Rattle.mm_model.specs.View.{View, HeldObject}
 use Rattle.mm_model.specs.ViewEffect.{held_slot_kind, begins_held_counted, held_refuses_word, falls_in_held_counted, held_store_reply, held_refs, is_held_zero_count, with_held_grayed, with_held_word, held_put, held_pushed, is_held_stack_full}
-use Rattle.mm_model.proofs.Keyed.{refuted}
+use Rattle.mm_model.proofs.Lists.Keyed.{refuted}
 use Rattle.mm_gc.specs.declared.object.Object.{Object}
 use Rattle.mm_gc.specs.Held.{piece_of, pieces_of, held_of, first_slot}
 use Rattle.mm_gc.specs.declared.gc.Gc.TheInside.{Inside}

@@ -13,9 +13,9 @@ use Rattle.mm_model.specs.SizeClass.{class_sizes, class_index, size_of, extent_o
 use Rattle.mm_model.specs.State.{State}
 use Rattle.mm_model.specs.Place.{Family, Piece, overlaps, live_pieces, first_from, is_vacant, is_page_of, free_cell, has_room, cell_place, place_among, place_of}
 use Rattle.mm_model.specs.Good.{AreApart, IsPlaced}
-use Rattle.mm_model.proofs.Tests.{first_from-Some, first_from-None}
-use Rattle.mm_model.proofs.SizeClassLemmas.{class_bounds, class_of_small, class_fits}
-use Rattle.mm_model.proofs.Placing.{mapped, both, IsSize, place_goes}
+use Rattle.mm_model.proofs.Lists.Tests.{first_from-Some, first_from-None}
+use Rattle.mm_model.proofs.Places.SizeClasses.{class_bounds, class_of_small, class_fits}
+use Rattle.mm_model.proofs.Places.Placing.{mapped, both, IsSize, place_goes}
 use Rattle.mm_laws.specs.Lowest.{piece_of, Fits, IsRun, IsFreeCell, IsNowhere, IsLowest, IsLowestOf, IsPreferred, Of_first, Of_second}
 use Rattle.mm_laws.proofs.Truth.{together, not-false, no_other}
 

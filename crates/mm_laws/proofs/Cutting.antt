@@ -6,8 +6,8 @@ use Rattle.std.proofs.lemmas.List.{append-nil}
 use Rattle.mm_model.specs.declared.command.Command.{Command}
 use Rattle.mm_model.specs.declared.refusal.LineFault.{LineFault}
 use Rattle.mm_model.specs.Trace.{lines_of, FaultAt, Reading, reading_before, reading_from, line_reading, trace_reading}
-use Rattle.mm_model.proofs.TraceLemmas.{Cuts, Cuts-none, Cuts-byte, Cuts-newline, lines_of-cuts, reading_from-clean, reading_from-fault}
-use Rattle.mm_model.proofs.FaultLemmas.{lines_of-after}
+use Rattle.mm_model.proofs.Text.Traces.{Cuts, Cuts-none, Cuts-byte, Cuts-newline, lines_of-cuts, reading_from-clean, reading_from-fault}
+use Rattle.mm_model.proofs.Text.Faults.{lines_of-after}
 use Rattle.mm_laws.specs.Faults.{raised_by}
 
 -- the lines that newlines end, and the bytes after the last of them

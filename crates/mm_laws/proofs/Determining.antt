@@ -27,8 +27,8 @@ use Rattle.mm_model.specs.Effect.{Effect, done, new_effect, weak_effect, area_ef
 use Rattle.mm_model.specs.Refusing.{refusal}
 use Rattle.mm_model.specs.Step.{Makes, IsPlain, MakesWeak, Carries, is_full, Ends, Refused_as_full, Below_threshold, At_threshold, IsCarriedOut, IsStepUnless, IsStep}
 use Rattle.mm_model.specs.After.{phases_in, scanned_bases, first_phase, later_phases, Searched, collected_unless, reaped_unless, searched, Row, row_made, birth_at, part_done_at, parts_done, weak_row, row_after, ended, after_unless, after}
-use Rattle.mm_model.proofs.Placing.{both}
-use Rattle.mm_model.proofs.Living.{lives_once_at}
+use Rattle.mm_model.proofs.Places.Placing.{both}
+use Rattle.mm_model.proofs.Good.Living.{lives_once_at}
 use Rattle.mm_laws.proofs.Groups.{phases_in-phase_lines, scanned_bases-phase_lines}
 use Rattle.mm_laws.proofs.Truth.{together}
 

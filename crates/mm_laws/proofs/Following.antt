@@ -9,8 +9,8 @@ use Rattle.mm_model.specs.Object.{Object, is_weak}
 use Rattle.mm_model.specs.State.{State}
 use Rattle.mm_model.specs.Phase.{is_freed, is_freed_birth, unless_freed, after_release}
 use Rattle.mm_model.specs.Effect.{weak_made}
-use Rattle.mm_model.proofs.Lists.{get-front}
-use Rattle.mm_model.proofs.Sets.{get-set_same, get-set_other}
+use Rattle.mm_model.proofs.Lists.Growing.{get-front}
+use Rattle.mm_model.proofs.Lists.Replaced.{get-set_same, get-set_other}
 use Rattle.mm_model.specs.Course.{IsGone}
 use Rattle.mm_laws.specs.WeakReferences.{IsTarget, Partner, Freed, IsMadeFor}
 

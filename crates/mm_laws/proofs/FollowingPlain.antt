@@ -7,22 +7,22 @@ use Rattle.mm_model.specs.Value.{Value, words_of}
 use Rattle.mm_model.specs.Object.{Object}
 use Rattle.mm_model.specs.State.{State, Area}
 use Rattle.mm_model.specs.Words.{SlotKind, slot_kind, cell_kind}
-use Rattle.mm_model.specs.Count.{stuck, with_stuck}
+use Rattle.mm_model.specs.Count.{made_sticky, with_sticky}
 use Rattle.mm_model.specs.Marking.{is_raw, is_passed, with_grayed, barrier}
 use Rattle.mm_model.specs.Store.{is_counted_slot, recounted, with_object, with_slot, with_cell, put_in_slot, put_in_cell}
 use Rattle.mm_model.specs.Meaning.{meant_at, object_meant}
 use Rattle.mm_model.specs.Areas.{area_at, with_changed_area}
 use Rattle.mm_model.specs.Effect.{Effect, with_some, look_effect, pushes_object, plain_effect}
-use Rattle.mm_model.proofs.Sets.{map-set_alike, map-map_alike}
+use Rattle.mm_model.proofs.Lists.Replaced.{map-set_alike, map-map_alike}
 use Rattle.mm_laws.proofs.Following.{marks, HasSameMarks}
 
-same_marks-stuck : (a : State) (base : ℕ) → HasSameMarks a (with_stuck base a)
-same_marks-stuck a base = map-map_alike marks (stuck a base) (λ object. refl) a.objects
+same_marks-made_sticky : (a : State) (base : ℕ) → HasSameMarks a (with_sticky base a)
+same_marks-made_sticky a base = map-map_alike marks (made_sticky a base) (λ object. refl) a.objects
 
 same_marks-recounted : (kind : SlotKind) (old new : ℕ) (a : State) → HasSameMarks a (recounted kind old new a)
 same_marks-recounted kind old new a =
-    let split : (b : Bool) → HasSameMarks a (if b then with_stuck new a else a) =
-    elim [ true ↦ same_marks-stuck a new | false ↦ refl ] in
+    let split : (b : Bool) → HasSameMarks a (if b then with_sticky new a else a) =
+    elim [ true ↦ same_marks-made_sticky a new | false ↦ refl ] in
     split (is_counted_slot kind && not (old == new))
 
 same_marks-barrier : (kind : SlotKind) (birth s word : ℕ) (a : State) → HasSameMarks a (barrier kind birth s word a)

@@ -8,7 +8,7 @@ use Rattle.mm_model.specs.State.{State, Lives}
 use Rattle.mm_model.specs.Reached.{IsUnreached}
 use Rattle.mm_model.specs.Phase.{lists, is_freed, unless_freed, after_release, collected, AreCollected}
 use Rattle.mm_model.specs.Good.{IsGood}
-use Rattle.mm_model.proofs.Closing.{dead_listed}
+use Rattle.mm_model.proofs.Good.Closing.{dead_listed}
 
 live_or_gone : (gone : Bool) → gone ≡ true → not gone ≡ true → ⊥
 live_or_gone true e f = cc

@@ -10,11 +10,11 @@ use Rattle.mm_model.specs.Count.{is_zero_count}
 use Rattle.mm_model.specs.Reapable.{IsReapable, Reapable, only_slots_hold}
 use Rattle.mm_model.specs.Protected.{IsProtected, By_stack, By_area, By_counted_cell, By_slot, By_counted_slot}
 use Rattle.mm_model.specs.Reached.{IsReached, By_root, By_slot as Reached_by_slot}
-use Rattle.mm_model.proofs.Keyed.{refuted}
-use Rattle.mm_model.proofs.Placing.{both}
+use Rattle.mm_model.proofs.Lists.Keyed.{refuted}
+use Rattle.mm_model.proofs.Places.Placing.{both}
 use Rattle.mm_laws.proofs.Truth.{together, not_true, not-false, no_other}
-use Rattle.mm_model.proofs.Passing.{any-front, any-back, any-flat_map, any-none_counted, any-weaker, any-flat_map-weaker, any-words_take, any-words_drop}
-use Rattle.mm_model.proofs.Living.{lives_extent, lives_same}
+use Rattle.mm_model.proofs.Lists.Passing.{any-front, any-back, any-flat_map, any-none_counted, any-weaker, any-flat_map-weaker, any-words_take, any-words_drop}
+use Rattle.mm_model.proofs.Good.Living.{lives_extent, lives_same}
 
 -- what a zero-count object is
 record IsUncounted (a : State) (object : Object) : Type 0 where

@@ -6,12 +6,12 @@ use Rattle.mm_model.specs.Good.{IsGood}
 use Rattle.mm_model.specs.Protected.{IsProtected}
 use Rattle.mm_model.specs.Reached.{IsReached, IsUnreached}
 use Rattle.mm_model.specs.Reapable.{IsReapable}
-use Rattle.mm_model.specs.Marking.{IsUnmarked}
+use Rattle.mm_model.specs.Marking.{IsFreedAtFinish}
 use Rattle.mm_model.specs.Phase.{AreReaped, AreCollected, AreFinished}
 use Rattle.mm_laws.specs.Sparing.{Spares}
-use Rattle.mm_model.proofs.Closing.{dead_listed}
+use Rattle.mm_model.proofs.Good.Closing.{dead_listed}
 use Rattle.mm_laws.proofs.Reaching.{reapable_is_not_protected, protected_is_reached}
-use Rattle.mm_model.proofs.CycleLaws.{unmarked_is_not_reached}
+use Rattle.mm_model.proofs.Cycle.Marked.{unmarked_is_not_reached}
 
 pub reap-spares : (a : State) (bases : List ℕ) → IsGood a → AreReaped a bases → Spares a bases (IsProtected a)
 reap-spares a bases good are birth object lives own h =
@@ -25,7 +25,7 @@ pub finish-spares : (a : State) (bases : List ℕ) → IsGood a → IsTrue (is_s
     → Spares a bases (IsReached a)
 finish-spares a bases good runs are birth object lives own h =
     unmarked_is_not_reached a birth good runs
-    (dead_listed a (IsUnmarked a) bases good.placed are birth object lives h) own
+    (dead_listed a (IsFreedAtFinish a) bases good.placed are birth object lives h) own
 
 -- what spares all that is reached spares all that is protected
 pub spares-protected : (a : State) (bases : List ℕ) → IsGood a → Spares a bases (IsReached a)

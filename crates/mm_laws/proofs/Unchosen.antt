@@ -14,7 +14,7 @@ use Rattle.mm_model.specs.declared.line.Phase.TheVariants.{Reap, Collect}
 use Rattle.mm_model.specs.SizeClass.{object_bytes, area_bytes}
 use Rattle.mm_model.specs.Place.{Family, Objects, Areas, live_pieces}
 use Rattle.mm_model.specs.Good.{IsGood, IsPlaced}
-use Rattle.mm_model.specs.Marking.{IsUnmarked}
+use Rattle.mm_model.specs.Marking.{IsFreedAtFinish}
 use Rattle.mm_model.specs.Reapable.{IsReapable}
 use Rattle.mm_model.specs.Reached.{IsUnreached}
 use Rattle.mm_model.specs.Phase.{lists, IsAscending, AreBasesOf, AreReaped, AreCollected, phase_lines, reaped}
@@ -25,7 +25,7 @@ use Rattle.mm_model.specs.Step.{Makes, IsPlain, MakesWeak, MakesWeakOf, Reaps, C
 use Rattle.mm_model.specs.After.{Row, row_after}
 use Rattle.mm_laws.proofs.Determining.{row_as, row-is}
 use Rattle.mm_laws.proofs.Truth.{no_other}
-use Rattle.mm_model.proofs.Placing.{some_with}
+use Rattle.mm_model.proofs.Places.Placing.{some_with}
 
 -- what stands in a list that begins with a base
 listed : (x : ℕ) (xs : List ℕ) (base : ℕ) → lists (x ∷ xs) base ≡ true → (x ≡ base) ⊎ (lists xs base ≡ true)
@@ -171,7 +171,7 @@ row-same a commands.Collect log other effect again not_step p q =
     let bases = bases-same a (IsUnreached a) p.0.lost q.0.lost p.0.unreached q.0.unreached in
     p.0.log_is ∙ ap (phase_lines Collect a) bases ∙ sym q.0.log_is
 row-same a commands.Finish log other effect again not_step p q =
-    let bases = bases-same a (IsUnmarked a) p.0.lost q.0.lost p.0.unmarked q.0.unmarked in
+    let bases = bases-same a (IsFreedAtFinish a) p.0.lost q.0.lost p.0.unmarked q.0.unmarked in
     p.0.log_is ∙ ap (phase_lines Collect a) bases ∙ sym q.0.log_is
 row-same a (commands.Step k) log other effect again not_step p q = absurd (not_step k refl)
 row-same a command log other effect again not_step p q =

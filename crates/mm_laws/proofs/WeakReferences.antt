@@ -16,9 +16,9 @@ use Rattle.mm_model.specs.Effect.{Effect, weak_shape, weak_made, with_some, weak
 use Rattle.mm_model.specs.Refusing.{refusal}
 use Rattle.mm_model.specs.Good.{IsPaired, IsGood}
 use Rattle.mm_model.specs.Step.{MakesWeak, Ends, Refused_as_full, Below_threshold, At_threshold, IsStepUnless, IsStep}
-use Rattle.mm_model.proofs.Lists.{get-last}
-use Rattle.mm_model.proofs.Living.{lives_from_page_1}
-use Rattle.mm_model.proofs.Steps.{step_is_good}
+use Rattle.mm_model.proofs.Lists.Growing.{get-last}
+use Rattle.mm_model.proofs.Good.Living.{lives_from_page_1}
+use Rattle.mm_model.proofs.Good.Steps.{step_is_good}
 use Rattle.mm_model.specs.Course.{IsGone}
 use Rattle.mm_laws.specs.WeakReferences.{IsTarget, Partner, Freed, IsMadeFor}
 use Rattle.mm_laws.proofs.Following.{Keeps, made_for-kept, keeps-then}

@@ -9,7 +9,7 @@ use Rattle.std.proofs.lemmas.List.Splits.{slice_split_at, slice_split_none, join
 use Rattle.std.proofs.lemmas.List.Sums.{AllPass-from_list_all}
 use Rattle.mm_model.specs.Spelling.{sentence}
 use Rattle.mm_model.specs.Trace.{pieces_of}
-use Rattle.mm_model.proofs.TraceLemmas.{NoNewline}
+use Rattle.mm_model.proofs.Text.Traces.{NoNewline}
 
 -- each byte stands above the space, and so above the newline too
 abbrev pub IsWord : List ℕ → Type 0

@@ -6,7 +6,7 @@ ghost use Rattle.mm_model.specs.declared.line.Line.{Line};
 ghost use Rattle.mm_model.specs.Object.{Object};
 ghost use Rattle.mm_model.specs.State.{State, Lives};
 ghost use Rattle.mm_model.specs.Reached.{IsReached};
-ghost use Rattle.mm_model.specs.Marking.{IsUnmarked, IsMarkReached};
+ghost use Rattle.mm_model.specs.Marking.{IsFreedAtFinish, IsMarked};
 ghost use Rattle.mm_model.specs.Throughout.{IsThroughout};
 ghost use Rattle.mm_model.specs.Course.{IsCourse, IsGone, latest};
 ghost use Rattle.mm_model.specs.Good.{IsGood};
@@ -15,22 +15,22 @@ ghost use Rattle.mm_model.specs.Step.{IsStep};
 /// After `begin` marking reaches nothing that isn't reached.
 pub fn begin_marks_only_what_is_reached()
     ensures { (a : State) (group : List Line) (b : State) → IsStep a commands.Begin group b → a.cycle ≡ None
-        → (birth : ℕ) → IsMarkReached b birth → IsReached b birth }
+        → (birth : ℕ) → IsMarked b birth → IsReached b birth }
 {}
 
 /// While a cycle runs, what marking comes to reach is reached.
 pub fn marking_gains_only_what_is_reached()
     ensures { (a : State) (command : Command) (group : List Line) (b : State) → IsGood a
         → a.settings.pages ≤ a.settings.max → IsStep a command group b → IsTrue (is_some a.cycle)
-        → IsTrue (is_some b.cycle) → (birth : ℕ) → IsMarkReached b birth → (object : Object)
-        → Lives a birth object → IsMarkReached a birth ⊎ IsReached b birth }
+        → IsTrue (is_some b.cycle) → (birth : ℕ) → IsMarked b birth → (object : Object)
+        → Lives a birth object → IsMarked a birth ⊎ IsReached b birth }
 {}
 
 /// `finish` frees exactly the live objects that are neither reached nor reached by marking.
 pub fn finish_frees_what_neither_reaches()
     ensures { (a : State) (birth : ℕ) (object : Object) → IsGood a → IsTrue (is_some a.cycle)
         → Lives a birth object
-        → IsUnmarked a birth ↔ ((IsMarkReached a birth → ⊥) × (IsReached a birth → ⊥)) }
+        → IsFreedAtFinish a birth ↔ ((IsMarked a birth → ⊥) × (IsReached a birth → ⊥)) }
 {}
 
 /// An incremental cycle leaves nothing that was unreachable throughout it.

@@ -7,7 +7,7 @@ ghost use Rattle.mm_model.specs.Count.{is_zero_count};
 ghost use Rattle.mm_model.specs.Protected.{IsProtected};
 ghost use Rattle.mm_model.specs.Reached.{IsReached, IsUnreached};
 ghost use Rattle.mm_model.specs.Reapable.{IsReapable};
-ghost use Rattle.mm_model.specs.Marking.{IsUnmarked};
+ghost use Rattle.mm_model.specs.Marking.{IsFreedAtFinish};
 ghost use Rattle.mm_model.specs.Phase.{AreReaped, AreCollected, AreFinished, collected};
 ghost use Rattle.mm_model.specs.Good.{IsGood};
 ghost use Rattle.mm_laws.specs.Sparing.{Spares};
@@ -31,7 +31,7 @@ pub fn protected_is_reached()
 
 /// What marking leaves white once the roots are looked at again isn't reached, however far marking has come.
 pub fn unmarked_is_not_reached()
-    ensures { (a : State) (birth : ℕ) → IsGood a → IsTrue (is_some a.cycle) → IsUnmarked a birth → IsReached a birth
+    ensures { (a : State) (birth : ℕ) → IsGood a → IsTrue (is_some a.cycle) → IsFreedAtFinish a birth → IsReached a birth
         → ⊥ }
 {}
 

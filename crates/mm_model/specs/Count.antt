@@ -25,9 +25,9 @@ abbrev pub names_counted : State → ℕ → Bool
 names_counted a word = list_any (begins_counted word) a.objects
 
 -- The object at this base becomes sticky, for good, where 255 counted places hold it.
-abbrev pub stuck : State → ℕ → Object → Object
-stuck a base object =
+abbrev pub made_sticky : State → ℕ → Object → Object
+made_sticky a base object =
     record object { sticky = object.sticky || (begins_counted base object && nat_le 255 (refs a base)) }
 
-abbrev pub with_stuck : ℕ → State → State
-with_stuck base a = record a { objects = map (stuck a base) a.objects }
+abbrev pub with_sticky : ℕ → State → State
+with_sticky base a = record a { objects = map (made_sticky a base) a.objects }

@@ -6,7 +6,7 @@ use Rattle.mm_model.specs.SizeClass.{class_sizes}
 use Rattle.mm_model.specs.Place.{Piece, overlaps, live_pieces}
 use Rattle.mm_model.specs.Value.{Value}
 use Rattle.mm_model.specs.Object.{Object, is_counted, is_weak}
-use Rattle.mm_model.specs.State.{State, Area, Cycle, Partial, Lives}
+use Rattle.mm_model.specs.State.{State, Area, Cycle, PartlyScanned, Lives}
 use Rattle.mm_model.specs.Words.{SlotKind, slot_kind, cell_kind, scanned_slots, counted_words, names, falls}
 use Rattle.mm_model.specs.Meaning.{stored}
 use Rattle.mm_model.specs.Count.{refs, names_counted}
@@ -86,13 +86,13 @@ NamesNoWhite a cycle words =
 
 -- The partly scanned object lives and is gray, some of its slots are done and some aren't, and no word of those that are
 -- falls in a white object.
-pub record IsPartial (a : State) (cycle : Cycle) (partial : Partial) : Type 0 where
+pub record IsPartlyScanned (a : State) (cycle : Cycle) (partly_scanned : PartlyScanned) : Type 0 where
   pub object : Object
-  pub lives : Lives a partial.object object
-  pub gray : colour_of cycle partial.object ≡ Gray
-  pub some_done : 1 ≤ partial.done
-  pub some_left : partial.done < length (scanned_slots object)
-  pub names : NamesNoWhite a cycle (take partial.done (scanned_slots object))
+  pub lives : Lives a partly_scanned.object object
+  pub gray : colour_of cycle partly_scanned.object ≡ Gray
+  pub some_done : 1 ≤ partly_scanned.slots_done
+  pub some_left : partly_scanned.slots_done < length (scanned_slots object)
+  pub names : NamesNoWhite a cycle (take partly_scanned.slots_done (scanned_slots object))
 
 -- areas stand by ascending number, each below the greatest number of areas
 pub record AreNumbered (areas : List Area) : Type 0 where
@@ -104,7 +104,7 @@ pub record IsColoured (a : State) (cycle : Cycle) : Type 0 where
   pub each : length cycle.colours ≡ length a.objects
   pub black : (birth : ℕ) (object : Object) → Lives a birth object → colour_of cycle birth ≡ Black
       → NamesNoWhite a cycle (scanned_slots object)
-  pub partial : IfSome cycle.partial (IsPartial a cycle)
+  pub partly_scanned : IfSome cycle.partly_scanned (IsPartlyScanned a cycle)
 
 pub record IsGood (a : State) : Type 0 where
   -- blocks never overlap

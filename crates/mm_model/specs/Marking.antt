@@ -1,11 +1,11 @@
--- Incremental marking, by three colours. Outside of `put`, `begin` and a scan of a part, no word of a scanned slot of a
--- black object falls in a white one.
+-- Incremental marking, by three colours. In a cycle no word of a scanned slot of a black object falls in a white one.
+-- Within `put` alone this may be broken, between the store and the barrier.
 use Rattle.std.specs.Prelude.{◌≡◌, ℕ, ◌+◌, Bool, true, false, not, if◌then◌else◌, ◌&&◌, ◌||◌, ◌==◌, nat_lt, IsTrue, List, [], ◌∷◌, replicate, length, take, drop, Option, Some, None, slice_index_or, slice_set}
 use Rattle.std.specs.Option.{option_map, IfSome}
 use Rattle.mm_model.specs.declared.object.Colour.{Colour}
 use Rattle.mm_model.specs.declared.object.Colour.TheVariants.{White, Gray, Black}
 use Rattle.mm_model.specs.Object.{Object, is_live}
-use Rattle.mm_model.specs.State.{State, Cycle, Partial, Lives, gone_count}
+use Rattle.mm_model.specs.State.{State, Cycle, PartlyScanned, Lives, gone_count}
 use Rattle.mm_model.specs.Words.{SlotKind, CountedSlot, WordSlot, RawSlot, root_words, scanned_slots, names}
 
 abbrev pub is_white : Colour → Bool
@@ -51,43 +51,39 @@ begun a =
       cycle = Some (record {
         colours = grayed (root_words a) a.objects (replicate (length a.objects) White);
         gone = gone_count a;
-        partial = None;
+        partly_scanned = None;
       });
     }
 
-abbrev pub is_partial : Option Partial → ℕ → Bool
-is_partial None birth = false
-is_partial (Some partial) birth = partial.object == birth
-
--- how many slots of the object are scanned: those that are done if it is the partly scanned one, and else none
-abbrev pub done_in : Option Partial → ℕ → ℕ
+-- how many slots of the partly scanned object are done, and 0 for any other, also for one that is scanned to its end
+abbrev pub done_in : Option PartlyScanned → ℕ → ℕ
 done_in None birth = 0
-done_in (Some partial) birth = if partial.object == birth then partial.done else 0
+done_in (Some partly_scanned) birth = if partly_scanned.object == birth then partly_scanned.slots_done else 0
 
 abbrev pub done_of : Option Cycle → ℕ → ℕ
 done_of None birth = 0
-done_of (Some cycle) birth = done_in cycle.partial birth
+done_of (Some cycle) birth = done_in cycle.partly_scanned birth
 
 -- A part has at most 64 slots, from the first that isn't done on.
 abbrev pub part_slots : State → ℕ → Object → List ℕ
 part_slots a birth object = take 64 (drop (done_of a.cycle birth) (scanned_slots object))
 
 -- where an object is partly scanned, no other one is scanned
-abbrev pub may_continue : Option Partial → ℕ → Bool
+abbrev pub may_continue : Option PartlyScanned → ℕ → Bool
 may_continue None birth = true
-may_continue (Some partial) birth = partial.object == birth
+may_continue (Some partly_scanned) birth = partly_scanned.object == birth
 
 -- an object that can be scanned next lives and is gray
 pub record MayScan (a : State) (birth : ℕ) (object : Object) : Type 0 where
   pub lives : Lives a birth object
   pub gray : colour_in a.cycle birth ≡ Gray
-  pub turn : IfSome a.cycle (λ cycle. IsTrue (may_continue cycle.partial birth))
+  pub turn : IfSome a.cycle (λ cycle. IsTrue (may_continue cycle.partly_scanned birth))
 
 -- The part that reaches the last scanned slot makes the object black. Another one leaves it partly scanned.
 abbrev pub advanced : ℕ → ℕ → ℕ → Cycle → Cycle
 advanced birth done all cycle =
-    if done == all then record cycle { colours = slice_set cycle.colours birth Black; partial = None }
-    else record cycle { partial = Some (record { object = birth; done = done }) }
+    if done == all then record cycle { colours = slice_set cycle.colours birth Black; partly_scanned = None }
+    else record cycle { partly_scanned = Some (record { object = birth; slots_done = done }) }
 
 -- the state after a part of the object
 abbrev pub part_done : State → ℕ → Object → State
@@ -108,7 +104,7 @@ is_raw RawSlot = true
 abbrev pub is_passed : Option Cycle → ℕ → ℕ → Bool
 is_passed None birth s = false
 is_passed (Some cycle) birth s =
-    is_black (colour_of cycle birth) || nat_lt s (done_in cycle.partial birth)
+    is_black (colour_of cycle birth) || nat_lt s (done_in cycle.partly_scanned birth)
 
 -- The write barrier: where a word is stored in a scanned slot that marking has passed, the white object in which it
 -- falls becomes gray.
@@ -118,21 +114,21 @@ barrier kind birth s word a =
 
 -- what `finish` marks: the least set that holds the gray objects and each white one in which the word of a scanned slot
 -- of a member falls
-pub data IsMarked (a : State) : ℕ → Type 0 where
-  Already : (birth : ℕ) (object : Object) → Lives a birth object → colour_in a.cycle birth ≡ Gray → IsMarked a birth
+pub data IsKeptAtFinish (a : State) : ℕ → Type 0 where
+  Already : (birth : ℕ) (object : Object) → Lives a birth object → colour_in a.cycle birth ≡ Gray → IsKeptAtFinish a birth
   By_slot : (birth : ℕ) (object : Object) (by : ℕ) (holder : Object) → Lives a birth object
       → colour_in a.cycle birth ≡ White → Lives a by holder → IsTrue (names (scanned_slots holder) object)
-      → IsMarked a by → IsMarked a birth
+      → IsKeptAtFinish a by → IsKeptAtFinish a birth
 
 -- what `finish` frees: with the objects gray that the stack and scanned areas name, the white ones that aren't marked
-pub record IsUnmarked (a : State) (birth : ℕ) : Type 0 where
+pub record IsFreedAtFinish (a : State) (birth : ℕ) : Type 0 where
   pub white : colour_in (with_grayed (root_words a) a).cycle birth ≡ White
-  pub unmarked : IsMarked (with_grayed (root_words a) a) birth → ⊥
+  pub unmarked : IsKeptAtFinish (with_grayed (root_words a) a) birth → ⊥
 
 -- What marking still reaches: the least set of live objects that holds the gray and the black ones, and each in which
 -- the word of a scanned slot of a member falls.
-pub data IsMarkReached (a : State) : ℕ → Type 0 where
+pub data IsMarked (a : State) : ℕ → Type 0 where
   Already : (birth : ℕ) (object : Object) → Lives a birth object → IsTrue (not (is_white (colour_in a.cycle birth)))
-      → IsMarkReached a birth
+      → IsMarked a birth
   By_slot : (birth : ℕ) (object : Object) (by : ℕ) (holder : Object) → Lives a birth object → Lives a by holder
-      → IsTrue (names (scanned_slots holder) object) → IsMarkReached a by → IsMarkReached a birth
+      → IsTrue (names (scanned_slots holder) object) → IsMarked a by → IsMarked a birth

@@ -7,11 +7,11 @@ use Rattle.mm_model.specs.declared.line.Line.TheVariants as lines
 use Rattle.mm_model.specs.declared.line.Phase.{Phase}
 use Rattle.mm_model.specs.Value.{words_of}
 use Rattle.mm_model.specs.Object.{Object, is_live}
-use Rattle.mm_model.specs.State.{State, Cycle, Partial, Lives, lives_at}
+use Rattle.mm_model.specs.State.{State, Cycle, PartlyScanned, Lives, lives_at}
 use Rattle.mm_model.specs.Count.{zero_count}
 use Rattle.mm_model.specs.Reapable.{IsReapable}
 use Rattle.mm_model.specs.Reached.{IsUnreached}
-use Rattle.mm_model.specs.Marking.{IsUnmarked}
+use Rattle.mm_model.specs.Marking.{IsFreedAtFinish}
 
 abbrev pub lists : List ℕ → ℕ → Bool
 lists bases base = list_any (λ b. b == base) bases
@@ -58,13 +58,13 @@ after_release a bases object =
     if is_freed bases object then record object { gone = true }
     else record object { partner = unless_freed a bases object.partner }
 
-abbrev pub partial_left : State → List ℕ → Option Partial → Option Partial
-partial_left a bases None = None
-partial_left a bases (Some partial) = if is_freed_birth a bases partial.object then None else Some partial
+abbrev pub partly_scanned_left : State → List ℕ → Option PartlyScanned → Option PartlyScanned
+partly_scanned_left a bases None = None
+partly_scanned_left a bases (Some partly_scanned) = if is_freed_birth a bases partly_scanned.object then None else Some partly_scanned
 
 -- a freed object isn't partly scanned any more
 abbrev pub cycle_left : State → List ℕ → Cycle → Cycle
-cycle_left a bases cycle = record cycle { partial = partial_left a bases cycle.partial }
+cycle_left a bases cycle = record cycle { partly_scanned = partly_scanned_left a bases cycle.partly_scanned }
 
 -- the state without the live objects at these bases
 abbrev pub released : List ℕ → State → State
@@ -92,4 +92,4 @@ AreCollected a bases = AreBasesOf a (IsUnreached a) bases
 
 -- `finish` frees exactly what marking didn't reach
 abbrev pub AreFinished : State → List ℕ → Type 0
-AreFinished a bases = AreBasesOf a (IsUnmarked a) bases
+AreFinished a bases = AreBasesOf a (IsFreedAtFinish a) bases

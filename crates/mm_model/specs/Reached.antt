@@ -1,4 +1,5 @@
--- Which objects are conservatively reached: every word that falls in an object counts as a reference to it.
+-- Which objects are conservatively reached: a stack word, a word of a scanned area and the word of a scanned slot of a
+-- reached object each count as a reference to the object in which they fall.
 use Rattle.std.specs.Prelude.{ℕ, IsTrue}
 use Rattle.mm_model.specs.Object.{Object}
 use Rattle.mm_model.specs.State.{State, Lives}

@@ -20,16 +20,16 @@ pub record Area : Type 0 where
   pub cells : List Value
 
 -- an object that marking has scanned in part: its birth number, and how many of its slots are done
-pub record Partial : Type 0 where
+pub record PartlyScanned : Type 0 where
   pub object : ℕ
-  pub done : ℕ
+  pub slots_done : ℕ
 
 pub record Cycle : Type 0 where
   -- by birth number; that of a gone object says nothing
   pub colours : List Colour
   -- how many objects were gone when the cycle began
   pub gone : ℕ
-  pub partial : Option Partial
+  pub partly_scanned : Option PartlyScanned
 
 pub record State : Type 0 where
   -- by birth number

@@ -8,7 +8,7 @@ use Rattle.mm_model.specs.Object.{Object, is_counted}
 use Rattle.mm_model.specs.State.{State, Area}
 use Rattle.mm_model.specs.Words.{SlotKind, CountedSlot, WordSlot, RawSlot, slot_kind, cell_kind}
 use Rattle.mm_model.specs.Meaning.{falls_in, stored}
-use Rattle.mm_model.specs.Count.{with_stuck, names_counted}
+use Rattle.mm_model.specs.Count.{with_sticky, names_counted}
 use Rattle.mm_model.specs.Marking.{barrier}
 use Rattle.mm_model.specs.Areas.{with_changed_area}
 
@@ -23,7 +23,7 @@ refuses_word a kind word = is_counted_slot kind && not (word == 0) && not (names
 
 -- Where a counted slot gets another word, the object that it now names may become sticky.
 abbrev pub recounted : SlotKind → ℕ → ℕ → State → State
-recounted kind old new a = if is_counted_slot kind && not (old == new) then with_stuck new a else a
+recounted kind old new a = if is_counted_slot kind && not (old == new) then with_sticky new a else a
 
 abbrev pub with_object : ℕ → Object → State → State
 with_object birth object a = record a { objects = slice_set a.objects birth object }
@@ -49,7 +49,8 @@ put_in_cell a area s value =
     recounted (cell_kind area s) (slice_index (words_of area.cells) s) value.word
     (with_changed_area (with_cell a area s value) a)
 
--- a word that falls in a live counted object and that no counted slot takes doesn't keep the object
+-- A word that falls in a live counted object and is stored where no counted slot is. Marking still reaches the object by
+-- it, if the place is scanned. A reap may free it.
 abbrev pub is_loose : State → SlotKind → ℕ → Bool
 is_loose a kind word =
     not (is_counted_slot kind) && list_any (λ object. is_counted object.kind && falls_in word object) a.objects

@@ -9,7 +9,7 @@ use Rattle.mm_model.specs.declared.line.Totals.{Totals}
 use Rattle.mm_model.specs.declared.settings.Settings.{Settings}
 use Rattle.mm_model.specs.Value.{words_of}
 use Rattle.mm_model.specs.Object.{Object}
-use Rattle.mm_model.specs.State.{State, Area, Cycle, Partial, lives_at, totals_of}
+use Rattle.mm_model.specs.State.{State, Area, Cycle, PartlyScanned, lives_at, totals_of}
 
 -- a live object as the heap holds it
 pub record HeldObject : Type 0 where
@@ -36,14 +36,14 @@ pub record HeldColour : Type 0 where
   pub base : ℕ
   pub colour : Colour
 
-pub record HeldPartial : Type 0 where
+pub record HeldPartlyScanned : Type 0 where
   pub base : ℕ
-  pub done : ℕ
+  pub slots_done : ℕ
 
 pub record HeldCycle : Type 0 where
   pub colours : List HeldColour
   pub gone : ℕ
-  pub partial : Option HeldPartial
+  pub partly_scanned : Option HeldPartlyScanned
 
 pub record View : Type 0 where
   -- in any order
@@ -98,14 +98,14 @@ abbrev pub colour_at : State → Cycle → ℕ → Option Colour
 colour_at a cycle base =
     option_map (λ birth. slice_index_or cycle.colours birth White) (position_from (lives_at base) 0 a.objects)
 
-abbrev pub held_partial : State → Partial → Option HeldPartial
-held_partial a partial = option_map (λ base. record { base = base; done = partial.done }) (base_of a partial.object)
+abbrev pub held_partly_scanned : State → PartlyScanned → Option HeldPartlyScanned
+held_partly_scanned a partly_scanned = option_map (λ base. record { base = base; slots_done = partly_scanned.slots_done }) (base_of a partly_scanned.object)
 
 pub record ShowsCycle (held : HeldCycle) (a : State) (cycle : Cycle) : Type 0 where
   pub colours : (base : ℕ) →
       option_map (λ entry. entry.colour) (find (λ entry. nat_eq entry.base base) held.colours) ≡ colour_at a cycle base
   pub gone : held.gone ≡ cycle.gone
-  pub partial : held.partial ≡ option_and_then (held_partial a) cycle.partial
+  pub partly_scanned : held.partly_scanned ≡ option_and_then (held_partly_scanned a) cycle.partly_scanned
 
 abbrev pub ShowsCycles : Option HeldCycle → State → Option Cycle → Type 0
 ShowsCycles None a None = ⊤

@@ -20,7 +20,7 @@ use Rattle.mm_model.specs.Store.{is_counted_slot}
 use Rattle.mm_model.specs.Refusing.{first_refusal, is_bad_shape}
 use Rattle.mm_model.specs.SizeClass.{extent_of, object_bytes}
 use Rattle.mm_model.specs.Place.{Piece, Objects, Areas, is_vacant, page_end}
-use Rattle.mm_model.specs.View.{View, HeldObject, HeldArea, HeldColour, HeldCycle, HeldPartial}
+use Rattle.mm_model.specs.View.{View, HeldObject, HeldArea, HeldColour, HeldCycle, HeldPartlyScanned}
 
 abbrev pub held_piece : HeldObject → Piece
 held_piece object = record { base = object.base; extent = object.extent; family = Objects }
@@ -150,13 +150,13 @@ held_colour_at colours base =
 abbrev pub is_black_at : List HeldColour → ℕ → Bool
 is_black_at colours base = option_map_or is_black (held_colour_at colours base) false
 
-abbrev pub is_done_at : Option HeldPartial → ℕ → ℕ → Bool
+abbrev pub is_done_at : Option HeldPartlyScanned → ℕ → ℕ → Bool
 is_done_at None base s = false
-is_done_at (Some partial) base s = partial.base == base && nat_lt s partial.done
+is_done_at (Some partly_scanned) base s = partly_scanned.base == base && nat_lt s partly_scanned.slots_done
 
 abbrev pub is_held_passed : Option HeldCycle → ℕ → ℕ → Bool
 is_held_passed None base s = false
-is_held_passed (Some cycle) base s = is_black_at cycle.colours base || is_done_at cycle.partial base s
+is_held_passed (Some cycle) base s = is_black_at cycle.colours base || is_done_at cycle.partly_scanned base s
 
 abbrev pub held_barrier : SlotKind → ℕ → ℕ → ℕ → View → View
 held_barrier kind base s word view =

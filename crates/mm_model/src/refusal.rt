@@ -5,9 +5,10 @@ use thiserror::Error;
 /// Why a command is refused. A refused command changes nothing, apart from what `Full` leaves.
 #[derive(Clone, Copy, Debug, PartialEq, Eq)]
 pub enum Refusal {
-    /// No stack cell has the index.
+    /// No stack cell has the index. For `pop`: it is asked for more cells than the stack has.
     NoCell,
-    /// No object or area has this shape.
+    /// No object that a command makes, or no area, has this shape: more counted slots than slots, more than 1,048,575
+    /// slots, counted slots in a leaf, an area without cells, or a weak reference asked for by `new`.
     Shape,
     /// No live area has the number.
     NoArea,
@@ -19,7 +20,7 @@ pub enum Refusal {
     NoWeak,
     /// The object or area has no slot with this index.
     NoSlot,
-    /// A counted slot takes 0 or the base of a counted object alone.
+    /// A counted slot takes 0 or the base of a live counted object alone.
     NotCounted,
     /// The stack is at its limit.
     StackFull,

@@ -7,7 +7,8 @@ use crate::{Kind, Refusal};
 pub enum Put {
     /// The slot is counted, or the word falls in no counted object.
     Tight,
-    /// The word falls in a counted object and the slot isn't counted, so the word doesn't keep the object.
+    /// The word falls in a live counted object and the slot isn't counted. A reap doesn't see the word, so it may free
+    /// the object. Marking reaches it by the word where the slot is scanned.
     Loose,
 }
 
@@ -54,7 +55,7 @@ pub struct Stat {
 #[derive(Clone, Copy, Debug, PartialEq, Eq)]
 pub enum Reply {
     Done,
-    /// A word that falls in a counted object was stored in an uncounted slot.
+    /// A word that falls in a live counted object was stored in a slot that isn't counted.
     Loose,
     /// The base of what was made.
     New(u32),

@@ -12,7 +12,7 @@ use Rattle.mm_model.specs.View.{Shows}
 use Rattle.mm_model.specs.Journal.{Writes}
 use Rattle.mm_model.specs.Spelling.{spelling, spelling_of}
 use Rattle.mm_model.specs.Trace.{lines_of, FaultAt}
-use Rattle.mm_model.proofs.Journals.{writes-append}
+use Rattle.mm_model.proofs.Text.Journals.{writes-append}
 use Rattle.mm_io.specs.Told.{Appends, AppendsFront}
 use Rattle.mm_trace.specs.Held.{nothing_held}
 use Rattle.mmgc.specs.Writing.{kept_bytes, Grows, Keeps}

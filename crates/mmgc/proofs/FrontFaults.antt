@@ -6,7 +6,7 @@ use Rattle.mm_model.specs.declared.command.Command.{Command}
 use Rattle.mm_model.specs.declared.refusal.LineFault.{LineFault}
 use Rattle.mm_model.specs.declared.refusal.LineFault.TheVariants.{LineTooLong}
 use Rattle.mm_model.specs.Trace.{complete_lines, lines_of, line_if, FaultAt, Reading, reading_from}
-use Rattle.mm_model.proofs.TraceLemmas.{Cuts, Cuts-none, Cuts-byte, Cuts-newline, complete_lines-cuts, lines_of-more, lines_of-too_long, reading_from-fault, reading_from-stops}
+use Rattle.mm_model.proofs.Text.Traces.{Cuts, Cuts-none, Cuts-byte, Cuts-newline, complete_lines-cuts, lines_of-more, lines_of-too_long, reading_from-fault, reading_from-stops}
 use Rattle.mmgc.specs.Replaying.{built_reading, reading_of}
 use Rattle.mmgc.proofs.Replays.{too_long}
 

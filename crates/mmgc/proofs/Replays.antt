@@ -26,11 +26,11 @@ use Rattle.mm_model.specs.View.{View, Shows}
 use Rattle.mm_model.specs.Journal.{Writes}
 use Rattle.mm_model.specs.Spelling.{spelling, spelling_of}
 use Rattle.mm_model.specs.Trace.{line_reading, words_reading, words_of, is_comment, complete_lines, lines_of, Reading, FaultAt}
-use Rattle.mm_model.proofs.Starting.{empty_is_good}
-use Rattle.mm_model.proofs.Numbers.{BearsFew, bears_few-new, bears_few-plain}
-use Rattle.mm_model.proofs.Journals.{writes-none, writes-append}
-use Rattle.mm_model.proofs.TraceLemmas.{Cuts, Cuts-none, Cuts-byte, Cuts-newline}
-use Rattle.mm_model.proofs.FaultLemmas.{fault_at_end, reading-end-none, reading-end-nothing, reading-end-command, complete_lines-held, fault_at_newline, fault_too_long, reading-next-nothing, reading-next-command, lines-fewer, commands-fewer}
+use Rattle.mm_model.proofs.Good.Starting.{empty_is_good}
+use Rattle.mm_model.proofs.Good.Numbers.{BearsFew, bears_few-new, bears_few-plain}
+use Rattle.mm_model.proofs.Text.Journals.{writes-none, writes-append}
+use Rattle.mm_model.proofs.Text.Traces.{Cuts, Cuts-none, Cuts-byte, Cuts-newline}
+use Rattle.mm_model.proofs.Text.Faults.{fault_at_end, reading-end-none, reading-end-nothing, reading-end-command, complete_lines-held, fault_at_newline, fault_too_long, reading-next-nothing, reading-next-command, lines-fewer, commands-fewer}
 use Rattle.mm_trace.specs.Held.{Held, nothing_held, at_end, with_byte}
 use Rattle.mm_gc.specs.Built.{Step, carried_effect, unless_refused, built_effect, after}
 use Rattle.mm_gc.specs.Execution.{IsStep, Executes}

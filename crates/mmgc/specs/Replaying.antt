@@ -12,7 +12,7 @@ use Rattle.mm_model.specs.View.{View, Shows}
 use Rattle.mm_model.specs.Journal.{Writes}
 use Rattle.mm_model.specs.Spelling.{spelling_of}
 use Rattle.mm_model.specs.Trace.{line_reading, reading_from, Reading, FaultAt}
-use Rattle.mm_model.proofs.TraceLemmas.{Cuts}
+use Rattle.mm_model.proofs.Text.Traces.{Cuts}
 use Rattle.mm_trace.specs.Held.{Held}
 use Rattle.mm_gc.specs.Built.{Step, is_built}
 use Rattle.mm_gc.specs.Execution.{IsStep}

@@ -1,4 +1,4 @@
-use Rattle.mm_model.proofs.CycleLaws.{unmarked_iff_neither}
+use Rattle.mm_model.proofs.Cycle.Marked.{unmarked_iff_neither}
 use Rattle.mm_laws.proofs.cycles.finish_frees_what_neither_reaches.Goals as goal
 
 pub returns : goal.returns

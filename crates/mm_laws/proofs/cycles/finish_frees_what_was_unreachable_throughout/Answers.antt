@@ -1,5 +1,5 @@
-use Rattle.mm_model.proofs.CourseLaws.{course_is_good, throughout_is_freed}
-use Rattle.mm_model.proofs.Steps.{step_is_good}
+use Rattle.mm_model.proofs.Cycle.Courses.{course_is_good, throughout_is_freed}
+use Rattle.mm_model.proofs.Good.Steps.{step_is_good}
 use Rattle.mm_laws.proofs.cycles.finish_frees_what_was_unreachable_throughout.Goals as goal
 
 pub returns : goal.returns

@@ -1,5 +1,5 @@
 use Rattle.std.proofs.Common.{◌≡◌, true, false, refl}
-use Rattle.mm_model.proofs.Keyed.{refuted}
+use Rattle.mm_model.proofs.Lists.Keyed.{refuted}
 use Rattle.mmgc.specs.Keeping.{keeps-trans}
 use Rattle.mmgc.specs.Logging.{kept_by}
 use Rattle.mmgc.proofs.Ends.{finished-well, finished-badly}

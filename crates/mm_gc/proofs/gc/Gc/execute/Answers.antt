@@ -1,7 +1,7 @@
 -- The lines of a command are its reply alone, and they are a step.
 use Rattle.std.proofs.Common.{◌≡◌, ◌+◌, [], sym, ap, ◌∙◌}
 use Rattle.mm_model.specs.View.{View}
-use Rattle.mm_model.proofs.Journals.{writes-none}
+use Rattle.mm_model.proofs.Text.Journals.{writes-none}
 use Rattle.mm_gc.specs.BuiltView.{held_built}
 use Rattle.mm_gc.proofs.Executing.{executed, uncounted-shown}
 use Rattle.mm_gc.proofs.Keeping.{commands-built, counted}

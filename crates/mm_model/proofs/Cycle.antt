@@ -1,0 +1,4 @@
+pub mod ContinuedSteps
+pub mod Continuing
+pub mod Courses
+pub mod Marked

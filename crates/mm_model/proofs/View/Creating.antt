@@ -1,0 +1,42 @@
+-- What `new` does to a view is what it does to each good state that the view shows.
+use Rattle.std.proofs.Common.{◌≡◌, ℕ, Option, Some, None, refl, ap, ◌∙◌, arith}
+use Rattle.mm_model.specs.declared.object.Shape.{Shape}
+use Rattle.mm_model.specs.SizeClass.{size_of, object_bytes}
+use Rattle.mm_model.specs.State.{State}
+use Rattle.mm_model.specs.Place.{Objects, live_pieces, place_among, place_of}
+use Rattle.mm_model.specs.Effect.{Effect, new_effect}
+use Rattle.mm_model.specs.Good.{IsGood}
+use Rattle.mm_model.specs.View.{View, Shows}
+use Rattle.mm_model.specs.ViewEffect.{HeldEffect, held_pieces, held_new_effect}
+use Rattle.mm_model.proofs.Good.Births.{made_is_good, goes_at}
+use Rattle.mm_model.proofs.Places.SeenAlike.{place_among-alike}
+use Rattle.mm_model.proofs.Good.Living.{some_extent}
+use Rattle.mm_model.proofs.View.Showing.{pieces_alike, nothing_at, shows-made}
+
+-- an effect on a view is that on a state
+pub record Refines (held : HeldEffect) (effect : Effect) : Type 0 where
+  pub good : IsGood effect.state
+  pub shows : Shows held.view effect.state
+  pub reply : held.reply ≡ effect.reply
+
+module _ (view : View) (a : State) (good : IsGood a) (shows : Shows view a) (shape : Shape) where
+  pub place-shown : place_among (held_pieces view) view.settings.max Objects (size_of (object_bytes shape.slots))
+      ≡ place_of a a.settings.max Objects (object_bytes shape.slots)
+  place-shown =
+      let size = size_of (object_bytes shape.slots) in
+      place_among-alike (held_pieces view) (live_pieces a)
+      (pieces_alike view a good shows) view.settings.max Objects size
+      ∙ ap (λ s. place_among (live_pieces a) s.max Objects size) shows.settings
+
+  -- the object that is born at the place that was found, if one was
+  pub new-refines : (found : Option ℕ) → place_of a a.settings.max Objects (object_bytes shape.slots) ≡ found →
+      Refines (held_new_effect view shape found) (new_effect a shape found)
+  new-refines None e = record { good = good; shows = shows; reply = refl }
+  new-refines (Some base) e =
+      let goes = goes_at a shape a.settings.max base good (omega arith) e in
+      record {
+        good = made_is_good a shape a.settings.max base good (omega arith) e;
+        shows = shows-made a shape base good view shows
+            (nothing_at a _ good (some_extent a.settings.max _ goes.inside) goes.apart);
+        reply = refl;
+      }

@@ -1,0 +1,171 @@
+-- A view counts objects, zero-count objects, areas and free pages as each good state does that it shows.
+use Rattle.std.proofs.Common.{◌≡◌, ℕ, ◌+◌, ◌-◌, ◌*◌, ◌/◌, ◌<◌, max, Bool, true, false, not, cond, ◌||◌, List, [], ◌∷◌, ◌++◌, map, length, take, refl, sym, ap, ◌∙◌, zero-add, arith}
+use Rattle.std.proofs.lemmas.Bool.Decides.{nat_tests}
+use Rattle.std.proofs.lemmas.List.{length-map}
+use Rattle.std.proofs.lemmas.List.Sums.{sum_by-append, sum_by-cons}
+use Rattle.std.specs.Prelude.{nat_lt, ◌&&◌, ◌==◌, if◌then◌else◌}
+use Rattle.std.specs.List.{list_any, fold, flat_map, sum_by, count_by, range_with_len, take-map}
+use Rattle.mm_model.specs.declared.command.Command.TheVariants as commands
+use Rattle.mm_model.specs.declared.reply.Reply.TheVariants as replies
+use Rattle.mm_model.specs.Value.{Value, words_of}
+use Rattle.mm_model.specs.Object.{Object, is_live, is_counted, is_scanned, live_objects}
+use Rattle.mm_model.specs.State.{State, Area, live_count}
+use Rattle.mm_model.specs.Words.{if_scanned, counted_slots, counted_cells, counted_cell_words}
+use Rattle.mm_model.specs.Count.{refs, zero_count}
+use Rattle.mm_model.specs.Place.{Piece, live_pieces, page_end, is_vacant, region_pages}
+use Rattle.mm_model.specs.Effect.{plain_effect, free_pages}
+use Rattle.mm_model.specs.Good.{IsGood}
+use Rattle.mm_model.specs.View.{View, HeldObject, Shows, held, held_area}
+use Rattle.mm_model.specs.ViewEffect.{held_pieces, held_region_pages, held_counted_slots, held_counted_cells, held_refs, is_held_zero_count, held_zero_count, held_free_pages, held_plain_effect}
+use Rattle.mm_model.proofs.View.Creating.{Refines}
+use Rattle.mm_model.proofs.Lists.KeyedSums.{sums_alike, count-flat_map}
+use Rattle.mm_model.proofs.Places.SeenAlike.{AreSeenAlike, is_vacant-alike}
+use Rattle.mm_model.proofs.View.Showing.{keyed_good, objects_alike, pieces_alike}
+use Rattle.mm_model.proofs.Lists.Tests.{same_tests}
+use mathlib.Core.Path.{fun_ext}
+
+-- the greatest end of pieces, as tests see it
+unfoldable pub ends : ℕ → Piece → Bool
+ends n piece = nat_lt n ((piece.base + piece.extent + 4095) / 4096)
+
+pub fold-ends : (least n : ℕ) (pieces : List Piece)
+    → nat_lt n (fold page_end least pieces) ≡ (nat_lt n least || list_any (ends n) pieces)
+unfolding ends
+fold-ends least n [] = or_false (nat_lt n least)
+  where
+    or_false : (b : Bool) → b ≡ (b || false)
+    or_false true = refl
+    or_false false = refl
+fold-ends least n (p ∷ ps) =
+    fold-ends (page_end least p) n ps
+    ∙ ap (λ b. b || list_any (ends n) ps) (past_max n least ((p.base + p.extent + 4095) / 4096))
+    ∙ regroup (nat_lt n least) (ends n p) (list_any (ends n) ps)
+  where
+    past_max : (n k m : ℕ) → nat_lt n (max k m) ≡ (nat_lt n k || nat_lt n m)
+    past_max n k m =
+        same_tests (nat_lt n (max k m)) (nat_lt n k || nat_lt n m) (λ e. grind (arith, nat_tests))
+        (λ e. grind (arith, nat_tests))
+
+    regroup : (b c d : Bool) → ((b || c) || d) ≡ (b || (c || d))
+    regroup true c d = refl
+    regroup false c d = refl
+
+same_bounds : (m n : ℕ) → ((k : ℕ) → nat_lt k m ≡ nat_lt k n) → m ≡ n
+same_bounds m n same =
+    let below : (k : ℕ) → nat_lt k m ≡ nat_lt k n → k < m → k < n = λ k e l. grind (arith, nat_tests) in
+    let above : (k : ℕ) → nat_lt k m ≡ nat_lt k n → k < n → k < m = λ k e l. grind (arith, nat_tests) in
+    let one : n < m → ⊥ = λ l. let more = below n (same n) l in omega arith in
+    let other : m < n → ⊥ = λ l. let more = above m (same m) l in omega arith in
+    equal m n one other
+  where
+    equal : (m n : ℕ) → (n < m → ⊥) → (m < n → ⊥) → m ≡ n
+    equal m n f g = omega arith
+
+fold-alike : (least : ℕ) (ps qs : List Piece) → AreSeenAlike ps qs → fold page_end least ps ≡ fold page_end least qs
+fold-alike least ps qs alike =
+    same_bounds _ _ (λ k. fold-ends least k ps ∙ ap (λ b. nat_lt k least || b) (alike (ends k)) ∙ sym (fold-ends least k qs))
+
+module _ (view : View) (a : State) (good : IsGood a) (shows : Shows view a) where
+  region_pages-shown : held_region_pages view ≡ region_pages a
+  region_pages-shown =
+      ap (λ s. fold page_end s.pages (held_pieces view)) shows.settings
+      ∙ fold-alike a.settings.pages (held_pieces view) (live_pieces a) (pieces_alike view a good shows)
+
+  free_pages-shown : held_free_pages view ≡ free_pages a
+  free_pages-shown =
+      let vacant = λ (ps : List Piece) (page : ℕ). is_vacant ps (4096 * page) 4096 in
+      ap (λ test. count_by test (range_with_len 1 (held_region_pages view - 1)))
+      (fun_ext (λ page. is_vacant-alike (held_pieces view) (live_pieces a) (pieces_alike view a good shows)
+      (4096 * page) 4096))
+      ∙ ap (λ pages. count_by (vacant (live_pieces a)) (range_with_len 1 (pages - 1))) region_pages-shown
+
+  -- a sum over the objects of a view is one over the live objects
+  sum-shown : (f : HeldObject → ℕ) → sum_by f view.objects ≡ sum_by (λ o. f (held a o)) (live_objects a.objects)
+  sum-shown f =
+      sums_alike (λ o. o.base) (λ o. o.base) (λ x. x) (held a) view.objects (live_objects a.objects) shows.distinct
+      (keyed_good a good) (objects_alike view a shows) f
+
+  counted_slots-held : (o : Object) → held_counted_slots (held a o) ≡ counted_slots o
+  counted_slots-held o = split (is_scanned o.kind)
+    where
+      split : (b : Bool) → (if b then take o.counted (words_of o.slots) else []) ≡ if_scanned b (take o.counted o.slots)
+      split true = take-map (λ (v : Value). v.word) o.counted o.slots
+      split false = refl
+
+  counted_cells-held : (areas : List Area)
+      → flat_map held_counted_cells (map held_area areas) ≡ flat_map counted_cells areas
+  counted_cells-held [] = refl
+  counted_cells-held (area ∷ areas) =
+      ap (λ ws. ws ++ flat_map held_counted_cells (map held_area areas)) (split area.scanned)
+      ∙ ap (λ ws. counted_cells area ++ ws) (counted_cells-held areas)
+    where
+      split : (b : Bool)
+          → (if b then take area.counted (words_of area.cells) else []) ≡ if_scanned b (take area.counted area.cells)
+      split true = take-map (λ (v : Value). v.word) area.counted area.cells
+      split false = refl
+
+  refs-shown : (base : ℕ) → held_refs view base ≡ refs a base
+  refs-shown base =
+      let p = λ (word : ℕ). word == base in
+      let f = λ (word : ℕ). cond (p word) 1 0 in
+      let cells : flat_map held_counted_cells view.areas ≡ counted_cell_words a =
+      ap (flat_map held_counted_cells) shows.areas ∙ counted_cells-held a.areas in
+      sum_by-append f (flat_map held_counted_slots view.objects) (flat_map held_counted_cells view.areas)
+      ∙ ap (λ n. n + count_by p (flat_map held_counted_cells view.areas))
+      (count-flat_map p held_counted_slots view.objects
+      ∙ sum-shown (λ o. count_by p (held_counted_slots o))
+      ∙ sums_same (live_objects a.objects)
+      ∙ sym (count-flat_map p counted_slots (live_objects a.objects)))
+      ∙ ap (λ ws. count_by p (flat_map counted_slots (live_objects a.objects)) + count_by p ws) cells
+      ∙ sym (sum_by-append f (flat_map counted_slots (live_objects a.objects)) (counted_cell_words a))
+    where
+      sums_same : (objects : List Object)
+          → sum_by (λ o. count_by (λ word. word == base) (held_counted_slots (held a o))) objects
+          ≡ sum_by (λ o. count_by (λ word. word == base) (counted_slots o)) objects
+      sums_same objects =
+          ap (λ f. sum_by f objects)
+          (fun_ext (λ o. ap (count_by (λ word. word == base)) (counted_slots-held o)))
+
+  -- a count over the live objects is one over all
+  count-live : (test : Object → Bool) (objects : List Object)
+      → count_by test (live_objects objects) ≡ count_by (λ o. is_live o && test o) objects
+  count-live test [] = refl
+  count-live test (o ∷ os) =
+      let rest = count-live test os in
+      let split : (b : Bool) → count_by test (cond b (o ∷ live_objects os) (live_objects os))
+      ≡ cond (b && test o) 1 0 + count_by (λ o. is_live o && test o) os =
+      elim [
+        | true ↦ sum_by-cons (λ o. cond (test o) 1 0) o (live_objects os) ∙ ap (λ n. cond (test o) 1 0 + n) rest
+        | false ↦ rest ∙ sym (zero-add _)
+      ] in
+      split (is_live o) ∙ sym (sum_by-cons (λ o. cond (is_live o && test o) 1 0) o os)
+
+  zero_count-shown : held_zero_count view ≡ zero_count a
+  zero_count-shown =
+      sum-shown (λ o. cond (is_held_zero_count view o) 1 0)
+      ∙ count-live (λ o. is_held_zero_count view (held a o)) a.objects
+      ∙ ap (λ test. count_by test a.objects)
+      (fun_ext (λ o.
+      ap (λ n. is_live o && (is_counted o.kind && not o.sticky && n == 0)) (refs-shown o.base)
+      ∙ regroup (is_live o) (is_counted o.kind) (not o.sticky) (refs a o.base == 0)))
+    where
+      regroup : (b c d e : Bool) → (b && (c && d && e)) ≡ (b && c && d && e)
+      regroup true c d e = refl
+      regroup false c d e = refl
+
+  pub stat-refines : Refines (held_plain_effect view commands.Stat) (plain_effect a commands.Stat)
+  stat-refines =
+      let live : view.totals.live ≡ live_count a = ap (λ t. t.live) shows.totals in
+      let areas : length view.areas ≡ length a.areas = ap length shows.areas ∙ length-map a.areas held_area in
+      record {
+        good = good;
+        shows = shows;
+        reply = λ t.
+            replies.Stat
+            (record {
+              objects = live t;
+              zero = zero_count-shown t;
+              areas = areas t;
+              free = free_pages-shown t;
+            });
+      }
