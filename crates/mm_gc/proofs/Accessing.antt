@@ -3,11 +3,11 @@ use Rattle.std.proofs.Common.{◌≡◌, ℕ, ◌+◌, ◌<◌, ◌≤◌, true,
 use Rattle.std.specs.Prelude.{◌==◌, slice_get}
 use Rattle.mm_model.specs.declared.command.Command.TheVariants as commands
 use Rattle.mm_model.specs.declared.refusal.Refusal.TheVariants as refusals
-use Rattle.mm_model.specs.View.{HeldObject}
-use Rattle.mm_model.specs.ViewEffect.{held_pushes, held_put_effect}
+use Rattle.mm_model.specs.FlatView.{FlatObject}
+use Rattle.mm_model.specs.FlatEffect.{flat_pushes, flat_put_effect}
 use Rattle.mm_gc.specs.declared.object.Object.{Object}
 use Rattle.mm_gc.specs.declared.gc.Gc.TheInside.{Inside}
-use Rattle.mm_gc.specs.Held.{held_of, first_slot}
+use Rattle.mm_gc.specs.Flat.{flat_of, first_slot}
 use Rattle.mm_gc.specs.Plain.{view_of, IsPlain}
 use Rattle.mm_gc.specs.Resolve.{object_at, inner_word}
 use Rattle.mm_gc.proofs.Answering.{ComesTo, refused, inner-nothing, inner-outside, inner-full, inner-done, get-nothing, get-no_slot, get-full, get-done, put-nothing, put-no_slot, put-done}
@@ -34,8 +34,8 @@ module _ (gc : Inside) (index word : ℕ) (at : IsAt gc index word None) where
       put-nothing (view_of gc) index word at.cell from s value source (resolved-shown gc word None at.object)
 
 module _ (gc : Inside) (index word : ℕ) (object : Object) (at : IsAt gc index word (Some object)) where
-  abbrev held : HeldObject
-  held = held_of gc.memory.items object
+  abbrev held : FlatObject
+  held = flat_of gc.memory.items object
 
   module _ (bytes : ℕ) where
     pub inner-past_end : inner_word object.base object.extent word bytes ≡ None
@@ -52,10 +52,10 @@ module _ (gc : Inside) (index word : ℕ) (object : Object) (at : IsAt gc index 
           (inner_word-Some object.base object.extent word bytes inner is).falls (full-shown gc true full)
 
       pub inner-pushes : (length gc.stack.items == gc.settings.stack) ≡ false
-          → ComesTo (view_of gc) (commands.Inner index bytes) (held_pushes inner (view_of gc))
+          → ComesTo (view_of gc) (commands.Inner index bytes) (flat_pushes inner (view_of gc))
       inner-pushes room =
           let split = inner_word-Some object.base object.extent word bytes inner is in
-          subst (λ w. ComesTo (view_of gc) (commands.Inner index bytes) (held_pushes w (view_of gc))) split.sum
+          subst (λ w. ComesTo (view_of gc) (commands.Inner index bytes) (flat_pushes w (view_of gc))) split.sum
           (inner-done (view_of gc) index word at.cell held (resolved-shown gc word (Some object) at.object) bytes
           split.falls (full-shown gc false room))
 
@@ -93,13 +93,13 @@ module _ (gc : Inside) (index word : ℕ) (object : Object) (at : IsAt gc index 
 
       pub get-pushes : (value : ℕ) → get_or gc.memory.items (first_slot object.base + s) 0 ≡ value
           → (length gc.stack.items == gc.settings.stack) ≡ false
-          → ComesTo (view_of gc) (commands.Get index s) (held_pushes value (view_of gc))
+          → ComesTo (view_of gc) (commands.Get index s) (flat_pushes value (view_of gc))
       get-pushes value is room =
           get-done (view_of gc) index word at.cell held (resolved-shown gc word (Some object) at.object) s value
           (slot_is ∙ ap (λ (w : ℕ). Some w) is) (full-shown gc false room)
 
       pub put-stores : (from value : ℕ) → slice_get (reverse gc.stack.items) from ≡ Some value
-          → ComesTo (view_of gc) (commands.Put index s from) (held_put_effect (view_of gc) held s value)
+          → ComesTo (view_of gc) (commands.Put index s from) (flat_put_effect (view_of gc) held s value)
       put-stores from value source =
           let all = length-slots in
           put-done (view_of gc) index word at.cell from s value source held

@@ -11,7 +11,7 @@ use Rattle.mm_model.specs.SizeClass.{class_index, size_of, extent_of, extent_of_
 use Rattle.mm_model.specs.declared.object.Size.TheVariants.{Small, Pages}
 use Rattle.mm_model.specs.Place.{Objects, place_among}
 use Rattle.mm_model.specs.Good.{AreApart, IsPlaced}
-use Rattle.mm_model.specs.ViewEffect.{held_piece, held_made, held_newborn}
+use Rattle.mm_model.specs.FlatEffect.{flat_piece, flat_made, flat_newborn}
 use Rattle.mm_model.proofs.Places.Placing.{Goes, place_goes, both}
 use Rattle.mm_model.proofs.Places.SizeClasses.{class_fits}
 use Rattle.mm_model.proofs.Good.Births.{size_of-IsSize, placed-push}
@@ -19,15 +19,15 @@ use Rattle.mm_model.proofs.Places.Room.{room_for_pieces}
 use Rattle.mm_gc.specs.declared.object.Object.{Object}
 use Rattle.mm_gc.specs.declared.gc.Gc.TheInside.{Inside}
 use Rattle.mm_gc.specs.Built.{is_plain}
-use Rattle.mm_gc.specs.Held.{piece_of, pieces_of, held_of, first_slot, words_at}
+use Rattle.mm_gc.specs.Flat.{piece_of, pieces_of, flat_of, first_slot, words_at}
 use Rattle.mm_gc.specs.Plain.{plain_view, view_of, IsPlain}
-use Rattle.mm_gc.specs.BuiltView.{held_place}
+use Rattle.mm_gc.specs.BuiltView.{flat_place}
 use Rattle.mm_gc.proofs.Resolving.{slots-within}
 use Rattle.mm_gc.proofs.Memory.{IsSameOutside, words_at-elsewhere, cleared, words_at-cleared, same-cleared}
 
 -- the room that the objects take, in words and as they are kept
 pub pieces-held : (memory : List ℕ) (objects : List Object)
-    → map held_piece (map (held_of memory) objects) ≡ pieces_of objects
+    → map flat_piece (map (flat_of memory) objects) ≡ pieces_of objects
 pieces-held memory [] = refl
 pieces-held memory (object ∷ objects) = ap (λ ps. piece_of object ∷ ps) (pieces-held memory objects)
 
@@ -67,18 +67,18 @@ new_goes objects limit base shape placed found =
 
 -- the place in what the lists show
 pub place-shown : (gc : Inside) (shape : Shape)
-    → held_place (view_of gc) shape
+    → flat_place (view_of gc) shape
     ≡ place_among (pieces_of gc.objects.items) gc.settings.max Objects (size_of (object_bytes shape.slots))
 place-shown gc shape =
     ap (λ ps. place_among ps gc.settings.max Objects (size_of (object_bytes shape.slots)))
     (pieces-held gc.memory.items gc.objects.items)
 
 -- the new object as the heap holds it
-held_of-new : (memory : List ℕ) (o : Object) (shape : Shape) → o.shape ≡ shape
+flat_of-new : (memory : List ℕ) (o : Object) (shape : Shape) → o.shape ≡ shape
     → o.extent ≡ extent_of (object_bytes shape.slots)
     → words_at memory (first_slot o.base) o.shape.slots ≡ replicate shape.slots 0
-    → held_of memory o ≡ held_newborn shape o.base
-held_of-new memory o shape s x w j =
+    → flat_of memory o ≡ flat_newborn shape o.base
+flat_of-new memory o shape s x w j =
     record {
       base = o.base;
       extent = x j;
@@ -94,7 +94,7 @@ held_of-new memory o shape s x w j =
 others-cleared : (memory new : List ℕ) (o : Object)
     → IsSameOutside (first_slot o.base) o.shape.slots memory new → (objects : List Object)
     → AllByRecursion (λ p. AreApart p (piece_of o)) (pieces_of objects)
-    → map (held_of new) objects ≡ map (held_of memory) objects
+    → map (flat_of new) objects ≡ map (flat_of memory) objects
 others-cleared memory new o same [] apart = refl
 others-cleared memory new o same (q ∷ qs) apart =
     let mine = o.slots_fit in
@@ -103,9 +103,9 @@ others-cleared memory new o same (q ∷ qs) apart =
     ⊎ (first_slot o.base + o.shape.slots ≤ first_slot q.base) =
     ⊎_elim (λ (h : q.base + q.extent ≤ o.base). inl (omega arith))
     (λ (h : o.base + o.extent ≤ q.base). inr (omega arith)) apart.0.disjoint in
-    ap (λ ws. record (held_of memory q) { words = ws } ∷ map (held_of new) qs)
+    ap (λ ws. record (flat_of memory q) { words = ws } ∷ map (flat_of new) qs)
     (words_at-elsewhere (first_slot o.base) o.shape.slots memory new same (first_slot q.base) q.shape.slots away)
-    ∙ ap (λ hs. held_of memory q ∷ hs) (others-cleared memory new o same qs apart.1)
+    ∙ ap (λ hs. flat_of memory q ∷ hs) (others-cleared memory new o same qs apart.1)
 
 -- what the lists show with one more object and one more word
 pub view-made : (settings : Settings) (memory new : List ℕ) (objects items : List Object) (stack words : List ℕ)
@@ -116,7 +116,7 @@ pub view-made : (settings : Settings) (memory new : List ℕ) (objects items : L
     → items ≡ objects ++ o ∷ [] → o.shape ≡ shape
     → o.extent ≡ extent_of (object_bytes shape.slots) → words ≡ stack ++ o.base ∷ []
     → plain_view settings new items words commands
-    ≡ held_made shape o.base (plain_view settings memory objects stack commands)
+    ≡ flat_made shape o.base (plain_view settings memory objects stack commands)
 view-made settings memory new objects items stack words commands o shape m within apart i s x w =
     let zeros : words_at new (first_slot o.base) o.shape.slots ≡ replicate shape.slots 0 =
     ap (λ ms. words_at ms (first_slot o.base) o.shape.slots) m
@@ -125,10 +125,10 @@ view-made settings memory new objects items stack words commands o shape m withi
     let same : IsSameOutside (first_slot o.base) o.shape.slots memory new =
     subst (IsSameOutside (first_slot o.base) o.shape.slots memory) (sym m)
     (same-cleared memory (first_slot o.base) o.shape.slots within) in
-    let held : map (held_of new) items ≡ map (held_of memory) objects ++ held_newborn shape o.base ∷ [] =
-    ap (map (held_of new)) i ∙ map-append (held_of new) objects (o ∷ [])
-    ∙ ap (λ y. map (held_of new) objects ++ y ∷ []) (held_of-new new o shape s x zeros)
-    ∙ ap (λ ys. ys ++ held_newborn shape o.base ∷ []) (others-cleared memory new o same objects apart) in
+    let held : map (flat_of new) items ≡ map (flat_of memory) objects ++ flat_newborn shape o.base ∷ [] =
+    ap (map (flat_of new)) i ∙ map-append (flat_of new) objects (o ∷ [])
+    ∙ ap (λ y. map (flat_of new) objects ++ y ∷ []) (flat_of-new new o shape s x zeros)
+    ∙ ap (λ ys. ys ++ flat_newborn shape o.base ∷ []) (others-cleared memory new o same objects apart) in
     let top : reverse words ≡ o.base ∷ reverse stack = ap reverse w ∙ reverse-append stack (o.base ∷ []) in
     let more : length items ≡ length objects + 1 = ap length i ∙ length_push objects o in
     λ j. record {
@@ -194,7 +194,7 @@ module _ (gc : Inside) (plain : IsPlain gc) (shape : Shape) (o : Object) (new : 
   pub view-new : (memory : List ℕ) (items : List Object) (words : List ℕ)
       → memory ≡ cleared gc.memory.items (first_slot o.base) o.shape.slots
       → items ≡ gc.objects.items ++ o ∷ [] → words ≡ gc.stack.items ++ o.base ∷ []
-      → plain_view gc.settings memory items words gc.commands ≡ held_made shape o.base (view_of gc)
+      → plain_view gc.settings memory items words gc.commands ≡ flat_made shape o.base (view_of gc)
   view-new memory items words m i w =
       view-made gc.settings gc.memory.items memory gc.objects.items items gc.stack.items words gc.commands o shape m
       new_slots goes.apart i new.shape_is new.extent_is w

@@ -3,7 +3,7 @@ use Rattle.std.proofs.Common.{◌≡◌, ℕ, zero, suc, ◌+◌, ◌-◌, ◌<�
 use Rattle.std.proofs.lemmas.List.{length-take, length-drop, length-set, length-append, length-replicate, length-take-le, get_or-take, get_or-drop, get_or-set_other, get_or_append_left, get_or-append_right, ext_get_or, take_at, drop_at, drop-set-add}
 use Rattle.std.proofs.lemmas.Option.{slice_get-get_or}
 use Rattle.std.specs.Prelude.{slice_get}
-use Rattle.mm_gc.specs.Held.{words_at}
+use Rattle.mm_gc.specs.Flat.{words_at}
 
 pub length-words_at : (memory : List ℕ) (from count : ℕ) → from + count ≤ length memory
     → length (words_at memory from count) ≡ count

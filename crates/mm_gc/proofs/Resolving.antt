@@ -6,11 +6,11 @@ use Rattle.std.specs.Option.{option_map}
 use Rattle.mm_model.specs.Place.{Piece}
 use Rattle.mm_model.specs.Good.{IsInside, AreApart, AreAllApart, IsPlaced}
 use Rattle.mm_model.specs.Words.{falls}
-use Rattle.mm_model.specs.View.{HeldObject}
-use Rattle.mm_model.specs.ViewEffect.{held_resolved}
+use Rattle.mm_model.specs.FlatView.{FlatObject}
+use Rattle.mm_model.specs.FlatEffect.{flat_resolved}
 use Rattle.mm_model.proofs.Places.Placing.{each_weaker}
 use Rattle.mm_gc.specs.declared.object.Object.{Object}
-use Rattle.mm_gc.specs.Held.{piece_of, pieces_of, held_of, first_slot}
+use Rattle.mm_gc.specs.Flat.{piece_of, pieces_of, flat_of, first_slot}
 use Rattle.mm_gc.specs.declared.gc.Gc.TheInside.{Inside}
 use Rattle.mm_gc.specs.Plain.{view_of, IsPlain}
 use Rattle.mm_gc.specs.Resolve.{object_at, inner_word}
@@ -26,10 +26,10 @@ find-map {X} {Y} test f (x ∷ xs) =
 
 -- the object as it is shown
 pub resolved-shown : (gc : Inside) (word : ℕ) (found : Option Object) → object_at gc.objects.items word ≡ found
-    → held_resolved (view_of gc) word ≡ option_map (held_of gc.memory.items) found
+    → flat_resolved (view_of gc) word ≡ option_map (flat_of gc.memory.items) found
 resolved-shown gc word found e =
-    find-map (λ (o : HeldObject). falls word o.base o.extent) (held_of gc.memory.items) gc.objects.items
-    ∙ ap (option_map (held_of gc.memory.items)) e
+    find-map (λ (o : FlatObject). falls word o.base o.extent) (flat_of gc.memory.items) gc.objects.items
+    ∙ ap (option_map (flat_of gc.memory.items)) e
 
 each_of_map : {X Y : Type 0} (P : Y → Type 0) (f : X → Y) (xs : List X) → AllByRecursion P (map f xs)
     → AllByRecursion (λ x. P (f x)) xs

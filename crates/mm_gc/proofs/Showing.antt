@@ -14,11 +14,11 @@ use Rattle.mm_model.specs.Words.{SlotKind, CountedSlot, WordSlot, slot_kind_at, 
 use Rattle.mm_model.specs.Marking.{is_raw}
 use Rattle.mm_model.specs.Store.{is_counted_slot}
 use Rattle.mm_model.specs.Good.{AreAllApart}
-use Rattle.mm_model.specs.View.{View, HeldObject}
-use Rattle.mm_model.specs.ViewEffect.{held_slot_kind, begins_held_counted, held_refuses_word, falls_in_held_counted, held_store_reply, held_refs, is_held_zero_count, with_held_grayed, with_held_word, held_put, held_pushed, is_held_stack_full}
+use Rattle.mm_model.specs.FlatView.{FlatView, FlatObject}
+use Rattle.mm_model.specs.FlatEffect.{flat_slot_kind, begins_flat_counted, flat_refuses_word, falls_in_flat_counted, flat_store_reply, flat_refs, is_flat_zero_count, with_flat_grayed, with_flat_word, flat_put, flat_pushed, is_flat_stack_full}
 use Rattle.mm_model.proofs.Lists.Keyed.{refuted}
 use Rattle.mm_gc.specs.declared.object.Object.{Object}
-use Rattle.mm_gc.specs.Held.{piece_of, pieces_of, held_of, first_slot}
+use Rattle.mm_gc.specs.Flat.{piece_of, pieces_of, flat_of, first_slot}
 use Rattle.mm_gc.specs.declared.gc.Gc.TheInside.{Inside}
 use Rattle.mm_gc.specs.Plain.{plain_view, view_of}
 use Rattle.mm_gc.proofs.Memory.{words_at-elsewhere, words_at-set, same-set}
@@ -26,13 +26,13 @@ use Rattle.mm_gc.proofs.Resolving.{IsDisjoint, IsSameOrDisjoint, same_or_disjoin
 
 -- the stack grows at the end of its list
 pub full-shown : (gc : Inside) (full : Bool) → (length gc.stack.items == gc.settings.stack) ≡ full
-    → is_held_stack_full (view_of gc) ≡ full
+    → is_flat_stack_full (view_of gc) ≡ full
 full-shown gc full e = ap (λ n. n == gc.settings.stack) (length-reverse gc.stack.items) ∙ e
 
 pub view-pushed : (settings : Settings) (memory : List ℕ) (objects : List Object) (stack words : List ℕ)
     (commands word : ℕ) → words ≡ stack ++ word ∷ []
     → plain_view settings memory objects words commands
-    ≡ held_pushed word (plain_view settings memory objects stack commands)
+    ≡ flat_pushed word (plain_view settings memory objects stack commands)
 view-pushed settings memory objects stack words commands word e =
     ap (λ top. record (plain_view settings memory objects stack commands) { stack = top })
     (ap reverse e ∙ reverse-append stack (word ∷ []))
@@ -55,8 +55,8 @@ view-popped settings memory objects stack words commands k l e =
     (ap reverse e ∙ reverse-take stack k l)
 
 -- No slot of the heap is counted, and no object.
-pub uncounted-slot : (object : HeldObject) (s : ℕ) → object.counted ≡ 0
-    → is_counted_slot (held_slot_kind object s) ≡ false
+pub uncounted-slot : (object : FlatObject) (s : ℕ) → object.counted ≡ 0
+    → is_counted_slot (flat_slot_kind object s) ≡ false
 uncounted-slot object s none =
     let above : nat_lt s 0 ≡ false = grind (arith, nat_tests) in
     let split : (scanned : Bool) → is_counted_slot (slot_kind_at scanned 0 s) ≡ false =
@@ -68,15 +68,15 @@ uncounted-slot object s none =
     ∙ split (is_scanned object.kind)
 
 pub none-counted_slots : (memory : List ℕ) (objects : List Object)
-    → AllByRecursion (λ object. object.counted ≡ 0) (map (held_of memory) objects)
+    → AllByRecursion (λ object. object.counted ≡ 0) (map (flat_of memory) objects)
 none-counted_slots memory [] = tt
 none-counted_slots memory (o ∷ os) = (o.no_counted_slot, none-counted_slots memory os)
 
 pub none-counted : (word : ℕ) (memory : List ℕ) (objects : List Object)
-    → list_any (falls_in_held_counted word) (map (held_of memory) objects) ≡ false
+    → list_any (falls_in_flat_counted word) (map (flat_of memory) objects) ≡ false
 none-counted word memory [] = refl
 none-counted word memory (o ∷ os) =
-    ap (λ b. (b && falls word o.base o.extent) || list_any (falls_in_held_counted word) (map (held_of memory) os))
+    ap (λ b. (b && falls word o.base o.extent) || list_any (falls_in_flat_counted word) (map (flat_of memory) os))
     o.not_counted
     ∙ none-counted word memory os
 
@@ -84,50 +84,50 @@ and-false : (b : Bool) → (b && false) ≡ false
 and-false true = refl
 and-false false = refl
 
-pub takes-any : (view : View) (memory : List ℕ) (object : Object) (s word : ℕ)
-    → held_refuses_word view (held_slot_kind (held_of memory object) s) word ≡ false
+pub takes-any : (view : FlatView) (memory : List ℕ) (object : Object) (s word : ℕ)
+    → flat_refuses_word view (flat_slot_kind (flat_of memory object) s) word ≡ false
 takes-any view memory object s word =
-    ap (λ b. b && not (word == 0) && not (list_any (begins_held_counted word) view.objects))
-    (uncounted-slot (held_of memory object) s object.no_counted_slot)
+    ap (λ b. b && not (word == 0) && not (list_any (begins_flat_counted word) view.objects))
+    (uncounted-slot (flat_of memory object) s object.no_counted_slot)
 
 pub stored-tight : (settings : Settings) (memory : List ℕ) (objects : List Object) (stack : List ℕ) (commands : ℕ)
     (kind : SlotKind) (word : ℕ)
-    → held_store_reply (plain_view settings memory objects stack commands) kind word ≡ replies.Done
+    → flat_store_reply (plain_view settings memory objects stack commands) kind word ≡ replies.Done
 stored-tight settings memory objects stack commands kind word =
     ap (λ b. if not (is_counted_slot kind) && b then replies.Loose else replies.Done) (none-counted word memory objects)
     ∙ ap (λ b. if b then replies.Loose else replies.Done) (and-false (not (is_counted_slot kind)))
 
-pub none-zero_count : (view : View) (memory : List ℕ) (objects : List Object)
-    → count_by (is_held_zero_count view) (map (held_of memory) objects) ≡ 0
+pub none-zero_count : (view : FlatView) (memory : List ℕ) (objects : List Object)
+    → count_by (is_flat_zero_count view) (map (flat_of memory) objects) ≡ 0
 none-zero_count view memory [] = refl
 none-zero_count view memory (o ∷ os) =
     let rest = none-zero_count view memory os in
-    let first : is_held_zero_count view (held_of memory o) ≡ false =
-    ap (λ b. b && not false && held_refs view o.base == 0) o.not_counted in
-    sum_by-cons (λ h. cond (is_held_zero_count view h) 1 0) (held_of memory o) (map (held_of memory) os)
-    ∙ ap (λ b. cond b 1 0 + count_by (is_held_zero_count view) (map (held_of memory) os)) first ∙ ap (λ n. 0 + n) rest
+    let first : is_flat_zero_count view (flat_of memory o) ≡ false =
+    ap (λ b. b && not false && flat_refs view o.base == 0) o.not_counted in
+    sum_by-cons (λ h. cond (is_flat_zero_count view h) 1 0) (flat_of memory o) (map (flat_of memory) os)
+    ∙ ap (λ b. cond b 1 0 + count_by (is_flat_zero_count view) (map (flat_of memory) os)) first ∙ ap (λ n. 0 + n) rest
 
 -- A word is written into a slot of an object.
 module _ (memory : List ℕ) (object : Object) (s word : ℕ) (below : s < object.shape.slots) where
   abbrev written : List ℕ
   written = set memory (first_slot object.base + s) word
 
-  abbrev held_written : HeldObject
-  held_written = record (held_of memory object) { words = slice_set (held_of memory object).words s word }
+  abbrev flat_written : FlatObject
+  flat_written = record (flat_of memory object) { words = slice_set (flat_of memory object).words s word }
 
-  abbrev replaced : HeldObject → HeldObject
-  replaced o = if o.base == object.base then held_written else o
+  abbrev replaced : FlatObject → FlatObject
+  replaced o = if o.base == object.base then flat_written else o
 
-  written-itself : (o : Object) → o ≡ object → held_of written o ≡ replaced (held_of memory o)
+  written-itself : (o : Object) → o ≡ object → flat_of written o ≡ replaced (flat_of memory o)
   written-itself o same =
       let here : (o.base == object.base) ≡ true = eq-eqb _ _ (ap (λ (x : Object). x.base) same) in
-      ap (held_of written) same
-      ∙ ap (λ ws. record (held_of memory object) { words = ws })
+      ap (flat_of written) same
+      ∙ ap (λ ws. record (flat_of memory object) { words = ws })
       (words_at-set memory (first_slot object.base) object.shape.slots s word below)
-      ∙ sym (ap (λ b. if b then held_written else held_of memory o) here)
+      ∙ sym (ap (λ b. if b then flat_written else flat_of memory o) here)
 
   written-elsewhere : (o : Object) → IsDisjoint (piece_of o) (piece_of object)
-      → held_of written o ≡ replaced (held_of memory o)
+      → flat_of written o ≡ replaced (flat_of memory o)
   written-elsewhere o apart =
       let mine = object.slots_fit in
       let its = o.slots_fit in
@@ -140,28 +140,28 @@ module _ (memory : List ℕ) (object : Object) (s word : ℕ) (below : s < objec
       let same : o.base ≡ object.base = eqb-true _ _ e in
       ⊎_elim (λ (h : o.base + o.extent ≤ object.base). omega arith)
       (λ (h : object.base + object.extent ≤ o.base). omega arith) apart) in
-      ap (λ ws. record (held_of memory o) { words = ws })
+      ap (λ ws. record (flat_of memory o) { words = ws })
       (words_at-elsewhere (first_slot object.base + s) 1 memory written
       (same-set memory (first_slot object.base + s) word) (first_slot o.base) o.shape.slots away)
-      ∙ sym (ap (λ b. if b then held_written else held_of memory o) other)
+      ∙ sym (ap (λ b. if b then flat_written else flat_of memory o) other)
 
   objects-written : (objects : List Object) → AllByRecursion (IsSameOrDisjoint object) objects
-      → map (held_of written) objects ≡ map replaced (map (held_of memory) objects)
+      → map (flat_of written) objects ≡ map replaced (map (flat_of memory) objects)
   objects-written [] each = refl
   objects-written (o ∷ os) each =
-      let first : held_of written o ≡ replaced (held_of memory o) =
+      let first : flat_of written o ≡ replaced (flat_of memory o) =
       ⊎_elim (written-itself o) (written-elsewhere o) each.0 in
-      ap (λ h. h ∷ map (held_of written) os) first
-      ∙ ap (λ hs. replaced (held_of memory o) ∷ hs) (objects-written os each.1)
+      ap (λ h. h ∷ map (flat_of written) os) first
+      ∙ ap (λ hs. replaced (flat_of memory o) ∷ hs) (objects-written os each.1)
 
   pub view-written : (settings : Settings) (objects : List Object) (stack : List ℕ) (commands cell : ℕ)
       → AreAllApart (pieces_of objects) → find (λ o. falls cell o.base o.extent) objects ≡ Some object
       → plain_view settings written objects stack commands
-      ≡ held_put (plain_view settings memory objects stack commands) (held_of memory object) s word
+      ≡ flat_put (plain_view settings memory objects stack commands) (flat_of memory object) s word
   view-written settings objects stack commands cell apart found =
       let view = plain_view settings memory objects stack commands in
-      let put = with_held_word (held_of memory object) s word view in
+      let put = with_flat_word (flat_of memory object) s word view in
       ap (λ os. record view { objects = os })
       (objects-written objects (same_or_disjoint _ objects object apart found))
-      ∙ sym (ap (λ b. if b then record put { cycle = option_map (with_held_grayed put word) put.cycle } else put)
-      (and-false (not (is_raw (held_slot_kind (held_of memory object) s)))))
+      ∙ sym (ap (λ b. if b then record put { cycle = option_map (with_flat_grayed put word) put.cycle } else put)
+      (and-false (not (is_raw (flat_slot_kind (flat_of memory object) s)))))

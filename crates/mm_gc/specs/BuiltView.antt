@@ -11,23 +11,23 @@ use Rattle.mm_model.specs.declared.reply.Put.TheVariants.{Tight, Loose}
 use Rattle.mm_model.specs.declared.reply.Mapped.{Mapped}
 use Rattle.mm_model.specs.SizeClass.{size_of, object_bytes}
 use Rattle.mm_model.specs.Place.{Objects, place_among}
-use Rattle.mm_model.specs.View.{View}
-use Rattle.mm_model.specs.ViewEffect.{HeldEffect, held_pieces, held_refusal, held_new_effect, held_plain_effect}
+use Rattle.mm_model.specs.FlatView.{FlatView}
+use Rattle.mm_model.specs.FlatEffect.{FlatEffect, flat_pieces, flat_refusal, flat_new_effect, flat_plain_effect}
 
 -- where an object of this shape goes
-abbrev pub held_place : View → Shape → Option ℕ
-held_place view shape = place_among (held_pieces view) view.settings.max Objects (size_of (object_bytes shape.slots))
+abbrev pub flat_place : FlatView → Shape → Option ℕ
+flat_place view shape = place_among (flat_pieces view) view.settings.max Objects (size_of (object_bytes shape.slots))
 
-abbrev pub held_carried : View → Command → HeldEffect
-held_carried view (commands.New shape) = held_new_effect view shape (held_place view shape)
-held_carried view command = held_plain_effect view command
+abbrev pub flat_carried : FlatView → Command → FlatEffect
+flat_carried view (commands.New shape) = flat_new_effect view shape (flat_place view shape)
+flat_carried view command = flat_plain_effect view command
 
-abbrev pub held_unless_refused : Option Refusal → View → HeldEffect → HeldEffect
-held_unless_refused None view effect = effect
-held_unless_refused (Some because) view effect = record { view = view; reply = replies.Refused because }
+abbrev pub flat_unless_refused : Option Refusal → FlatView → FlatEffect → FlatEffect
+flat_unless_refused None view effect = effect
+flat_unless_refused (Some because) view effect = record { view = view; reply = replies.Refused because }
 
-abbrev pub held_built : View → Command → HeldEffect
-held_built view command = held_unless_refused (held_refusal view command) view (held_carried view command)
+abbrev pub flat_built : FlatView → Command → FlatEffect
+flat_built view command = flat_unless_refused (flat_refusal view command) view (flat_carried view command)
 
 -- the replies that the answers of calls stand for
 abbrev pub new_reply : Result ℕ Refusal → Reply

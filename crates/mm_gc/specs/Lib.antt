@@ -1,6 +1,6 @@
 pub mod Built
 pub mod BuiltView
 pub mod Execution
-pub mod Held
+pub mod Flat
 pub mod Plain
 pub mod Resolve

@@ -3,16 +3,16 @@ use Rattle.std.specs.Prelude.{ℕ, ◌-◌, ◌*◌, ◌≡◌, ◌≤◌, List,
 use Rattle.mm_model.specs.Limits.{IsWithinLimits}
 use Rattle.mm_model.specs.Good.{IsPlaced}
 use Rattle.mm_model.specs.declared.settings.Settings.{Settings}
-use Rattle.mm_model.specs.View.{View}
+use Rattle.mm_model.specs.FlatView.{FlatView}
 use Rattle.mm_gc.specs.declared.object.Object.{Object}
 use Rattle.mm_gc.specs.declared.gc.Gc.TheInside.{Inside}
-use Rattle.mm_gc.specs.Held.{held_of, pieces_of}
+use Rattle.mm_gc.specs.Flat.{flat_of, pieces_of}
 
 -- these settings, words of memory, objects, stack and number of commands; the stack grows at the end of its list
-abbrev pub plain_view : Settings → List ℕ → List Object → List ℕ → ℕ → View
+abbrev pub plain_view : Settings → List ℕ → List Object → List ℕ → ℕ → FlatView
 plain_view settings memory objects stack commands =
     record {
-      objects = map (held_of memory) objects;
+      objects = map (flat_of memory) objects;
       stack = reverse stack;
       areas = [];
       cycle = None;
@@ -21,7 +21,7 @@ plain_view settings memory objects stack commands =
       settings = settings;
     }
 
-abbrev pub view_of : Inside → View
+abbrev pub view_of : Inside → FlatView
 view_of gc = plain_view gc.settings gc.memory.items gc.objects.items gc.stack.items gc.commands
 
 -- nothing is allocated after the heap was made

@@ -1,11 +1,11 @@
 // What each command does to the heap, in words alone.
 ghost use Rattle.std.specs.Prelude.{◌≡◌, ◌+◌, ◌<◌, ◌≤◌, ◌^◌, IsTrue};
 ghost use Rattle.mm_model.specs.Refusing.{is_bad_shape};
-ghost use Rattle.mm_model.specs.ViewEffect.{held_stat};
+ghost use Rattle.mm_model.specs.FlatEffect.{flat_stat};
 ghost use Rattle.mm_model.specs.declared.command.Command.TheVariants as commands;
 ghost use Rattle.mm_model.specs.declared.reply.Reply.TheVariants as replies;
 ghost use Rattle.mm_gc.specs.Built.{IsBuilt, is_plain};
-ghost use Rattle.mm_gc.specs.BuiltView.{held_built, new_reply, done_reply, word_reply, put_reply, map_reply};
+ghost use Rattle.mm_gc.specs.BuiltView.{flat_built, new_reply, done_reply, word_reply, put_reply, map_reply};
 
 use crate::gc::Gc;
 use crate::placement::place_object;
@@ -30,8 +30,8 @@ impl Gc {
     /// Makes an object and pushes its base.
     pub(crate) fn make_object(&mut self, shape: Shape) -> Result<u32, Refusal>
         requires built { IsTrue (is_plain shape) }
-        ensures view { self.new ≡ (held_built self.old (commands.New shape)).view }
-        ensures reply { new_reply result ≡ (held_built self.old (commands.New shape)).reply }
+        ensures view { self.new ≡ (flat_built self.old (commands.New shape)).view }
+        ensures reply { new_reply result ≡ (flat_built self.old (commands.New shape)).reply }
     {
         if is_bad_shape(&shape) {
             return Err(Refusal::Shape);
@@ -50,8 +50,8 @@ impl Gc {
 
     /// Pushes a word.
     pub(crate) fn push_word(&mut self, word: u32) -> Result<(), Refusal>
-        ensures view { self.new ≡ (held_built self.old (commands.Push word)).view }
-        ensures reply { done_reply result ≡ (held_built self.old (commands.Push word)).reply }
+        ensures view { self.new ≡ (flat_built self.old (commands.Push word)).view }
+        ensures reply { done_reply result ≡ (flat_built self.old (commands.Push word)).reply }
     {
         if is_full(&self.stack, &self.settings) {
             return Err(Refusal::StackFull);
@@ -62,8 +62,8 @@ impl Gc {
 
     /// Pushes a cell again.
     pub(crate) fn push_cell(&mut self, index: u32) -> Result<(), Refusal>
-        ensures view { self.new ≡ (held_built self.old (commands.Dup index)).view }
-        ensures reply { done_reply result ≡ (held_built self.old (commands.Dup index)).reply }
+        ensures view { self.new ≡ (flat_built self.old (commands.Dup index)).view }
+        ensures reply { done_reply result ≡ (flat_built self.old (commands.Dup index)).reply }
     {
         let Some(word) = cell(&self.stack, index) else {
             return Err(Refusal::NoCell);
@@ -77,8 +77,8 @@ impl Gc {
 
     /// Removes so many cells from the top.
     pub(crate) fn remove_cells(&mut self, count: u32) -> Result<(), Refusal>
-        ensures view { self.new ≡ (held_built self.old (commands.Pop count)).view }
-        ensures reply { done_reply result ≡ (held_built self.old (commands.Pop count)).reply }
+        ensures view { self.new ≡ (flat_built self.old (commands.Pop count)).view }
+        ensures reply { done_reply result ≡ (flat_built self.old (commands.Pop count)).reply }
     {
         let depth = self.stack.len();
         let count = count as usize;
@@ -91,8 +91,8 @@ impl Gc {
 
     /// Pushes the word of a cell plus a number of bytes, which must stay in the object.
     pub(crate) fn push_inner(&mut self, index: u32, bytes: u32) -> Result<u32, Refusal>
-        ensures view { self.new ≡ (held_built self.old (commands.Inner index bytes)).view }
-        ensures reply { word_reply result ≡ (held_built self.old (commands.Inner index bytes)).reply }
+        ensures view { self.new ≡ (flat_built self.old (commands.Inner index bytes)).view }
+        ensures reply { word_reply result ≡ (flat_built self.old (commands.Inner index bytes)).reply }
     {
         let Some(word) = cell(&self.stack, index) else {
             return Err(Refusal::NoCell);
@@ -112,8 +112,8 @@ impl Gc {
 
     /// Pushes a slot of the object that a cell means.
     pub(crate) fn push_slot(&mut self, index: u32, slot: u32) -> Result<u32, Refusal>
-        ensures view { self.new ≡ (held_built self.old (commands.Get index slot)).view }
-        ensures reply { word_reply result ≡ (held_built self.old (commands.Get index slot)).reply }
+        ensures view { self.new ≡ (flat_built self.old (commands.Get index slot)).view }
+        ensures reply { word_reply result ≡ (flat_built self.old (commands.Get index slot)).reply }
     {
         let Some(word) = cell(&self.stack, index) else {
             return Err(Refusal::NoCell);
@@ -134,8 +134,8 @@ impl Gc {
 
     /// Writes into a slot of the object that a cell means the word of another cell.
     pub(crate) fn write_slot(&mut self, index: u32, slot: u32, from: u32) -> Result<Put, Refusal>
-        ensures view { self.new ≡ (held_built self.old (commands.Put index slot from)).view }
-        ensures reply { put_reply result ≡ (held_built self.old (commands.Put index slot from)).reply }
+        ensures view { self.new ≡ (flat_built self.old (commands.Put index slot from)).view }
+        ensures reply { put_reply result ≡ (flat_built self.old (commands.Put index slot from)).reply }
     {
         let Some(word) = cell(&self.stack, index) else {
             return Err(Refusal::NoCell);
@@ -155,8 +155,8 @@ impl Gc {
 
     /// What is told of the object that a cell means.
     pub(crate) fn mapped(&self, index: u32) -> Result<Option<Mapped>, Refusal>
-        ensures view { self.now ≡ (held_built self.now (commands.Map index)).view }
-        ensures reply { map_reply result ≡ (held_built self.now (commands.Map index)).reply }
+        ensures view { self.now ≡ (flat_built self.now (commands.Map index)).view }
+        ensures reply { map_reply result ≡ (flat_built self.now (commands.Map index)).reply }
     {
         let Some(word) = cell(&self.stack, index) else {
             return Err(Refusal::NoCell);
@@ -166,7 +166,7 @@ impl Gc {
 
     /// How many objects and free pages there are. No object is counted, and there are no areas.
     pub(crate) fn counts(&self) -> Stat
-        ensures { result ≡ held_stat self.now }
+        ensures { result ≡ flat_stat self.now }
     {
         let end = region_pages(&self.objects, self.settings.pages);
         Stat {
@@ -180,8 +180,8 @@ impl Gc {
     /// Carries out a command.
     pub(crate) fn carry_out(&mut self, command: &Command) -> Reply
         requires built { IsBuilt command.now }
-        ensures view { self.new ≡ (held_built self.old command.now).view }
-        ensures reply { result ≡ (held_built self.old command.now).reply }
+        ensures view { self.new ≡ (flat_built self.old command.now).view }
+        ensures reply { result ≡ (flat_built self.old command.now).reply }
     {
         match *command {
             Command::New(shape) => new_reply(self.make_object(shape)),

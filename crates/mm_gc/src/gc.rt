@@ -2,7 +2,7 @@
 ghost use Rattle.std.specs.Prelude.{◌≡◌, ◌+◌, ◌-◌, ◌*◌, ◌<◌, ◌≤◌, ◌^◌, IfOk};
 ghost use Rattle.mm_model.specs.State.{empty_state};
 ghost use Rattle.mm_model.specs.Limits.{IsWithinLimits};
-ghost use Rattle.mm_model.specs.View.{Shows};
+ghost use Rattle.mm_model.specs.FlatView.{FlatShows};
 ghost use Rattle.mm_gc.specs.Built.{IsBuilt};
 ghost use Rattle.mm_gc.specs.Execution.{Executes};
 
@@ -33,9 +33,9 @@ pub struct Gc {
 }
 
 impl Model for Gc {
-    ghost use Rattle.mm_model.specs.View.{View};
+    ghost use Rattle.mm_model.specs.FlatView.{FlatView};
 
-    ghost Value = { View };
+    ghost Value = { FlatView };
 
     ghost use Rattle.mm_gc.specs.Plain.{view_of, IsPlain};
 
@@ -48,7 +48,7 @@ impl Gc {
     /// A heap without objects. An error comes only for want of memory.
     pub fn make(alloc: Global, settings: Settings) -> Result<Gc, NoMemory>
         requires { IsWithinLimits settings }
-        ensures { IfOk result (λ gc. Shows gc (empty_state settings)) }
+        ensures { IfOk result (λ gc. FlatShows gc (empty_state settings)) }
     {
         let memory = vec![in alloc; 0; 1024 * settings.max as usize]?;
         let objects = Vec::with_capacity(alloc, 256 * (settings.max as usize - 1))?;

@@ -19,7 +19,7 @@ pub(crate) struct Object {
 impl Object {
     ghost use Rattle.mm_model.specs.Place.{overlaps};
     ghost use Rattle.mm_model.specs.Words.{falls};
-    ghost use Rattle.mm_gc.specs.Held.{piece_of};
+    ghost use Rattle.mm_gc.specs.Flat.{piece_of};
     ghost use Rattle.mm_gc.specs.Resolve.{mapped_of, inner_word};
 
     /// Whether a byte of it is among so many bytes from `low` on.

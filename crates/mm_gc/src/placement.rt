@@ -8,7 +8,7 @@ ghost use Rattle.mm_model.specs.SizeClass.{size_of, object_bytes, extent_of, ext
 ghost use Rattle.mm_model.specs.Good.{IsPlaced};
 ghost use Rattle.mm_model.specs.Refusing.{is_bad_shape};
 ghost use Rattle.mm_gc.specs.Built.{is_plain};
-ghost use Rattle.mm_gc.specs.Held.{piece_of, pieces_of};
+ghost use Rattle.mm_gc.specs.Flat.{piece_of, pieces_of};
 ghost use Rattle.mm_cells.specs.Sizes.{IsSize};
 
 use crate::object::Object;

@@ -1,6 +1,6 @@
 // The slots of objects, in the words of the region.
 ghost use Rattle.std.specs.Prelude.{◌≡◌, ◌+◌, ◌<◌, ◌≤◌, ◌++◌, length, take, drop, replicate, slice_index, slice_set};
-ghost use Rattle.mm_gc.specs.Held.{first_slot};
+ghost use Rattle.mm_gc.specs.Flat.{first_slot};
 
 use crate::object::Object;
 

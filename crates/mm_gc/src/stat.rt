@@ -2,7 +2,7 @@
 ghost use Rattle.std.specs.Prelude.{◌≡◌, ◌-◌, ◌*◌, ◌≤◌};
 ghost use Rattle.std.specs.List.{fold, count_by, range_with_len};
 ghost use Rattle.mm_model.specs.Place.{is_vacant, page_end};
-ghost use Rattle.mm_gc.specs.Held.{pieces_of};
+ghost use Rattle.mm_gc.specs.Flat.{pieces_of};
 
 use crate::object::Object;
 use crate::placement::is_vacant;

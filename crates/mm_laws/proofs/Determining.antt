@@ -30,7 +30,7 @@ use Rattle.mm_model.specs.After.{phases_in, scanned_bases, first_phase, later_ph
 use Rattle.mm_model.proofs.Places.Placing.{both}
 use Rattle.mm_model.proofs.Good.Living.{lives_once_at}
 use Rattle.mm_laws.proofs.Groups.{phases_in-phase_lines, scanned_bases-phase_lines}
-use Rattle.mm_laws.proofs.Truth.{together}
+use Rattle.mm_model.proofs.Lists.Truth.{together}
 
 -- the only element that passes is the first one
 position-only : {X : Type 0} (test : X → Bool) (from : ℕ) (xs : List X) (i : ℕ) (x : X) → slice_get xs i ≡ Some x

@@ -1,11 +1,9 @@
-pub mod Choosing
 pub mod Cutting
 pub mod Determining
 pub mod Following
 pub mod FollowingPlain
 pub mod FollowingSteps
 pub mod Groups
-pub mod LeastClass
 pub mod Leaving
 pub mod LineWords
 pub mod Looking
@@ -14,7 +12,6 @@ pub mod ReadBack
 pub mod Referring
 pub mod Sparing
 pub mod Spellings
-pub mod Truth
 pub mod Unchosen
 pub mod WeakReferences
 pub mod Words

@@ -12,7 +12,7 @@ use Rattle.mm_model.specs.Protected.{IsProtected, By_stack, By_area, By_counted_
 use Rattle.mm_model.specs.Reached.{IsReached, By_root, By_slot as Reached_by_slot}
 use Rattle.mm_model.proofs.Lists.Keyed.{refuted}
 use Rattle.mm_model.proofs.Places.Placing.{both}
-use Rattle.mm_laws.proofs.Truth.{together, not_true, not-false, no_other}
+use Rattle.mm_model.proofs.Lists.Truth.{together, not_true, not-false, no_other}
 use Rattle.mm_model.proofs.Lists.Passing.{any-front, any-back, any-flat_map, any-none_counted, any-weaker, any-flat_map-weaker, any-words_take, any-words_drop}
 use Rattle.mm_model.proofs.Good.Living.{lives_extent, lives_same}
 
@@ -33,9 +33,9 @@ uncounted a object e =
       unheld = any-none_counted (λ word. word == object.base) (counted_words a) (eqb-true _ _ outer.1);
     }
 
-held_by_slot : (a : State) (object : Object) (by : ℕ) (holder : Object) → Lives a by holder
+flat_by_slot : (a : State) (object : Object) (by : ℕ) (holder : Object) → Lives a by holder
     → holds (counted_slots holder) object ≡ true → holds (counted_words a) object ≡ true
-held_by_slot a object by holder lives e =
+flat_by_slot a object by holder lives e =
     any-front (λ word. word == object.base) _ (counted_cell_words a)
     (any-flat_map counted_slots is_live (λ word. word == object.base) a.objects by holder lives.is lives.live e)
 
@@ -47,7 +47,7 @@ unheld_is_reapable a birth object lives zero unnamed =
     refuted _ (λ h. no_other own.unheld (any-back (λ word. word == object.base) _ (counted_cell_words a) h)) in
     Reapable birth object lives
     (together _ _ (together _ _ (together _ _ own.counted own.loose) unnamed) (not-false _ cells))
-    (λ by holder held h. absurd (no_other own.unheld (held_by_slot a object by holder held h)))
+    (λ by holder held h. absurd (no_other own.unheld (flat_by_slot a object by holder held h)))
 
 -- what the first test on a reapable object says
 record IsOnlyHeldBySlots (a : State) (object : Object) : Type 0 where

@@ -5,12 +5,12 @@ ghost use Rattle.mm_model.specs.SizeClass.{class_sizes, extent_of};
 ghost use Rattle.mm_model.specs.State.{State};
 ghost use Rattle.mm_model.specs.Place.{Family, live_pieces, place_of};
 ghost use Rattle.mm_model.specs.Good.{IsPlaced};
-ghost use Rattle.mm_laws.specs.Lowest.{piece_of, Fits, IsRun, IsFreeCell, IsLowestOf, IsPreferred};
+ghost use Rattle.mm_model.specs.Lowest.{piece_of, IsFreeFor, IsRun, IsFreeCell, IsLowestOf, IsPreferred};
 
 /// A place that is found lies in the region, is free, and shares its pages with its own kind alone.
 pub fn place_is_free()
     ensures { (a : State) (limit : ℕ) (family : Family) (bytes base : ℕ) → IsPlaced a.settings.max (live_pieces a)
-        → place_of a limit family bytes ≡ Some base → Fits limit (live_pieces a) (piece_of family bytes base) }
+        → place_of a limit family bytes ≡ Some base → IsFreeFor limit (live_pieces a) (piece_of family bytes base) }
 {}
 
 /// Whole pages take the lowest run that is free. A cell takes the lowest free one in the pages of its family and class,

@@ -1,6 +1,6 @@
 pub mod Cycle
+pub mod FlatView
 pub mod Good
 pub mod Lists
 pub mod Places
 pub mod Text
-pub mod View

@@ -5,3 +5,4 @@ pub mod Parts
 pub mod Passing
 pub mod Replaced
 pub mod Tests
+pub mod Truth

@@ -1,4 +1,6 @@
+pub mod Choosing
 pub mod Falling
+pub mod LeastClass
 pub mod Placing
 pub mod Room
 pub mod SeenAlike

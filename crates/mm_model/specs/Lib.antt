@@ -3,10 +3,13 @@ pub mod Areas
 pub mod Count
 pub mod Course
 pub mod Effect
+pub mod FlatEffect
+pub mod FlatView
 pub mod Good
 pub mod Journal
 pub mod Limits
 pub mod Log
+pub mod Lowest
 pub mod Marking
 pub mod Meaning
 pub mod Object
@@ -26,6 +29,4 @@ pub mod Store
 pub mod Throughout
 pub mod Trace
 pub mod Value
-pub mod View
-pub mod ViewEffect
 pub mod Words

@@ -2,7 +2,7 @@
 use Rattle.std.proofs.Common.{◌≡◌, ◌≢◌, ℕ, ◌≤◌, Bool, true, false, List, [], ◌++◌, length, length-append, Option, Some, None, IsSome, refl, sym, ap, subst, append-nil, inl, arith}
 use Rattle.std.specs.Prelude.{IsSomeAnd}
 use Rattle.mm_model.specs.Trace.{lines_of, FaultAt}
-use Rattle.mm_model.specs.View.{View}
+use Rattle.mm_model.specs.FlatView.{FlatView}
 use Rattle.mm_io.specs.Told.{Gives}
 use Rattle.mmgc.specs.Replaying.{reading_of, most_bytes}
 use Rattle.mmgc.specs.Completing.{IsTrace, IsComplete}
@@ -44,7 +44,7 @@ fits_read (Some all) (Some rest) bytes trace told given =
 
 -- each end but that of a whole input needs what an unhindered run doesn't have
 module _ (left left_after taken taken_after : Option (List ℕ))
-    (words read_faults read_faults_after faults faults_after : ℕ) (heap : View) where
+    (words read_faults read_faults_after faults faults_after : ℕ) (heap : FlatView) where
   status_complete : (end : End)
       → Replayed end left left_after read_faults read_faults_after taken taken_after faults faults_after heap
       → IsComplete (status_of end) words left left_after read_faults read_faults_after faults faults_after

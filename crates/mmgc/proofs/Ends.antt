@@ -1,6 +1,6 @@
 -- Ends of a replay, as a whole and by turns.
 use Rattle.std.proofs.Common.{◌≡◌, ℕ, ◌<◌, ◌≤◌, Bool, true, false, List, [], ◌∷◌, ◌++◌, length, refl, sym, ap, ◌∙◌, subst, append-nil, ◌⊎◌, inl, inr, IsTrue, Option, None, Result, Ok, Err, arith}
-use Rattle.mm_model.specs.View.{View}
+use Rattle.mm_model.specs.FlatView.{FlatView}
 use Rattle.mm_io.specs.Faults.{Rose}
 use Rattle.mm_io.specs.Told.{Gives}
 use Rattle.mm_trace.specs.Held.{Held}
@@ -8,7 +8,7 @@ use mathlib.Core.Path.{subst₂, subst₃}
 use Rattle.mm_model.specs.declared.line.Line.TheVariants as lines
 use Rattle.mm_model.specs.declared.line.Totals.{Totals}
 use Rattle.mm_model.specs.State.{empty_state}
-use Rattle.mm_model.specs.View.{Shows}
+use Rattle.mm_model.specs.FlatView.{FlatShows}
 use Rattle.mm_model.specs.Journal.{Writes}
 use Rattle.mm_model.specs.Spelling.{spelling, spelling_of}
 use Rattle.mm_model.specs.Trace.{lines_of, FaultAt}
@@ -28,7 +28,7 @@ pub rose-since : (earlier before now : ℕ) → earlier ≤ before → Rose befo
 rose-since earlier before now l h = omega arith
 
 pub ended-since : (end : End) (start : Option (List ℕ)) (bytes : List ℕ) (left : Option (List ℕ))
-    (earlier before now : ℕ) (view : View) (kept : Option (List ℕ)) (broken : Bool) →
+    (earlier before now : ℕ) (view : FlatView) (kept : Option (List ℕ)) (broken : Bool) →
     earlier ≤ before → Ended end start bytes left before now view kept broken →
     Ended end start bytes left earlier now view kept broken
 ended-since Whole start bytes left earlier before now view kept broken l h = h
@@ -41,7 +41,7 @@ ended-since TooLong start bytes left earlier before now view kept broken l h = h
 -- a piece that the source gave was taken, or ended the replay
 pub turns-piece : (result : Result ℕ End) (start : Option (List ℕ)) (bytes piece : List ℕ) (room : ℕ)
     (left after_left : Option (List ℕ)) (before now : ℕ)
-    (view : View) (held : Held) (lines : ℕ) (kept : Option (List ℕ)) (broken : Bool) →
+    (view : FlatView) (held : Held) (lines : ℕ) (kept : Option (List ℕ)) (broken : Bool) →
     TakesPiece result start bytes piece room after_left before now view held lines kept broken →
     Gives left after_left piece → 0 < length piece →
     Turns result start bytes room left after_left before now view held lines kept broken
@@ -51,7 +51,7 @@ turns-piece (Err end) start bytes piece room left after_left before now view hel
     (piece, given, t)
 
 -- the total line makes a legal log whole
-pub whole-log : (start : Option (List ℕ)) (bytes : List ℕ) (view : View) (kept after_kept : Option (List ℕ))
+pub whole-log : (start : Option (List ℕ)) (bytes : List ℕ) (view : FlatView) (kept after_kept : Option (List ℕ))
     (broken after_broken : Bool) (totals : Totals) →
     Stopped start (lines_of bytes) None view kept broken → totals ≡ view.totals →
     Writes kept broken after_kept after_broken (spelling (lines.Total totals)) →
@@ -76,7 +76,7 @@ whole-log start bytes view kept after_kept broken after_broken totals s t w =
     }
 
 pub totalled-other : (end : End) (start : Option (List ℕ)) (bytes : List ℕ) (left : Option (List ℕ))
-    (before now : ℕ) (view : View) (kept : Option (List ℕ)) (broken : Bool) →
+    (before now : ℕ) (view : FlatView) (kept : Option (List ℕ)) (broken : Bool) →
     (end ≡ Whole → ⊥) → Ended end start bytes left before now view kept broken →
     Totalled end start bytes left before now view kept broken
 totalled-other Whole start bytes left before now view kept broken other h = absurd (other refl)
@@ -86,7 +86,7 @@ totalled-other WriteFailed start bytes left before now view kept broken other h 
 totalled-other TooLong start bytes left before now view kept broken other h = h
 
 -- a legal log, as one that is legal or whole
-logged : {start : Option (List ℕ)} {lines : List (List ℕ)} {fault : Option FaultAt} {view : View} {kept : Option
+logged : {start : Option (List ℕ)} {lines : List (List ℕ)} {fault : Option FaultAt} {view : FlatView} {kept : Option
     (List ℕ)} {broken : Bool} →
     Stopped start lines fault view kept broken → Logged start lines view kept broken
 logged s =
@@ -102,7 +102,7 @@ logged s =
       written = s.written;
     }
 
-module _ (start : Option (List ℕ)) (bytes : List ℕ) (left : Option (List ℕ)) (before now : ℕ) (view : View)
+module _ (start : Option (List ℕ)) (bytes : List ℕ) (left : Option (List ℕ)) (before now : ℕ) (view : FlatView)
     (kept after_kept : Option (List ℕ)) (broken after_broken : Bool)
     (w : Writes kept broken after_kept after_broken []) where
   settled_whole : WholeLog start bytes view kept broken → WholeLog start bytes view after_kept after_broken
@@ -152,9 +152,9 @@ module _ (start : Option (List ℕ)) (bytes : List ℕ) (left : Option (List ℕ
   finished-badly TooLong e t = (e, t.0, t.1, false, logged (stopped-settled t.4 w))
 
 -- nothing was read yet, in the words of what was made
-pub progress-made : (view heap : View) (held : Held) (count : ℕ) (kept : Option (List ℕ)) (broken : Bool) →
+pub progress-made : (view heap : FlatView) (held : Held) (count : ℕ) (kept : Option (List ℕ)) (broken : Bool) →
     heap ≡ view → held ≡ nothing_held → count ≡ 0 → broken ≡ false →
-    Shows view (empty_state default_settings) → Progress kept [] heap held count kept broken
+    FlatShows view (empty_state default_settings) → Progress kept [] heap held count kept broken
 progress-made view heap held count kept broken h e n b shows =
     subst₃ (λ v x k. Progress kept [] v x k kept broken) (sym h) (sym e) (sym n)
     (subst (λ b. Progress kept [] view nothing_held 0 kept b) (sym b) (progress-none view kept shows))
@@ -178,7 +178,7 @@ written_front t u start kept broken pending text s k b g w =
     (subst (λ c. Writes start false kept c text) b w)) g
 
 carried-logged : {lines : List (List ℕ)} {fault : Option FaultAt} {start : Option
-    (List ℕ)} {view : View} {kept : Option (List ℕ)} {broken : Bool} →
+    (List ℕ)} {view : FlatView} {kept : Option (List ℕ)} {broken : Bool} →
     (s : Stopped start lines fault view kept broken) → Carried lines fault s.log view
 carried-logged s =
     record {
@@ -192,7 +192,7 @@ carried-logged s =
 
 -- A replay from a sink that had taken t to one that has taken u.
 module _ (t u left left_after : Option (List ℕ)) (faults faults_after before now : ℕ) (start kept : Option (List ℕ))
-    (broken : Bool) (pending bytes : List ℕ) (view : View)
+    (broken : Bool) (pending bytes : List ℕ) (view : FlatView)
     (s : start ≡ kept_bytes t false []) (k : kept ≡ kept_bytes u broken pending) (none : broken ≡ false →
     pending ≡ []) (grows : Grows t u)
     (cause : broken ≡ true → Rose faults faults_after) (given : Gives left left_after bytes) where
@@ -265,7 +265,7 @@ module _ (t u left left_after : Option (List ℕ)) (faults faults_after before n
 -- the same, seen from where the sink comes back
 pub replayed-at : {K : Type 0} (taken : K → Option (List ℕ)) (count : K →
     ℕ) (end : End) (left left_after : Option (List ℕ)) (before now : ℕ) (t : Option (List ℕ)) (faults : ℕ)
-    (last final : K) (view : View) → final ≡ last → Replayed end left left_after before now t (taken last) faults
+    (last final : K) (view : FlatView) → final ≡ last → Replayed end left left_after before now t (taken last) faults
     (count last) view →
     Replayed end left left_after before now t (taken final) faults (count final) view
 replayed-at taken count end left left_after before now t faults last final view e r =

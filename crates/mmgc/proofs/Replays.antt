@@ -22,7 +22,7 @@ use Rattle.mm_model.specs.Effect.{Effect}
 use Rattle.mm_model.specs.State.{State, empty_state}
 use Rattle.mm_model.specs.Good.{IsGood}
 use Rattle.mm_model.specs.Log.{Steps, IsRun}
-use Rattle.mm_model.specs.View.{View, Shows}
+use Rattle.mm_model.specs.FlatView.{FlatView, FlatShows}
 use Rattle.mm_model.specs.Journal.{Writes}
 use Rattle.mm_model.specs.Spelling.{spelling, spelling_of}
 use Rattle.mm_model.specs.Trace.{line_reading, words_reading, words_of, is_comment, complete_lines, lines_of, Reading, FaultAt}
@@ -41,7 +41,7 @@ pub spelling_of-append : (xs ys : List Line) → spelling_of (xs ++ ys) ≡ spel
 spelling_of-append xs ys = flat_map-append spelling xs ys
 
 -- a command was executed, and its reply was written
-pub carries_out : {old new : View} {command : Command} {reply : Reply} {k l m : Option (List ℕ)} {b c d : Bool} →
+pub carries_out : {old new : FlatView} {command : Command} {reply : Reply} {k l m : Option (List ℕ)} {b c d : Bool} →
     Executes old new command reply k b l c → Writes l c m d (spelling (lines.Reply reply)) →
     CarriesOut old new command k b m d
 carries_out {reply = reply} {k = k} {m = m} {b = b} {d = d} e w =
@@ -91,9 +91,9 @@ few_built : (a : State) (command : Command) → BearsFew a (built_effect a comma
 few_built a command = few_unless a (carried_effect a command) (few_carried a command) (refusal a command)
 
 -- the commands so far and one more
-pub carried_out-push : {commands : List Command} {log : List Line} {old new : View} {command : Command}
+pub carried_out-push : {commands : List Command} {log : List Line} {old new : FlatView} {command : Command}
     {group : List Line} →
-    CarriedOut commands log old → ((a : State) → IsGood a → Shows old a → IsStep new command group a) →
+    CarriedOut commands log old → ((a : State) → IsGood a → FlatShows old a → IsStep new command group a) →
     CarriedOut (commands ++ command ∷ []) (log ++ group) new
 carried_out-push {commands} {log} {command = command} {group = group} c step =
     let s = step c.state c.good c.shows in
@@ -110,11 +110,11 @@ carried_out-push {commands} {log} {command = command} {group = group} c step =
     }
 
 -- how the numbers of a view stand to its commands
-pub record Counted (view : View) (commands : List Command) : Type 0 where
+pub record Counted (view : FlatView) (commands : List Command) : Type 0 where
   pub commands_are : view.totals.commands ≡ length commands
   pub births_are : view.totals.born ≤ length commands
 
-pub counted : {commands : List Command} {log : List Line} {view : View} → CarriedOut commands log view →
+pub counted : {commands : List Command} {log : List Line} {view : FlatView} → CarriedOut commands log view →
     Counted view commands
 counted {commands} c =
     record {
@@ -124,12 +124,12 @@ counted {commands} c =
     }
 
 -- the numbers that a replay counts have room for what may still come
-pub record HasRoom (view : View) (count more : ℕ) : Type 0 where
+pub record HasRoom (view : FlatView) (count more : ℕ) : Type 0 where
   pub commands : view.totals.commands + more ≤ most_bytes
   pub births : view.totals.born + more ≤ most_bytes
   pub lines : count + more ≤ most_bytes
 
-pub has_room : {view : View} {held : Held} {count : ℕ} {kept : Option (List ℕ)} {broken : Bool} {more : ℕ} →
+pub has_room : {view : FlatView} {held : Held} {count : ℕ} {kept : Option (List ℕ)} {broken : Bool} {more : ℕ} →
     IsUnderWay view held count kept broken more → HasRoom view count more
 has_room {view} {held} {count} {kept} {broken} {more} way =
     let p = way.progress in
@@ -144,7 +144,7 @@ has_room {view} {held} {count} {kept} {broken} {more} way =
 
 -- the same log for the same reading
 stopped-reading : {start : Option (List ℕ)} {lines more : List
-    (List ℕ)} {fault : Option FaultAt} {view : View} {kept : Option (List ℕ)} {broken : Bool} →
+    (List ℕ)} {fault : Option FaultAt} {view : FlatView} {kept : Option (List ℕ)} {broken : Bool} →
     Stopped start lines None view kept broken → reading_of more ≡ record {
       commands =
           (reading_of lines).commands;
@@ -161,7 +161,7 @@ stopped-reading {view = view} s e =
     }
 
 -- one more byte of the line that is held
-pub progress-byte : {start : Option (List ℕ)} {bytes : List ℕ} {view : View} {held : Held} {count : ℕ}
+pub progress-byte : {start : Option (List ℕ)} {bytes : List ℕ} {view : FlatView} {held : Held} {count : ℕ}
     {kept : Option (List ℕ)} {broken : Bool} (byte : ℕ) →
     Progress start bytes view held count kept broken → byte ≢ 10 → length held.bytes < 1024 →
     Progress start (bytes ++ byte ∷ []) view (with_byte held byte) count kept broken
@@ -184,7 +184,7 @@ too_long line long =
     ap (λ b. only_built (cond b (Err LineTooLong) (cond (is_comment line) (Ok None)
     (words_reading (words_of line))))) passes
 
-pub stopped-too_long : {start : Option (List ℕ)} {bytes : List ℕ} {view : View} {held : Held} {count : ℕ}
+pub stopped-too_long : {start : Option (List ℕ)} {bytes : List ℕ} {view : FlatView} {held : Held} {count : ℕ}
     {kept : Option (List ℕ)} {broken : Bool} (byte : ℕ) (rest : List ℕ) →
     Progress start bytes view held count kept broken → byte ≢ 10 → length held.bytes ≡ 1024 →
     Stopped start (complete_lines (bytes ++ byte ∷ rest))
@@ -199,7 +199,7 @@ stopped-too_long {bytes = bytes} {held = held} byte rest p other full =
     }) (sym p.count_is))
 
 -- a whole line with a fault
-pub stopped-line : {start : Option (List ℕ)} {bytes : List ℕ} {view : View} {held : Held} {count : ℕ} {kept : Option
+pub stopped-line : {start : Option (List ℕ)} {bytes : List ℕ} {view : FlatView} {held : Held} {count : ℕ} {kept : Option
     (List ℕ)} {broken : Bool} (fault : LineFault) (rest : List ℕ) →
     Progress start bytes view held count kept broken → built_reading held.bytes ≡ Err fault →
     Stopped start (complete_lines (bytes ++ 10 ∷ rest))
@@ -214,7 +214,7 @@ stopped-line {bytes = bytes} {held = held} fault rest p e =
     }) (sym p.count_is))
 
 -- one more line that went well
-next_line : {start : Option (List ℕ)} {bytes : List ℕ} {view new : View} {held : Held} {count : ℕ}
+next_line : {start : Option (List ℕ)} {bytes : List ℕ} {view new : FlatView} {held : Held} {count : ℕ}
     {kept after_kept : Option (List ℕ)} {broken after_broken : Bool} →
     (p : Progress start bytes view held count kept broken) →
     Stopped start (p.done ++ held.bytes ∷ []) None new after_kept after_broken →
@@ -232,7 +232,7 @@ next_line {bytes = bytes} {held = held} p s =
 
 -- a command was carried out after these lines
 pub stopped-command : {start : Option (List ℕ)} {lines more : List
-    (List ℕ)} {command : Command} {view new : View} {kept after_kept : Option
+    (List ℕ)} {command : Command} {view new : FlatView} {kept after_kept : Option
     (List ℕ)} {broken after_broken : Bool} →
     Stopped start lines None view kept broken → CarriesOut view new command kept broken after_kept after_broken →
     reading_of more ≡ record { commands = (reading_of lines).commands ++ command ∷ []; fault = None } →
@@ -247,7 +247,7 @@ stopped-command {start} {new = new} {after_kept = after_kept} {after_broken = af
           (writes-append (spelling_of s.log) (spelling_of c.group) s.written c.written);
     }
 
-pub progress-nothing : {start : Option (List ℕ)} {bytes : List ℕ} {view : View} {held : Held} {count : ℕ}
+pub progress-nothing : {start : Option (List ℕ)} {bytes : List ℕ} {view : FlatView} {held : Held} {count : ℕ}
     {kept : Option (List ℕ)} {broken : Bool} →
     Progress start bytes view held count kept broken → built_reading held.bytes ≡ Ok None →
     Progress start (bytes ++ 10 ∷ []) view nothing_held (count + 1) kept broken
@@ -255,7 +255,7 @@ progress-nothing {held = held} p e =
     next_line p (stopped-reading p.stopped (reading-next-nothing built_reading p.done held.bytes p.stopped.fault_is
     e))
 
-pub progress-command : {start : Option (List ℕ)} {bytes : List ℕ} {view new : View} {held : Held} {count : ℕ}
+pub progress-command : {start : Option (List ℕ)} {bytes : List ℕ} {view new : FlatView} {held : Held} {count : ℕ}
     {kept after_kept : Option (List ℕ)} {broken after_broken : Bool} (command : Command) →
     Progress start bytes view held count kept broken → built_reading held.bytes ≡ Ok (Some command) →
     CarriesOut view new command kept broken after_kept after_broken →
@@ -265,7 +265,7 @@ progress-command {held = held} command p e c =
     p.stopped.fault_is e))
 
 -- A whole line was read: one line more, or the first fault.
-module _ {start : Option (List ℕ)} {bytes : List ℕ} {view new : View} {held : Held} {count : ℕ}
+module _ {start : Option (List ℕ)} {bytes : List ℕ} {view new : FlatView} {held : Held} {count : ℕ}
     {kept after_kept : Option (List ℕ)} {broken after_broken : Bool}
     {Unchanged : Type 0} (same : Unchanged → (new ≡ view) × (after_kept ≡ kept) × (after_broken ≡ broken))
     (p : Progress start bytes view held count kept broken) (result : Result (Unit {0}) LineFault) where
@@ -329,7 +329,7 @@ piece_more bytes piece i below =
     ∙ ap (λ xs. bytes ++ xs) (sym (take_more piece i 0 below))
 
 -- the rest of the input is a line too, or nothing
-module _ {start : Option (List ℕ)} {bytes : List ℕ} {view new : View} {held : Held} {count : ℕ}
+module _ {start : Option (List ℕ)} {bytes : List ℕ} {view new : FlatView} {held : Held} {count : ℕ}
     {kept after_kept : Option (List ℕ)} {broken after_broken : Bool}
     {Unchanged : Type 0} (same : Unchanged → (new ≡ view) × (after_kept ≡ kept) × (after_broken ≡ broken))
     (p : Progress start bytes view held count kept broken) (some : 0 < length held.bytes)
@@ -376,7 +376,7 @@ module _ {start : Option (List ℕ)} {bytes : List ℕ} {view new : View} {held 
       (rest_read (built_reading held.bytes) refl d)
 
 -- nothing is held at the end
-pub stopped-none : {start : Option (List ℕ)} {bytes : List ℕ} {view : View} {held : Held} {count : ℕ} {kept : Option
+pub stopped-none : {start : Option (List ℕ)} {bytes : List ℕ} {view : FlatView} {held : Held} {count : ℕ} {kept : Option
     (List ℕ)} {broken : Bool} →
     Progress start bytes view held count kept broken → held.bytes ≡ [] →
     Stopped start (lines_of bytes) None view kept broken
@@ -385,7 +385,7 @@ stopped-none {bytes = bytes} p none =
     ∙ ap (λ f. record { commands = (reading_of p.done).commands; fault = f }) p.stopped.fault_is)
 
 -- there is room for one more line where some of it is held
-pub has_room-held : {view : View} {held : Held} {count : ℕ} {kept : Option (List ℕ)} {broken : Bool} →
+pub has_room-held : {view : FlatView} {held : Held} {count : ℕ} {kept : Option (List ℕ)} {broken : Bool} →
     IsUnderWay view held count kept broken 0 → 0 < length held.bytes → HasRoom view count 1
 has_room-held {view} {held} {count} {kept} {broken} way some =
     let p = way.progress in
@@ -399,7 +399,7 @@ has_room-held {view} {held} {count} {kept} {broken} way some =
     }
 
 -- where more may come, what was read stops at the last whole line
-pub progress-stopped : {start : Option (List ℕ)} {bytes : List ℕ} {view : View} {held : Held} {count : ℕ}
+pub progress-stopped : {start : Option (List ℕ)} {bytes : List ℕ} {view : FlatView} {held : Held} {count : ℕ}
     {kept : Option (List ℕ)} {broken : Bool} →
     Progress start bytes view held count kept broken → Stopped start (complete_lines bytes) None view kept broken
 progress-stopped {start} {bytes} {view} {held} {count} {kept} {broken} p =
@@ -408,7 +408,7 @@ progress-stopped {start} {bytes} {view} {held} {count} {kept} {broken} p =
 
 -- a journal that writes nothing more
 pub stopped-settled : {start : Option (List ℕ)} {lines : List
-    (List ℕ)} {fault : Option FaultAt} {view : View} {kept after_kept : Option
+    (List ℕ)} {fault : Option FaultAt} {view : FlatView} {kept after_kept : Option
     (List ℕ)} {broken after_broken : Bool} →
     Stopped start lines fault view kept broken → Writes kept broken after_kept after_broken [] →
     Stopped start lines fault view after_kept after_broken
@@ -421,7 +421,7 @@ stopped-settled {start} {after_kept = after_kept} {after_broken = after_broken} 
           (writes-append (spelling_of s.log) [] s.written w);
     }
 
-pub progress-settled : {start : Option (List ℕ)} {bytes : List ℕ} {view : View} {held : Held} {count : ℕ}
+pub progress-settled : {start : Option (List ℕ)} {bytes : List ℕ} {view : FlatView} {held : Held} {count : ℕ}
     {kept after_kept : Option (List ℕ)} {broken after_broken : Bool} →
     Progress start bytes view held count kept broken → Writes kept broken after_kept after_broken [] →
     Progress start bytes view held count after_kept after_broken
@@ -437,7 +437,7 @@ progress-settled p w =
     }
 
 -- nothing was read yet
-pub progress-none : (view : View) (kept : Option (List ℕ)) → Shows view (empty_state default_settings) →
+pub progress-none : (view : FlatView) (kept : Option (List ℕ)) → FlatShows view (empty_state default_settings) →
     Progress kept [] view nothing_held 0 kept false
 progress-none view kept shows =
     record {

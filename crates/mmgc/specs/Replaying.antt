@@ -8,7 +8,7 @@ use Rattle.mm_model.specs.declared.settings.Settings.{Settings}
 use Rattle.mm_model.specs.State.{State}
 use Rattle.mm_model.specs.Good.{IsGood}
 use Rattle.mm_model.specs.Log.{IsLegal}
-use Rattle.mm_model.specs.View.{View, Shows}
+use Rattle.mm_model.specs.FlatView.{FlatView, FlatShows}
 use Rattle.mm_model.specs.Journal.{Writes}
 use Rattle.mm_model.specs.Spelling.{spelling_of}
 use Rattle.mm_model.specs.Trace.{line_reading, reading_from, Reading, FaultAt}
@@ -35,24 +35,24 @@ abbrev pub default_settings : Settings
 default_settings = record { pages = 1024; max = 1024; zct = 256; queue = 256; stack = 1024 }
 
 -- The commands were carried out with this log, which is legal, and the heap shows the state after it.
-pub record CarriedOut (commands : List Command) (log : List Line) (view : View) : Type 0 where
+pub record CarriedOut (commands : List Command) (log : List Line) (view : FlatView) : Type 0 where
   pub state : State
   pub legal : IsLegal Step default_settings commands log state
   pub good : IsGood state
-  pub shows : Shows view state
+  pub shows : FlatShows view state
   pub counted : state.commands ≡ length commands
   pub births : length state.objects ≤ length commands
 
 -- What these lines say was carried out up to the first fault, and the log went to a journal that held `start`.
 pub record Stopped (start : Option (List ℕ)) (lines : List (List ℕ)) (fault : Option FaultAt)
-    (view : View) (kept : Option (List ℕ)) (broken : Bool) : Type 0 where
+    (view : FlatView) (kept : Option (List ℕ)) (broken : Bool) : Type 0 where
   pub fault_is : (reading_of lines).fault ≡ fault
   pub log : List Line
   pub carried : CarriedOut (reading_of lines).commands log view
   pub written : Writes start false kept broken (spelling_of log)
 
 -- The bytes so far were cut into lines, which were carried out without a fault, and a piece of the next line is held.
-pub record Progress (start : Option (List ℕ)) (bytes : List ℕ) (view : View) (held : Held) (count : ℕ)
+pub record Progress (start : Option (List ℕ)) (bytes : List ℕ) (view : FlatView) (held : Held) (count : ℕ)
     (kept : Option (List ℕ)) (broken : Bool) : Type 0 where
   pub done : List (List ℕ)
   pub cuts : Cuts bytes done held.bytes
@@ -69,10 +69,10 @@ DoesLine (Ok None) result unchanged carried = (result ≡ Ok tt) × unchanged
 DoesLine (Ok (Some command)) result unchanged carried = (result ≡ Ok tt) × carried command
 
 -- a command was carried out, and its lines were written
-pub record CarriesOut (old new : View) (command : Command) (kept : Option (List ℕ)) (broken : Bool)
+pub record CarriesOut (old new : FlatView) (command : Command) (kept : Option (List ℕ)) (broken : Bool)
     (kept_after : Option (List ℕ)) (broken_after : Bool) : Type 0 where
   pub group : List Line
-  pub step : (a : State) → IsGood a → Shows old a → IsStep new command group a
+  pub step : (a : State) → IsGood a → FlatShows old a → IsStep new command group a
   pub written : Writes kept broken kept_after broken_after (spelling_of group)
 
 -- What one more byte, or several, made of the progress: more of it, or a fault at this line.
@@ -85,7 +85,7 @@ abbrev pub most_bytes : ℕ
 most_bytes = 2 ^ 32 - 1
 
 -- how far the replay has come, wherever the journal and the bytes began
-pub record IsUnderWay (view : View) (held : Held) (count : ℕ) (kept : Option (List ℕ)) (broken : Bool)
+pub record IsUnderWay (view : FlatView) (held : Held) (count : ℕ) (kept : Option (List ℕ)) (broken : Bool)
     (more : ℕ) : Type 0 where
   pub start : Option (List ℕ)
   pub bytes : List ℕ

@@ -4,7 +4,7 @@ use Rattle.mm_model.specs.declared.line.Line.{Line}
 use Rattle.mm_model.specs.State.{State}
 use Rattle.mm_model.specs.Good.{IsGood}
 use Rattle.mm_model.specs.Log.{IsLegal, IsWhole}
-use Rattle.mm_model.specs.View.{View, Shows}
+use Rattle.mm_model.specs.FlatView.{FlatView, FlatShows}
 use Rattle.mm_model.specs.Journal.{Writes}
 use Rattle.mm_model.specs.Spelling.{spelling_of}
 use Rattle.mm_model.specs.Trace.{lines_of, complete_lines, FaultAt}
@@ -31,7 +31,7 @@ abbrev pub IsFrontOf : List ℕ → List ℕ → Type 0
 IsFrontOf front bytes = (rest : List ℕ) × (front ++ rest ≡ bytes)
 
 -- The bytes were read to this end.
-abbrev pub Ended : End → Option (List ℕ) → List ℕ → Option (List ℕ) → ℕ → ℕ → View → Option (List ℕ) → Bool → Type 0
+abbrev pub Ended : End → Option (List ℕ) → List ℕ → Option (List ℕ) → ℕ → ℕ → FlatView → Option (List ℕ) → Bool → Type 0
 Ended Whole start bytes left before now view kept broken =
     NothingLeft left × Stopped start (lines_of bytes) None view kept broken
 Ended (Fault line fault) start bytes left before now view kept broken =
@@ -46,15 +46,15 @@ Ended TooLong start bytes left before now view kept broken =
     Stopped start (complete_lines read) None view kept broken
 
 -- The commands of these lines were carried out up to the first fault: the log is legal, the heap shows the state after it.
-pub record Carried (lines : List (List ℕ)) (fault : Option FaultAt) (log : List Line) (heap : View) : Type 0 where
+pub record Carried (lines : List (List ℕ)) (fault : Option FaultAt) (log : List Line) (heap : FlatView) : Type 0 where
   pub fault_is : (reading_of lines).fault ≡ fault
   pub state : State
   pub legal : IsLegal Step default_settings (reading_of lines).commands log state
   pub good : IsGood state
-  pub shows : Shows heap state
+  pub shows : FlatShows heap state
 
 -- The input was read to its end and is without a fault, and the whole log was written.
-pub record RunsWhole (left left_after taken taken_after : Option (List ℕ)) (heap : View) : Type 0 where
+pub record RunsWhole (left left_after taken taken_after : Option (List ℕ)) (heap : FlatView) : Type 0 where
   pub bytes : List ℕ
   pub given : Gives left left_after bytes
   pub nothing_left : NothingLeft left_after
@@ -63,12 +63,12 @@ pub record RunsWhole (left left_after taken taken_after : Option (List ℕ)) (he
   pub state : State
   pub whole : IsWhole Step default_settings (reading_of (lines_of bytes)).commands log state
   pub good : IsGood state
-  pub shows : Shows heap state
+  pub shows : FlatShows heap state
   pub written : Appends taken taken_after (spelling_of log)
 
 -- The first fault of the input stands in this line, and the log of the lines before it was written.
 pub record RunsToFault (fault : FaultAt) (left left_after taken taken_after : Option (List ℕ))
-    (heap : View) : Type 0 where
+    (heap : FlatView) : Type 0 where
   pub bytes : List ℕ
   pub given : Gives left left_after bytes
   -- whether the line with the fault ends where the input does
@@ -80,7 +80,7 @@ pub record RunsToFault (fault : FaultAt) (left left_after taken taken_after : Op
 
 -- A read failed. No line that is complete before has a fault, and their log was written.
 pub record RunsToReadFault (faults faults_after : ℕ) (left left_after taken taken_after : Option (List ℕ))
-    (heap : View) : Type 0 where
+    (heap : FlatView) : Type 0 where
   pub bytes : List ℕ
   pub given : Gives left left_after bytes
   pub cause : Rose faults faults_after
@@ -89,7 +89,7 @@ pub record RunsToReadFault (faults faults_after : ℕ) (left left_after taken ta
   pub written : Appends taken taken_after (spelling_of log)
 
 -- A read took more bytes than a trace may have. No line that is complete before that read has a fault, and their log was written.
-pub record RunsTooLong (left left_after taken taken_after : Option (List ℕ)) (heap : View) : Type 0 where
+pub record RunsTooLong (left left_after taken taken_after : Option (List ℕ)) (heap : FlatView) : Type 0 where
   pub bytes : List ℕ
   pub given : Gives left left_after bytes
   pub read : List ℕ
@@ -101,16 +101,16 @@ pub record RunsTooLong (left left_after taken taken_after : Option (List ℕ)) (
   pub written : Appends taken taken_after (spelling_of log)
 
 -- A legal log of the commands up to the first fault, or a whole one if there is none.
-pub record IsLogOf (lines : List (List ℕ)) (log : List Line) (heap : View) : Type 0 where
+pub record IsLogOf (lines : List (List ℕ)) (log : List Line) (heap : FlatView) : Type 0 where
   pub state : State
   pub legal : IsLegal Step default_settings (reading_of lines).commands log state ⊎ IsWhole Step default_settings
       (reading_of lines).commands log state
   pub good : IsGood state
-  pub shows : Shows heap state
+  pub shows : FlatShows heap state
 
 -- A write or a flush failed. What was written is a front of a log of the lines that were read.
 pub record RunsToWriteFault (faults faults_after : ℕ) (left left_after taken taken_after : Option (List ℕ))
-    (heap : View) : Type 0 where
+    (heap : FlatView) : Type 0 where
   pub bytes : List ℕ
   pub given : Gives left left_after bytes
   pub cause : Rose faults faults_after
@@ -122,7 +122,7 @@ pub record RunsToWriteFault (faults faults_after : ℕ) (left left_after taken t
   pub written : AppendsFront taken taken_after (spelling_of log)
 
 -- what taking a piece came to: progress by all of it, or the end
-abbrev pub TakesPiece : Result ℕ End → Option (List ℕ) → List ℕ → List ℕ → ℕ → Option (List ℕ) → ℕ → ℕ → View →
+abbrev pub TakesPiece : Result ℕ End → Option (List ℕ) → List ℕ → List ℕ → ℕ → Option (List ℕ) → ℕ → ℕ → FlatView →
     Held → ℕ → Option (List ℕ) → Bool → Type 0
 TakesPiece (Ok n) start bytes piece room left before now view held lines kept broken =
     (length piece ≡ n) × (n ≤ room) × Progress start (bytes ++ piece) view held lines kept broken
@@ -130,7 +130,7 @@ TakesPiece (Err end) start bytes piece room left before now view held lines kept
     Ended end start (bytes ++ piece) left before now view kept broken
 
 -- what a turn came to: progress by a piece that the source gave, or the end
-abbrev pub Turns : Result ℕ End → Option (List ℕ) → List ℕ → ℕ → Option (List ℕ) → Option (List ℕ) → ℕ → ℕ → View →
+abbrev pub Turns : Result ℕ End → Option (List ℕ) → List ℕ → ℕ → Option (List ℕ) → Option (List ℕ) → ℕ → ℕ → FlatView →
     Held → ℕ → Option (List ℕ) → Bool → Type 0
 Turns (Ok n) start bytes room left left_after before now view held lines kept broken =
     (piece : List ℕ) × Gives left left_after piece × (length piece ≡ n) × (0 < n) × (n ≤ room)
@@ -140,31 +140,31 @@ Turns (Err end) start bytes room left left_after before now view held lines kept
     (bytes ++ piece) left_after before now view kept broken
 
 -- what reading all came to, from a journal that held `start`
-pub record ReadsAll (end : End) (start left left_after : Option (List ℕ)) (before now : ℕ) (view : View)
+pub record ReadsAll (end : End) (start left left_after : Option (List ℕ)) (before now : ℕ) (view : FlatView)
     (kept : Option (List ℕ)) (broken : Bool) : Type 0 where
   pub bytes : List ℕ
   pub given : Gives left left_after bytes
   pub ended : Ended end start bytes left_after before now view kept broken
 
 -- What was read and carried out, and the whole of its log, which went to a journal that held `start`.
-pub record Logged (start : Option (List ℕ)) (lines : List (List ℕ)) (view : View) (kept : Option (List ℕ))
+pub record Logged (start : Option (List ℕ)) (lines : List (List ℕ)) (view : FlatView) (kept : Option (List ℕ))
     (broken : Bool) : Type 0 where
   pub log : List Line
   pub logged : IsLogOf lines log view
   pub written : Writes start false kept broken (spelling_of log)
 
 -- The whole log of the input, with its total line.
-pub record WholeLog (start : Option (List ℕ)) (bytes : List ℕ) (view : View) (kept : Option (List ℕ))
+pub record WholeLog (start : Option (List ℕ)) (bytes : List ℕ) (view : FlatView) (kept : Option (List ℕ))
     (broken : Bool) : Type 0 where
   pub log : List Line
   pub state : State
   pub whole : IsWhole Step default_settings (reading_of (lines_of bytes)).commands log state
   pub good : IsGood state
-  pub shows : Shows view state
+  pub shows : FlatShows view state
   pub written : Writes start false kept broken (spelling_of log)
 
 -- The same with the total line, where the log is whole.
-abbrev pub Totalled : End → Option (List ℕ) → List ℕ → Option (List ℕ) → ℕ → ℕ → View → Option (List ℕ) → Bool →
+abbrev pub Totalled : End → Option (List ℕ) → List ℕ → Option (List ℕ) → ℕ → ℕ → FlatView → Option (List ℕ) → Bool →
     Type 0
 Totalled Whole start bytes left before now view kept broken =
     NothingLeft left × ((reading_of (lines_of bytes)).fault ≡ None) × WholeLog start bytes view kept broken
@@ -178,7 +178,7 @@ Totalled TooLong start bytes left before now view kept broken = Ended TooLong st
     broken
 
 -- The replay ended so, and its log was written as far as it could be.
-abbrev pub Finished : End → Option (List ℕ) → List ℕ → Option (List ℕ) → ℕ → ℕ → View → Option (List ℕ) → Bool →
+abbrev pub Finished : End → Option (List ℕ) → List ℕ → Option (List ℕ) → ℕ → ℕ → FlatView → Option (List ℕ) → Bool →
     Type 0
 Finished Whole start bytes left before now view kept broken =
     (broken ≡ false) × NothingLeft left × ((reading_of (lines_of bytes)).fault ≡ None)
@@ -195,7 +195,7 @@ Finished TooLong start bytes left before now view kept broken =
 
 -- How a replay ended, by what the source gave, what the sink took, and what the heap shows.
 abbrev pub Replayed : End → Option (List ℕ) → Option (List ℕ) → ℕ → ℕ → Option (List ℕ) → Option (List ℕ) → ℕ → ℕ →
-    View → Type 0
+    FlatView → Type 0
 Replayed Whole left left_after read_faults read_faults_after taken taken_after faults faults_after heap =
     RunsWhole left left_after taken taken_after heap
 Replayed (Fault line fault) left left_after read_faults read_faults_after taken taken_after faults faults_after heap
@@ -218,10 +218,10 @@ status_of TooLong = 6
 
 -- What a run came to: words that it refuses, want of memory for a heap, or a replay that ended so and hands its heap back.
 -- `same` says that nothing was read or written, and `says` what was said of it.
-abbrev pub Ran : Bool → ℕ → Option View → (same : Type 0) → (says : List ℕ → Type 0) →
-    (replayed : End → View → Type 0) → Type 0
+abbrev pub Ran : Bool → ℕ → Option FlatView → (same : Type 0) → (says : List ℕ → Type 0) →
+    (replayed : End → FlatView → Type 0) → Type 0
 Ran words status heap same says replayed =
     ((words ≡ true) × (status ≡ 2) × (heap ≡ None) × same × says (codes "mmgc: bad arguments\n")) ⊎
     ((words ≡ false) × (status ≡ 5) × (heap ≡ None) × same × says (codes "mmgc: out of memory\n")) ⊎
-    ((end : End) × (view : View) × (words ≡ false) × (status ≡ status_of end) × (heap ≡ Some view)
+    ((end : End) × (view : FlatView) × (words ≡ false) × (status ≡ status_of end) × (heap ≡ Some view)
     × says (end_text end) × replayed end view)

@@ -7,7 +7,7 @@ ghost use Rattle.mm_model.specs.Trace.{complete_lines, lines_of};
 ghost use Rattle.mmgc.specs.Run.{Ended, Totalled, Finished, Replayed, NothingLeft, TakesPiece, Turns, ReadsAll};
 ghost use Rattle.mmgc.specs.Replaying.{built_reading, DoesLine, CarriesOut, Progress, Stopped, GoesOn, IsUnderWay, most_bytes, default_settings};
 ghost use Rattle.mm_model.specs.State.{empty_state};
-ghost use Rattle.mm_model.specs.View.{Shows};
+ghost use Rattle.mm_model.specs.FlatView.{FlatShows};
 
 use crate::log::LogWriter;
 use mm_gc::{Gc, built};
@@ -313,7 +313,7 @@ impl Replay {
         log: &mut LogWriter<'_, K>,
         source: &mut S,
     ) -> End
-        requires heap { Shows heap.old (empty_state default_settings) }
+        requires heap { FlatShows heap.old (empty_state default_settings) }
         requires cutter { self.old.cutter ≡ nothing_held }
         requires lines { self.old.lines ≡ 0 }
         requires whole { log.old.broken ≡ false }
@@ -362,7 +362,7 @@ fn finish<K: Sink>(heap: &Gc, log: &mut LogWriter<'_, K>, end: End) -> End
 
 /// Carries out a whole trace on a heap that nothing was done with yet.
 pub(crate) fn carry_out<S: Source, K: Sink>(heap: &mut Gc, source: &mut S, out: &mut K) -> End
-    requires { Shows heap.old (empty_state default_settings) }
+    requires { FlatShows heap.old (empty_state default_settings) }
     ensures replayed { Replayed result (S.left source.old) (S.left source.new) (S.faults source.old)
         (S.faults source.new)
         (K.taken out.old) (K.taken out.new) (K.faults out.old) (K.faults out.new) heap.new }

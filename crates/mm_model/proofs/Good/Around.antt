@@ -8,8 +8,8 @@ use Rattle.mm_model.specs.Object.{Object}
 use Rattle.mm_model.specs.State.{State, Cycle, Lives, one_more_command}
 use Rattle.mm_model.specs.Words.{slot_kind, cell_kind, scanned_slots}
 use Rattle.mm_model.specs.Good.{IsReferring, IsPaired, NamesNoWhite, IsPartlyScanned, IsColoured, IsGood}
-use Rattle.mm_model.specs.View.{View, HeldCycle, Shows, ShowsCycles}
-use Rattle.mm_model.specs.ViewEffect.{one_more_carried_out}
+use Rattle.mm_model.specs.FlatView.{FlatView, FlatCycle, FlatShows, FlatShowsCycles}
+use Rattle.mm_model.specs.FlatEffect.{one_more_carried_out}
 use Rattle.mm_model.proofs.Good.References.{Keeps, is_stored-kept, each_referring-kept}
 
 pub if_some-weaker : {X : Type 0} (P Q : X → Type 0) → ((x : X) → P x → Q x) → (o : Option X) → IfSome o P → IfSome o Q
@@ -93,16 +93,16 @@ carried_out_is_good a good =
     good-around a a.stack a.cycle a.threshold (a.commands + 1) good good.referred.stack good.coloured
 
 -- what a view shows of a cycle, it shows of it beside any stack and number of commands
-cycles-around : (a : State) (stack : List Value) (commands : ℕ) (entries : Option HeldCycle) (cycle : Option Cycle)
-    → ShowsCycles entries a cycle → ShowsCycles entries (record a { stack = stack; commands = commands }) cycle
+cycles-around : (a : State) (stack : List Value) (commands : ℕ) (entries : Option FlatCycle) (cycle : Option Cycle)
+    → FlatShowsCycles entries a cycle → FlatShowsCycles entries (record a { stack = stack; commands = commands }) cycle
 cycles-around a stack commands None None shows = tt
 cycles-around a stack commands None (Some cycle) shows = shows
 cycles-around a stack commands (Some entries) None shows = shows
 cycles-around a stack commands (Some entries) (Some cycle) shows =
     record { colours = shows.colours; gone = shows.gone; partly_scanned = shows.partly_scanned }
 
-pub shows-stack : (view : View) (a : State) (stack : List Value) (words : List ℕ) → Shows view a
-    → words ≡ words_of stack → Shows (record view { stack = words }) (with_stack stack a)
+pub shows-stack : (view : FlatView) (a : State) (stack : List Value) (words : List ℕ) → FlatShows view a
+    → words ≡ words_of stack → FlatShows (record view { stack = words }) (with_stack stack a)
 shows-stack view a stack words shows e =
     record {
       objects = shows.objects;
@@ -115,8 +115,8 @@ shows-stack view a stack words shows e =
       settings = shows.settings;
     }
 
-pub shows-carried_out : (view : View) (a : State) → Shows view a
-    → Shows (one_more_carried_out view) (one_more_command a)
+pub shows-carried_out : (view : FlatView) (a : State) → FlatShows view a
+    → FlatShows (one_more_carried_out view) (one_more_command a)
 shows-carried_out view a shows =
     record {
       objects = shows.objects;

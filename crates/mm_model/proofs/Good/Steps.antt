@@ -30,10 +30,10 @@ use Rattle.mm_model.proofs.Lists.Growing.{any_from_get}
 use Rattle.mm_model.proofs.Good.Numbers.{bears_few-plain}
 use Rattle.mm_model.proofs.Good.Phases.{reaped_is_good, collected_is_good, finished_is_good}
 use Rattle.mm_model.proofs.Good.PlainGood.{plain_is_good}
-use Rattle.mm_model.proofs.View.Resolving.{IsMeant, is_meant}
+use Rattle.mm_model.proofs.FlatView.Resolving.{IsMeant, is_meant}
 use Rattle.mm_model.proofs.Good.Scanning.{scanned_is_good}
 use Rattle.mm_model.proofs.Good.Searching.{IsFound, searched_is_found}
-use Rattle.mm_model.proofs.View.StackEffects.{first_refusal-None, all_allowed}
+use Rattle.mm_model.proofs.FlatView.StackEffects.{first_refusal-None, all_allowed}
 use Rattle.mm_model.proofs.Good.WeakReferences.{weak_made_is_good, kept_weak_is_good}
 
 -- a good state with the same settings

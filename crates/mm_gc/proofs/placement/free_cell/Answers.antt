@@ -2,7 +2,7 @@
 use Rattle.std.proofs.Common.{◌≡◌, ℕ, ◌+◌, ◌-◌, ◌*◌, ◌/◌, ◌<◌, false, sym, ap, ◌∙◌, arith}
 use Rattle.mm_model.specs.Place.{is_vacant, first_from}
 use Rattle.mm_model.proofs.Lists.Tests.{first_from-next}
-use Rattle.mm_gc.specs.Held.{pieces_of}
+use Rattle.mm_gc.specs.Flat.{pieces_of}
 use Rattle.mm_gc.proofs.placement.free_cell.Goals as goal
 
 pub loop-cell-preserved : goal.loop-cell-preserved

@@ -1,7 +1,7 @@
 -- The search for a free cell, as far as the walk has come.
 use Rattle.std.proofs.Common.{◌≡◌, ℕ, ◌+◌, ◌-◌, ◌*◌, ◌/◌}
 use Rattle.mm_model.specs.Place.{is_vacant, first_from}
-use Rattle.mm_gc.specs.Held.{pieces_of}
+use Rattle.mm_gc.specs.Flat.{pieces_of}
 use Rattle.mm_gc.proofs.placement.free_cell.Given as goal
 
 -- none of the cells so far is free

@@ -3,7 +3,7 @@ use Rattle.std.proofs.Common.{◌*◌, sym, ◌∙◌}
 use Rattle.std.specs.Prelude.{◌&&◌, ◌==◌}
 use Rattle.mm_model.specs.Place.{Objects, same_family, overlaps}
 use Rattle.mm_model.proofs.Lists.Keyed.{any-map}
-use Rattle.mm_gc.specs.Held.{piece_of}
+use Rattle.mm_gc.specs.Flat.{piece_of}
 use Rattle.mm_gc.proofs.placement.is_page_of.Goals as goal
 
 pub returns : goal.returns

@@ -2,7 +2,7 @@
 use Rattle.std.proofs.Common.{not, sym, ap, ◌∙◌}
 use Rattle.mm_model.specs.Place.{overlaps}
 use Rattle.mm_model.proofs.Lists.Keyed.{any-map}
-use Rattle.mm_gc.specs.Held.{piece_of}
+use Rattle.mm_gc.specs.Flat.{piece_of}
 use Rattle.mm_gc.proofs.placement.is_vacant.Goals as goal
 
 pub returns : goal.returns

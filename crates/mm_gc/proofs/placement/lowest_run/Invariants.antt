@@ -1,7 +1,7 @@
 -- The search for a run of pages, as far as the walk has come.
 use Rattle.std.proofs.Common.{◌≡◌, ℕ, ◌+◌, ◌-◌, ◌*◌}
 use Rattle.mm_model.specs.Place.{is_vacant, first_from}
-use Rattle.mm_gc.specs.Held.{pieces_of}
+use Rattle.mm_gc.specs.Flat.{pieces_of}
 use Rattle.mm_gc.proofs.placement.lowest_run.Given as goal
 
 -- none of the runs so far is vacant

@@ -2,7 +2,7 @@
 use Rattle.std.proofs.Common.{◌≡◌, ℕ, ◌+◌, ◌-◌, ◌<◌, false, sym, ap, ◌∙◌, arith}
 use Rattle.mm_model.specs.Place.{Objects, has_room, first_from}
 use Rattle.mm_model.proofs.Lists.Tests.{first_from-next}
-use Rattle.mm_gc.specs.Held.{pieces_of}
+use Rattle.mm_gc.specs.Flat.{pieces_of}
 use Rattle.mm_gc.proofs.placement.page_with_room.Goals as goal
 
 pub loop-page-preserved : goal.loop-page-preserved

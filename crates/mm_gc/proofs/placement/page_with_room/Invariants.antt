@@ -1,7 +1,7 @@
 -- The search for a page with room, as far as the walk has come.
 use Rattle.std.proofs.Common.{◌≡◌, ◌-◌}
 use Rattle.mm_model.specs.Place.{Objects, has_room, first_from}
-use Rattle.mm_gc.specs.Held.{pieces_of}
+use Rattle.mm_gc.specs.Flat.{pieces_of}
 use Rattle.mm_gc.proofs.placement.page_with_room.Given as goal
 
 -- none of the pages so far has room

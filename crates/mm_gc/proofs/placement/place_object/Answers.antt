@@ -2,7 +2,7 @@
 use Rattle.std.proofs.Common.{◌≡◌, Some, sym, ap, ◌∙◌, arith}
 use Rattle.mm_model.specs.Place.{Objects, place_among}
 use Rattle.mm_model.specs.SizeClass.{size_of, object_bytes, extent_of, extent_of_size}
-use Rattle.mm_gc.specs.Held.{pieces_of}
+use Rattle.mm_gc.specs.Flat.{pieces_of}
 use Rattle.mm_gc.proofs.Creation.{new_goes, extent_fits, plain_shape}
 use Rattle.mm_gc.proofs.placement.place_object.Goals as goal
 

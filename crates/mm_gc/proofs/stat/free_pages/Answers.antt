@@ -2,7 +2,7 @@
 use Rattle.std.proofs.Common.{◌≡◌, ℕ, ◌+◌, ◌-◌, ◌*◌, true, false, sym, ap, ◌∙◌, arith}
 use Rattle.std.specs.List.{count_by, range_with_len}
 use Rattle.mm_model.specs.Place.{is_vacant}
-use Rattle.mm_gc.specs.Held.{pieces_of}
+use Rattle.mm_gc.specs.Flat.{pieces_of}
 use Rattle.mm_gc.proofs.Counting.{passing_more-yes, passing_more-no, passing-least}
 use Rattle.mm_gc.proofs.stat.free_pages.Goals as goal
 use Rattle.mm_gc.proofs.stat.free_pages.Goals.{then-is_vacant, else-is_vacant}

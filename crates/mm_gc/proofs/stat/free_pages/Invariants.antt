@@ -2,7 +2,7 @@
 use Rattle.std.proofs.Common.{◌≡◌, ◌+◌, ◌-◌, ◌*◌, ◌≤◌}
 use Rattle.std.specs.List.{count_by, range_with_len}
 use Rattle.mm_model.specs.Place.{is_vacant}
-use Rattle.mm_gc.specs.Held.{pieces_of}
+use Rattle.mm_gc.specs.Flat.{pieces_of}
 use Rattle.mm_gc.proofs.stat.free_pages.Given as goal
 
 -- so many of the pages so far are free

@@ -1,5 +1,5 @@
 -- The lemma says it.
-use Rattle.mm_laws.proofs.Choosing.{place_fits}
+use Rattle.mm_model.proofs.Places.Choosing.{place_fits}
 use Rattle.mm_laws.proofs.places.place_is_free.Goals as goal
 
 pub returns : goal.returns

@@ -1,5 +1,5 @@
 -- The lemmas say it.
-use Rattle.mm_laws.proofs.Choosing.{pages_go_lowest, cells_go_lowest}
+use Rattle.mm_model.proofs.Places.Choosing.{pages_go_lowest, cells_go_lowest}
 use Rattle.mm_laws.proofs.places.place_is_lowest.Goals as goal
 
 pub returns : goal.returns

@@ -1,6 +1,6 @@
 -- The counts of the lists are those of what the lists show.
 use Rattle.std.proofs.Common.{ap, ◌∙◌, arith}
-use Rattle.mm_model.specs.ViewEffect.{held_stat}
+use Rattle.mm_model.specs.FlatEffect.{flat_stat}
 use Rattle.mm_gc.proofs.Creation.{few_objects}
 use Rattle.mm_gc.proofs.Telling.{free_pages-shown, stat-shown}
 use Rattle.mm_gc.proofs.gc.Gc.counts.Goals as goal
@@ -19,4 +19,4 @@ returns c =
     let free = free_pages-shown gc c.deref.result.now c.deref-2.result.now c.region_pages-end.result c.free_pages.result
     c.deref.ensures.value c.deref-2.ensures.value c.region_pages-end.ensures.pages c.free_pages.ensures in
     stat-shown gc c.len.result c.free_pages.result (c.len.ensures ∙ gc.objects.ok.0) free
-    ∙ ap held_stat c.self.view_is
+    ∙ ap flat_stat c.self.view_is

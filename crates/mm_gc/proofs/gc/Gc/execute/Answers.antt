@@ -1,8 +1,8 @@
 -- The lines of a command are its reply alone, and they are a step.
 use Rattle.std.proofs.Common.{◌≡◌, ◌+◌, [], sym, ap, ◌∙◌}
-use Rattle.mm_model.specs.View.{View}
+use Rattle.mm_model.specs.FlatView.{FlatView}
 use Rattle.mm_model.proofs.Text.Journals.{writes-none}
-use Rattle.mm_gc.specs.BuiltView.{held_built}
+use Rattle.mm_gc.specs.BuiltView.{flat_built}
 use Rattle.mm_gc.proofs.Executing.{executed, uncounted-shown}
 use Rattle.mm_gc.proofs.Keeping.{commands-built, counted}
 use Rattle.mm_gc.proofs.gc.Gc.execute.Goals as goal
@@ -14,9 +14,9 @@ pub returns-clause-step : goal.returns-clause-step
 returns-clause-step g c =
     let view = c.args.self.now in
     let command = c.args.command.now in
-    let left = (held_built view command).view in
+    let left = (flat_built view command).view in
     let count : c.self.inside.commands + 1 ≡ left.totals.commands + 1 =
-    ap (λ (v : View). v.totals.commands + 1) c.self.view_is ∙ ap (λ n. n + 1) (sym (commands-built view command)) in
+    ap (λ (v : FlatView). v.totals.commands + 1) c.self.view_is ∙ ap (λ n. n + 1) (sym (commands-built view command)) in
     let new = counted c.self-2.inside (c.self.inside.commands + 1) left
     (c.self-2.view_is ∙ c.carry_out-reply.ensures.view) count in
     let uncounted = uncounted-shown c.self.inside view c.self.view_is command in

@@ -3,11 +3,11 @@ use Rattle.std.proofs.Common.{[], None, refl}
 use Rattle.std.specs.List.{IsDistinct}
 use Rattle.mm_model.specs.declared.settings.Settings.{Settings}
 use Rattle.mm_model.specs.State.{empty_state}
-use Rattle.mm_model.specs.View.{Shows}
+use Rattle.mm_model.specs.FlatView.{FlatShows}
 use Rattle.mm_gc.proofs.gc.Gc.make.Goals as goal
 
 shows-empty : (settings : Settings) →
-    Shows (record {
+    FlatShows (record {
       objects = [];
       stack = [];
       areas = [];

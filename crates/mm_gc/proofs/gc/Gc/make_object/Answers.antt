@@ -8,8 +8,8 @@ use Rattle.mm_model.specs.declared.command.Command.TheVariants as commands
 use Rattle.mm_model.specs.Refusing.{is_bad_shape}
 use Rattle.mm_model.specs.SizeClass.{size_of, object_bytes}
 use Rattle.mm_model.specs.Place.{Objects, place_among}
-use Rattle.mm_model.specs.ViewEffect.{held_new_effect}
-use Rattle.mm_gc.specs.Held.{pieces_of, first_slot}
+use Rattle.mm_model.specs.FlatEffect.{flat_new_effect}
+use Rattle.mm_gc.specs.Flat.{pieces_of, first_slot}
 use Rattle.mm_gc.specs.Plain.{view_of}
 use Rattle.mm_gc.proofs.Answering.{ComesTo, new-found, left, told}
 use Rattle.mm_gc.proofs.Creation.{is_new, place-shown, new_slots, one_more_fits, new_placed, view-new}
@@ -18,7 +18,7 @@ use Rattle.mm_gc.proofs.Showing.{full-shown}
 use Rattle.mm_gc.proofs.gc.Gc.make_object.Goals as goal
 
 no_place : (c : goal.In_default) → ComesTo (view_of c.self.inside) (commands.New c.args.shape)
-    (held_new_effect (view_of c.self.inside) c.args.shape None)
+    (flat_new_effect (view_of c.self.inside) c.args.shape None)
 no_place c =
     let gc = c.self.inside in
     let whole : is_bad_shape c.args.shape ≡ false = cc in
@@ -91,7 +91,7 @@ invariant_of-self c =
     }
 
 found : (c : goal.After-push_reserved-2) → ComesTo (view_of c.self.inside) (commands.New c.args.shape)
-    (held_new_effect (view_of c.self.inside) c.args.shape (Some c.in-Some.object.base))
+    (flat_new_effect (view_of c.self.inside) c.args.shape (Some c.in-Some.object.base))
 found c =
     let gc = c.self.inside in
     let whole : is_bad_shape c.args.shape ≡ false = cc in

@@ -2,10 +2,10 @@
 use Rattle.std.proofs.Common.{◌≡◌, reverse, Option, Some, None, Ok, refl, ap, ◌∙◌}
 use Rattle.std.specs.Prelude.{slice_get}
 use Rattle.std.specs.Option.{option_map}
-use Rattle.mm_model.specs.ViewEffect.{held_map_reply}
+use Rattle.mm_model.specs.FlatEffect.{flat_map_reply}
 use Rattle.mm_gc.specs.declared.object.Object.{Object}
 use Rattle.mm_gc.specs.BuiltView.{map_reply}
-use Rattle.mm_gc.specs.Held.{held_of}
+use Rattle.mm_gc.specs.Flat.{flat_of}
 use Rattle.mm_gc.specs.Plain.{view_of}
 use Rattle.mm_gc.specs.Resolve.{object_at, mapped_of}
 use Rattle.mm_gc.proofs.Answering.{map-done, told}
@@ -13,7 +13,7 @@ use Rattle.mm_gc.proofs.Resolving.{resolved-shown}
 use Rattle.mm_gc.proofs.gc.Gc.mapped.Goals as goal
 
 told_of : (memory : _) (found : Option Object)
-    → map_reply (Ok (option_map mapped_of found)) ≡ held_map_reply (option_map (held_of memory) found)
+    → map_reply (Ok (option_map mapped_of found)) ≡ flat_map_reply (option_map (flat_of memory) found)
 told_of memory None = refl
 told_of memory (Some object) = refl
 
@@ -25,5 +25,5 @@ returns-clause-reply c =
     let told_is : c.map_word.result ≡ option_map mapped_of found = cc in
     ap (λ o. map_reply (Ok o)) told_is ∙ told_of gc.memory.items found
     ∙ told c.self.view_is
-    (map-done (view_of gc) c.args.index c.in-Some.word word (option_map (held_of gc.memory.items) found)
+    (map-done (view_of gc) c.args.index c.in-Some.word word (option_map (flat_of gc.memory.items) found)
     (resolved-shown gc c.in-Some.word found refl))

@@ -2,7 +2,7 @@
 use Rattle.std.proofs.Common.{sym, ◌∙◌}
 use Rattle.mm_model.specs.declared.command.Command.TheVariants as commands
 use Rattle.mm_model.specs.declared.refusal.Refusal.TheVariants as refusals
-use Rattle.mm_model.specs.ViewEffect.{held_pushes}
+use Rattle.mm_model.specs.FlatEffect.{flat_pushes}
 use Rattle.mm_gc.specs.Plain.{view_of}
 use Rattle.mm_gc.proofs.Accessing.{inner-of_nothing, inner-past_end, inner-on_full, inner-pushes}
 use Rattle.mm_gc.proofs.Answering.{ComesTo, refused, left, told}
@@ -42,7 +42,7 @@ pub returns-then-is_full-clause-reply : goal.returns-then-is_full-clause-reply
 returns-then-is_full-clause-reply c = told c.self.view_is (full c)
 
 pushes : (c : goal.After-push_reserved) → ComesTo (view_of c.self.inside) (commands.Inner c.args.index c.args.bytes)
-    (held_pushes c.in-Some-inner.inner (view_of c.self.inside))
+    (flat_pushes c.in-Some-inner.inner (view_of c.self.inside))
 pushes c =
     inner-pushes c.self.inside c.args.index c.in-Some.word c.in-Some-resolve.object
     (record { cell = cc; object = cc }) c.args.bytes c.in-Some-inner.inner (cc) cc

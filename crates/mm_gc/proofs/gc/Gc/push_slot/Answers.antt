@@ -2,7 +2,7 @@
 use Rattle.std.proofs.Common.{◌≡◌, length, sym, ap, ◌∙◌, arith}
 use Rattle.mm_model.specs.declared.command.Command.TheVariants as commands
 use Rattle.mm_model.specs.declared.refusal.Refusal.TheVariants as refusals
-use Rattle.mm_model.specs.ViewEffect.{held_pushes}
+use Rattle.mm_model.specs.FlatEffect.{flat_pushes}
 use Rattle.mm_gc.specs.Plain.{view_of}
 use Rattle.mm_gc.proofs.Accessing.{get-of_nothing, get-past_slots, get-on_full, get-pushes}
 use Rattle.mm_gc.proofs.Answering.{ComesTo, refused, left, told}
@@ -49,7 +49,7 @@ read-value-requires-clause-within c =
     omega arith
 
 pushes : (c : goal.After-push_reserved) → ComesTo (view_of c.self.inside) (commands.Get c.args.index c.args.slot)
-    (held_pushes c.read-value.result (view_of c.self.inside))
+    (flat_pushes c.read-value.result (view_of c.self.inside))
 pushes c =
     get-pushes c.self.inside c.args.index c.in-Some.word c.in-Some-resolve.object
     (record { cell = cc; object = cc }) c.self.invariant c.args.slot c.if-object-slot.false c.read-value.result (cc) cc

@@ -5,8 +5,8 @@ use Rattle.std.specs.Prelude.{slice_set}
 use Rattle.std.specs.Vec.{with_items}
 use Rattle.mm_model.specs.declared.command.Command.TheVariants as commands
 use Rattle.mm_model.specs.declared.refusal.Refusal.TheVariants as refusals
-use Rattle.mm_model.specs.ViewEffect.{held_slot_kind, held_put_effect}
-use Rattle.mm_gc.specs.Held.{first_slot, held_of}
+use Rattle.mm_model.specs.FlatEffect.{flat_slot_kind, flat_put_effect}
+use Rattle.mm_gc.specs.Flat.{first_slot, flat_of}
 use Rattle.mm_gc.specs.Plain.{plain_view, view_of}
 use Rattle.mm_gc.specs.Resolve.{object_at}
 use Rattle.mm_gc.proofs.Accessing.{put-of_nothing, put-past_slots, put-stores}
@@ -50,7 +50,7 @@ write-requires-clause-within c =
     omega arith
 
 stored : (c : goal.After-self-1) → ComesTo (view_of c.self.inside) (commands.Put c.args.index c.args.slot c.args.from)
-    (held_put_effect (view_of c.self.inside) (held_of c.self.inside.memory.items c.in-Some-resolve.object) c.args.slot
+    (flat_put_effect (view_of c.self.inside) (flat_of c.self.inside.memory.items c.in-Some-resolve.object) c.args.slot
     c.in-Some-cell.value)
 stored c =
     put-stores c.self.inside c.args.index c.in-Some.word c.in-Some-resolve.object (record { cell = cc; object = cc })
@@ -81,5 +81,5 @@ pub returns-clause-reply : goal.returns-clause-reply
 returns-clause-reply c =
     let gc = c.self.inside in
     sym (stored-tight gc.settings gc.memory.items gc.objects.items gc.stack.items gc.commands
-    (held_slot_kind (held_of gc.memory.items c.in-Some-resolve.object) c.args.slot) c.in-Some-cell.value)
+    (flat_slot_kind (flat_of gc.memory.items c.in-Some-resolve.object) c.args.slot) c.in-Some-cell.value)
     ∙ told c.self.view_is (stored c)

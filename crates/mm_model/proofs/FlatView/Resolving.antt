@@ -12,8 +12,8 @@ use Rattle.mm_model.specs.Words.{falls}
 use Rattle.mm_model.specs.Meaning.{falls_in, resolved, meant, meant_at, object_meant}
 use Rattle.mm_model.specs.Place.{live_pieces}
 use Rattle.mm_model.specs.Good.{IsPlaced, IsReferring, IsGood}
-use Rattle.mm_model.specs.View.{View, HeldObject, Shows, held, held_at}
-use Rattle.mm_model.specs.ViewEffect.{held_resolved, held_meant}
+use Rattle.mm_model.specs.FlatView.{FlatView, FlatObject, FlatShows, flat_object, flat_at}
+use Rattle.mm_model.specs.FlatEffect.{flat_resolved, flat_meant}
 use Rattle.mm_model.proofs.Places.Falling.{falls_from}
 use Rattle.mm_model.proofs.Lists.Keyed.{keyed-get}
 use Rattle.mm_model.proofs.Lists.Growing.{find-Some, find-only, position_from-get, position_from-Some}
@@ -53,25 +53,25 @@ module _ (a : State) (placed : IsPlaced a.settings.max (live_pieces a)) where
       lives_once a placed i birth other object lives h word there.0 there.1 here.0 here.1)
 
 -- an object of a view, as a live object of a state that the view shows
-pub record IsShown (a : State) (held_object : HeldObject) : Type 0 where
+pub record IsShown (a : State) (held : FlatObject) : Type 0 where
   pub birth : ℕ
   pub object : Object
   pub lives : Lives a birth object
-  pub is : held a object ≡ held_object
+  pub is : flat_object a object ≡ held
 
-module _ (view : View) (a : State) (placed : IsPlaced a.settings.max (live_pieces a)) (shows : Shows view a) where
-  pub shown : (i : ℕ) (h : HeldObject) → slice_get view.objects i ≡ Some h → IsShown a h
+module _ (view : FlatView) (a : State) (placed : IsPlaced a.settings.max (live_pieces a)) (shows : FlatShows view a) where
+  pub shown : (i : ℕ) (h : FlatObject) → slice_get view.objects i ≡ Some h → IsShown a h
   shown i h e =
-      let found : held_at view.objects h.base ≡ Some h =
-      keyed-get (λ (o : HeldObject). o.base) view.objects shows.distinct i h e in
+      let found : flat_at view.objects h.base ≡ Some h =
+      keyed-get (λ (o : FlatObject). o.base) view.objects shows.distinct i h e in
       split h (find (lives_at h.base) a.objects) refl (sym (shows.objects h.base) ∙ found)
     where
-      split : (h : HeldObject) (found : Option Object) → find (lives_at h.base) a.objects ≡ found
-          → option_map (held a) (find (lives_at h.base) a.objects) ≡ Some h → IsShown a h
-      split h None p q = let none = ap (option_map (held a)) (sym p) in cc
+      split : (h : FlatObject) (found : Option Object) → find (lives_at h.base) a.objects ≡ found
+          → option_map (flat_object a) (find (lives_at h.base) a.objects) ≡ Some h → IsShown a h
+      split h None p q = let none = ap (option_map (flat_object a)) (sym p) in cc
       split h (Some object) p q =
           let place = find-Some (lives_at h.base) a.objects object p in
-          let same : option_map (held a) (Some object) ≡ Some h = ap (option_map (held a)) (sym p) ∙ q in
+          let same : option_map (flat_object a) (Some object) ≡ Some h = ap (option_map (flat_object a)) (sym p) ∙ q in
           record {
             birth = place.place;
             object = object;
@@ -80,23 +80,23 @@ module _ (view : View) (a : State) (placed : IsPlaced a.settings.max (live_piece
           }
 
   -- a live object stands in the view under its base
-  pub held_at-lives : (birth : ℕ) (object : Object) → Lives a birth object
-      → held_at view.objects object.base ≡ Some (held a object)
-  held_at-lives birth object h =
-      shows.objects object.base ∙ ap (option_map (held a)) (find-lives a placed birth object h)
+  pub flat_at-lives : (birth : ℕ) (object : Object) → Lives a birth object
+      → flat_at view.objects object.base ≡ Some (flat_object a object)
+  flat_at-lives birth object h =
+      shows.objects object.base ∙ ap (option_map (flat_object a)) (find-lives a placed birth object h)
 
   -- the word falls in it, so the view finds it
-  pub held_resolved-lives : (birth : ℕ) (object : Object) (word : ℕ) → Lives a birth object
-      → falls word object.base object.extent ≡ true → held_resolved view word ≡ Some (held a object)
-  held_resolved-lives birth object word h f =
-      let place = find-Some (λ (o : HeldObject). nat_eq o.base object.base) view.objects (held a object)
-      (held_at-lives birth object h) in
-      find-only (λ (o : HeldObject). falls word o.base o.extent) view.objects place.place (held a object) place.is f
+  pub flat_resolved-lives : (birth : ℕ) (object : Object) (word : ℕ) → Lives a birth object
+      → falls word object.base object.extent ≡ true → flat_resolved view word ≡ Some (flat_object a object)
+  flat_resolved-lives birth object word h f =
+      let place = find-Some (λ (o : FlatObject). nat_eq o.base object.base) view.objects (flat_object a object)
+      (flat_at-lives birth object h) in
+      find-only (λ (o : FlatObject). falls word o.base o.extent) view.objects place.place (flat_object a object) place.is f
       (λ i other is passes.
       let one = shown i other is in
       let lives = one.lives in
-      let base : one.object.base ≡ other.base = ap (λ (o : HeldObject). o.base) one.is in
-      let extent : one.object.extent ≡ other.extent = ap (λ (o : HeldObject). o.extent) one.is in
+      let base : one.object.base ≡ other.base = ap (λ (o : FlatObject). o.base) one.is in
+      let extent : one.object.extent ≡ other.extent = ap (λ (o : FlatObject). o.extent) one.is in
       let there = falls_from word other.base other.extent passes in
       let here = falls_from word object.base object.extent f in
       let birth_is : one.birth ≡ birth =
@@ -104,34 +104,34 @@ module _ (view : View) (a : State) (placed : IsPlaced a.settings.max (live_piece
       here.0 here.1 in
       let same : one.object ≡ object =
       lives_same a birth one.object object (subst (λ n. Lives a n one.object) birth_is lives) h in
-      sym one.is ∙ ap (held a) same)
+      sym one.is ∙ ap (flat_object a) same)
 
   -- a word that falls in no live object
-  held_resolved-none : (word : ℕ) → resolved a word ≡ None → held_resolved view word ≡ None
-  held_resolved-none word none = split (held_resolved view word) refl
+  flat_resolved-none : (word : ℕ) → resolved a word ≡ None → flat_resolved view word ≡ None
+  flat_resolved-none word none = split (flat_resolved view word) refl
     where
-      split : (found : Option HeldObject) → held_resolved view word ≡ found → found ≡ None
+      split : (found : Option FlatObject) → flat_resolved view word ≡ found → found ≡ None
       split None e = refl
       split (Some h) e =
-          let place = find-Some (λ (o : HeldObject). falls word o.base o.extent) view.objects h e in
+          let place = find-Some (λ (o : FlatObject). falls word o.base o.extent) view.objects h e in
           let one = shown place.place h place.is in
           let falls_there : falls word one.object.base one.object.extent ≡ true =
-          ap (λ (o : HeldObject). falls word o.base o.extent) one.is ∙ place.passes in
+          ap (λ (o : FlatObject). falls word o.base o.extent) one.is ∙ place.passes in
           let some = resolved-lives a placed one.birth one.object word one.lives falls_there in
           cc
 
-  pub resolved-shown : (word : ℕ) → held_resolved view word
-      ≡ option_map (held a) (option_and_then (slice_get a.objects) (resolved a word))
+  pub resolved-shown : (word : ℕ) → flat_resolved view word
+      ≡ option_map (flat_object a) (option_and_then (slice_get a.objects) (resolved a word))
   resolved-shown word = split (resolved a word) refl
     where
       split : (found : Option ℕ) → resolved a word ≡ found
-          → held_resolved view word ≡ option_map (held a) (option_and_then (slice_get a.objects) found)
-      split None e = held_resolved-none word e
+          → flat_resolved view word ≡ option_map (flat_object a) (option_and_then (slice_get a.objects) found)
+      split None e = flat_resolved-none word e
       split (Some birth) e =
           let place = position_from-Some (falls_in word) a.objects birth e in
           let lives = lives_from a birth place.0 _ place.1 place.2 in
-          held_resolved-lives birth place.0 word lives (both _ _ place.2).1
-          ∙ ap (option_map (held a)) (sym place.1)
+          flat_resolved-lives birth place.0 word lives (both _ _ place.2).1
+          ∙ ap (option_map (flat_object a)) (sym place.1)
 
 -- What a stack cell means lives, and its word falls in it.
 pub record IsMeant (a : State) (i birth : ℕ) (object : Object) : Type 0 where
@@ -195,19 +195,19 @@ module _ (a : State) (good : IsGood a) where
       split (Some birth) h = sym (resolved-lives a good.placed birth h.0 value.word h.1 h.2)
 
 -- A stack cell means in a view what it means in each good state that the view shows.
-pub meant-shown : (view : View) (a : State) → IsGood a → Shows view a → (i : ℕ)
-    → held_meant view i ≡ option_map (held a) (object_meant a i)
+pub meant-shown : (view : FlatView) (a : State) → IsGood a → FlatShows view a → (i : ℕ)
+    → flat_meant view i ≡ option_map (flat_object a) (object_meant a i)
 meant-shown view a good shows i =
-    ap (λ stack. option_and_then (held_resolved view) (slice_get stack i)) shows.stack
-    ∙ ap (option_and_then (held_resolved view)) (slice_get-map (λ (v : Value). v.word) a.stack i)
+    ap (λ stack. option_and_then (flat_resolved view) (slice_get stack i)) shows.stack
+    ∙ ap (option_and_then (flat_resolved view)) (slice_get-map (λ (v : Value). v.word) a.stack i)
     ∙ split (slice_get a.stack i) refl
   where
     split : (cell : Option Value) → slice_get a.stack i ≡ cell
-        → option_and_then (held_resolved view) (option_map (λ v. v.word) cell)
-        ≡ option_map (held a) (option_and_then (slice_get a.objects) (option_and_then (meant a) cell))
+        → option_and_then (flat_resolved view) (option_map (λ v. v.word) cell)
+        ≡ option_map (flat_object a) (option_and_then (slice_get a.objects) (option_and_then (meant a) cell))
     split None e = refl
     split (Some value) e =
         let refers = each_get (IsReferring a) a.stack i value good.referred.stack e in
         resolved-shown view a good.placed shows value.word
-        ∙ ap (λ birth. option_map (held a) (option_and_then (slice_get a.objects) birth))
+        ∙ ap (λ birth. option_map (flat_object a) (option_and_then (slice_get a.objects) birth))
         (sym (meant-resolved a good value refers))

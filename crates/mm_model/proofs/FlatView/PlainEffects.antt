@@ -13,17 +13,17 @@ use Rattle.mm_model.specs.Store.{is_counted_slot, store_reply}
 use Rattle.mm_model.specs.Refusing.{refusal}
 use Rattle.mm_model.specs.Effect.{Effect, nothing_done, with_some, put_effect, plain_effect}
 use Rattle.mm_model.specs.Good.{IsReferring, IsGood}
-use Rattle.mm_model.specs.View.{View, HeldObject, Shows, held}
-use Rattle.mm_model.specs.ViewEffect.{HeldEffect, held_meant, held_slot_kind, falls_in_held_counted, held_store_reply, held_nothing_done, with_held, held_put_effect, held_plain_effect}
-use Rattle.mm_model.proofs.View.Creating.{Refines}
+use Rattle.mm_model.specs.FlatView.{FlatView, FlatObject, FlatShows, flat_object}
+use Rattle.mm_model.specs.FlatEffect.{FlatEffect, flat_meant, flat_slot_kind, falls_in_flat_counted, flat_store_reply, flat_nothing_done, with_flat, flat_put_effect, flat_plain_effect}
+use Rattle.mm_model.proofs.FlatView.Creating.{Refines}
 use Rattle.mm_model.proofs.Good.Living.{each_get}
-use Rattle.mm_model.proofs.View.RefusalsShown.{any-same}
-use Rattle.mm_model.proofs.View.Resolving.{IsMeant, is_meant, meant-shown}
+use Rattle.mm_model.proofs.FlatView.RefusalsShown.{any-same}
+use Rattle.mm_model.proofs.FlatView.Resolving.{IsMeant, is_meant, meant-shown}
 use Rattle.mm_model.proofs.Good.Shading.{put_is_good}
-use Rattle.mm_model.proofs.View.Showing.{any-shown}
-use Rattle.mm_model.proofs.View.ShowingStores.{shows-put}
-use Rattle.mm_model.proofs.View.StackEffects.{nothing-refines, on_cell, push-refines, dup-refines, pop-refines, inner-refines, get-refines, map-refines}
-use Rattle.mm_model.proofs.View.Stats.{stat-refines}
+use Rattle.mm_model.proofs.FlatView.Showing.{any-shown}
+use Rattle.mm_model.proofs.FlatView.ShowingStores.{shows-put}
+use Rattle.mm_model.proofs.FlatView.StackEffects.{nothing-refines, on_cell, push-refines, dup-refines, pop-refines, inner-refines, get-refines, map-refines}
+use Rattle.mm_model.proofs.FlatView.Stats.{stat-refines}
 
 -- the commands that work on the stack, read and write
 abbrev pub is_plain_command : Command → Bool
@@ -38,17 +38,17 @@ is_plain_command commands.Stat = true
 is_plain_command command = false
 
 -- `put` stores into a slot that isn't counted
-abbrev pub IsUncounted : View → Command → Type 0
+abbrev pub IsUncounted : FlatView → Command → Type 0
 IsUncounted view (commands.Put i s j) =
-    IfSome (held_meant view i) (λ object. is_counted_slot (held_slot_kind object s) ≡ false)
+    IfSome (flat_meant view i) (λ object. is_counted_slot (flat_slot_kind object s) ≡ false)
 IsUncounted view command = Unit {0}
 
-module _ (view : View) (a : State) (good : IsGood a) (shows : Shows view a) where
-  store_reply-shown : (kind : SlotKind) (word : ℕ) → held_store_reply view kind word ≡ store_reply a kind word
+module _ (view : FlatView) (a : State) (good : IsGood a) (shows : FlatShows view a) where
+  store_reply-shown : (kind : SlotKind) (word : ℕ) → flat_store_reply view kind word ≡ store_reply a kind word
   store_reply-shown kind word =
       ap (λ loose. if not (is_counted_slot kind) && loose then replies.Loose else replies.Done)
-      (any-shown view a good shows (falls_in_held_counted word)
-      ∙ any-same (λ o. is_live o && falls_in_held_counted word (held a o)) (λ o. is_counted o.kind && falls_in word o)
+      (any-shown view a good shows (falls_in_flat_counted word)
+      ∙ any-same (λ o. is_live o && falls_in_flat_counted word (flat_object a o)) (λ o. is_counted o.kind && falls_in word o)
       (λ o. swapped (is_live o) (is_counted o.kind) (falls word o.base o.extent)) a.objects)
     where
       swapped : (b c d : Bool) → (b && (c && d)) ≡ (c && (b && d))
@@ -58,16 +58,16 @@ module _ (view : View) (a : State) (good : IsGood a) (shows : Shows view a) wher
       swapped false false d = refl
 
   put-refines : (i s j : ℕ) → IsUncounted view (commands.Put i s j)
-      → Refines (held_plain_effect view (commands.Put i s j)) (plain_effect a (commands.Put i s j))
+      → Refines (flat_plain_effect view (commands.Put i s j)) (plain_effect a (commands.Put i s j))
   put-refines i s j uncounted =
-      subst (λ found. Refines (with_held found view on_held) (plain_effect a (commands.Put i s j)))
+      subst (λ found. Refines (with_flat found view on_held) (plain_effect a (commands.Put i s j)))
       (sym (meant-shown view a good shows i))
       (split (object_meant a i) refl
-      (subst (λ found. IfSome found (λ object. is_counted_slot (held_slot_kind object s) ≡ false))
+      (subst (λ found. IfSome found (λ object. is_counted_slot (flat_slot_kind object s) ≡ false))
       (meant-shown view a good shows i) uncounted))
     where
-      on_held : HeldObject → HeldEffect
-      on_held object = with_held (slice_get view.stack j) view (held_put_effect view object s)
+      on_held : FlatObject → FlatEffect
+      on_held object = with_flat (slice_get view.stack j) view (flat_put_effect view object s)
 
       on_object : ℕ → Object → Effect
       on_object birth object = with_some (slice_get a.stack j) a (put_effect a birth object s)
@@ -78,9 +78,9 @@ module _ (view : View) (a : State) (good : IsGood a) (shows : Shows view a) wher
       found_none (Some birth) e = ap (λ found. with_some found a (on_object birth)) e
 
       stores : (birth : ℕ) (object : Object) → IsMeant a i birth object
-          → is_counted_slot (slot_kind object s) ≡ false → Refines (on_held (held a object)) (on_object birth object)
+          → is_counted_slot (slot_kind object s) ≡ false → Refines (on_held (flat_object a object)) (on_object birth object)
       stores birth object one e =
-          on_cell view a good shows j (held_put_effect view (held a object) s) (put_effect a birth object s)
+          on_cell view a good shows j (flat_put_effect view (flat_object a object) s) (put_effect a birth object s)
           (λ value cell.
           let refers = each_get (IsReferring a) a.stack j value good.referred.stack cell in
           record {
@@ -90,10 +90,10 @@ module _ (view : View) (a : State) (good : IsGood a) (shows : Shows view a) wher
           })
 
       split : (found : Option Object) → object_meant a i ≡ found
-          → IfSome (option_map (held a) found) (λ object. is_counted_slot (held_slot_kind object s) ≡ false)
-          → Refines (with_held (option_map (held a) found) view on_held) (plain_effect a (commands.Put i s j))
+          → IfSome (option_map (flat_object a) found) (λ object. is_counted_slot (flat_slot_kind object s) ≡ false)
+          → Refines (with_flat (option_map (flat_object a) found) view on_held) (plain_effect a (commands.Put i s j))
       split None e h =
-          subst (Refines (held_nothing_done view)) (sym (found_none (meant_at a i) e))
+          subst (Refines (flat_nothing_done view)) (sym (found_none (meant_at a i) e))
           (nothing-refines view a good shows)
       split (Some object) e h =
           let one = is_meant a good i object e in
@@ -101,10 +101,10 @@ module _ (view : View) (a : State) (good : IsGood a) (shows : Shows view a) wher
           ap (λ birth. with_some birth a (λ birth. with_some (slice_get a.objects birth) a (on_object birth)))
           one.1.meant_is
           ∙ ap (λ found. with_some found a (on_object one.0)) one.1.lives.is in
-          subst (Refines (on_held (held a object))) (sym effect) (stores one.0 object one.1 h)
+          subst (Refines (on_held (flat_object a object))) (sym effect) (stores one.0 object one.1 h)
 
   pub plain-refines : (command : Command) → is_plain_command command ≡ true → refusal a command ≡ None
-      → IsUncounted view command → Refines (held_plain_effect view command) (plain_effect a command)
+      → IsUncounted view command → Refines (flat_plain_effect view command) (plain_effect a command)
   plain-refines (commands.Push word) told allowed h = push-refines view a good shows word
   plain-refines (commands.Dup i) told allowed h = dup-refines view a good shows i
   plain-refines (commands.Pop k) told allowed h = pop-refines view a good shows k

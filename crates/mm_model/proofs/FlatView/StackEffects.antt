@@ -15,12 +15,12 @@ use Rattle.mm_model.specs.Meaning.{resolved, meant, meant_at, object_meant}
 use Rattle.mm_model.specs.Refusing.{first_refusal, refusal, no_cell, is_outside, is_stack_full, means_nothing, word_at}
 use Rattle.mm_model.specs.Effect.{Effect, nothing_done, pushes, with_some, map_reply, plain_effect}
 use Rattle.mm_model.specs.Good.{IsReferring, IsGood}
-use Rattle.mm_model.specs.View.{View, HeldObject, Shows, held}
-use Rattle.mm_model.specs.ViewEffect.{HeldEffect, held_meant, held_nothing_done, held_pushes, with_held, held_map_reply, held_plain_effect}
+use Rattle.mm_model.specs.FlatView.{FlatView, FlatObject, FlatShows, flat_object}
+use Rattle.mm_model.specs.FlatEffect.{FlatEffect, flat_meant, flat_nothing_done, flat_pushes, with_flat, flat_map_reply, flat_plain_effect}
 use Rattle.mm_model.proofs.Good.Around.{good-stack, shows-stack}
-use Rattle.mm_model.proofs.View.Creating.{Refines}
+use Rattle.mm_model.proofs.FlatView.Creating.{Refines}
 use Rattle.mm_model.proofs.Good.Living.{each_get}
-use Rattle.mm_model.proofs.View.Resolving.{IsMeant, is_meant, meant-shown}
+use Rattle.mm_model.proofs.FlatView.Resolving.{IsMeant, is_meant, meant-shown}
 
 pub first_refusal-None : (test : Bool) (because : Refusal) (rows : List (Bool × Refusal))
     → first_refusal ((test, because) ∷ rows) ≡ None → (test ≡ false) × (first_refusal rows ≡ None)
@@ -95,14 +95,14 @@ module _ (a : State) (good : IsGood a) where
           let same : one.0 ≡ birth = cc in
           (object, subst (λ n. Lives a n object) same one.1.lives, here)
 
-module _ (view : View) (a : State) (good : IsGood a) (shows : Shows view a) where
-  pub nothing-refines : Refines (held_nothing_done view) (nothing_done a)
+module _ (view : FlatView) (a : State) (good : IsGood a) (shows : FlatShows view a) where
+  pub nothing-refines : Refines (flat_nothing_done view) (nothing_done a)
   nothing-refines = record { good = good; shows = shows; reply = refl }
 
   pub cell-shown : (i : ℕ) → slice_get view.stack i ≡ option_map (λ v. v.word) (slice_get a.stack i)
   cell-shown i = ap (λ stack. slice_get stack i) shows.stack ∙ slice_get-map (λ (v : Value). v.word) a.stack i
 
-  pushes-refine : (value : Value) → IsReferring a value → Refines (held_pushes value.word view) (pushes value a)
+  pushes-refine : (value : Value) → IsReferring a value → Refines (flat_pushes value.word view) (pushes value a)
   pushes-refine value refers =
       record {
         good = good-stack a (value ∷ a.stack) good (refers, good.referred.stack);
@@ -112,43 +112,43 @@ module _ (view : View) (a : State) (good : IsGood a) (shows : Shows view a) wher
       }
 
   pub push-refines : (word : ℕ)
-      → Refines (held_plain_effect view (commands.Push word)) (plain_effect a (commands.Push word))
+      → Refines (flat_plain_effect view (commands.Push word)) (plain_effect a (commands.Push word))
   push-refines word =
       let pushed = pushes-refine (integer word) tt in
       record { good = pushed.good; shows = pushed.shows; reply = refl }
 
   -- an effect on the word of a cell, and one on its value
-  pub on_cell : (i : ℕ) (on_word : ℕ → HeldEffect) (on_value : Value → Effect)
+  pub on_cell : (i : ℕ) (on_word : ℕ → FlatEffect) (on_value : Value → Effect)
       → ((value : Value) → slice_get a.stack i ≡ Some value → Refines (on_word value.word) (on_value value))
-      → Refines (with_held (slice_get view.stack i) view on_word) (with_some (slice_get a.stack i) a on_value)
+      → Refines (with_flat (slice_get view.stack i) view on_word) (with_some (slice_get a.stack i) a on_value)
   on_cell i on_word on_value each =
       let split : (cell : Option Value) → slice_get a.stack i ≡ cell
-      → Refines (with_held (option_map (λ (v : Value). v.word) cell) view on_word) (with_some cell a on_value) =
+      → Refines (with_flat (option_map (λ (v : Value). v.word) cell) view on_word) (with_some cell a on_value) =
       elim [ None ↦ λ e. nothing-refines | Some value ↦ λ e. each value e ] in
-      subst (λ cell. Refines (with_held cell view on_word) (with_some (slice_get a.stack i) a on_value))
+      subst (λ cell. Refines (with_flat cell view on_word) (with_some (slice_get a.stack i) a on_value))
       (sym (cell-shown i)) (split (slice_get a.stack i) refl)
 
   -- an effect on the object that a cell means, in words and with its birth number
-  pub on_object : (i : ℕ) (on_held : HeldObject → HeldEffect) (on_own : Object → Effect)
-      → ((birth : ℕ) (object : Object) → IsMeant a i birth object → Refines (on_held (held a object)) (on_own object))
-      → Refines (with_held (held_meant view i) view on_held) (with_some (object_meant a i) a on_own)
+  pub on_object : (i : ℕ) (on_held : FlatObject → FlatEffect) (on_own : Object → Effect)
+      → ((birth : ℕ) (object : Object) → IsMeant a i birth object → Refines (on_held (flat_object a object)) (on_own object))
+      → Refines (with_flat (flat_meant view i) view on_held) (with_some (object_meant a i) a on_own)
   on_object i on_held on_own each =
       let split : (found : Option Object) → object_meant a i ≡ found
-      → Refines (with_held (option_map (held a) found) view on_held) (with_some found a on_own) =
+      → Refines (with_flat (option_map (flat_object a) found) view on_held) (with_some found a on_own) =
       elim [
         | None ↦ λ e. nothing-refines
         | Some object ↦ λ e. let one = is_meant a good i object e in each one.0 object one.1
       ] in
-      subst (λ found. Refines (with_held found view on_held) (with_some (object_meant a i) a on_own))
+      subst (λ found. Refines (with_flat found view on_held) (with_some (object_meant a i) a on_own))
       (sym (meant-shown view a good shows i)) (split (object_meant a i) refl)
 
-  pub dup-refines : (i : ℕ) → Refines (held_plain_effect view (commands.Dup i)) (plain_effect a (commands.Dup i))
+  pub dup-refines : (i : ℕ) → Refines (flat_plain_effect view (commands.Dup i)) (plain_effect a (commands.Dup i))
   dup-refines i =
       on_cell i _ _ (λ value e.
       let pushed = pushes-refine value (refers_at a good i value e) in
       record { good = pushed.good; shows = pushed.shows; reply = refl })
 
-  pub pop-refines : (k : ℕ) → Refines (held_plain_effect view (commands.Pop k)) (plain_effect a (commands.Pop k))
+  pub pop-refines : (k : ℕ) → Refines (flat_plain_effect view (commands.Pop k)) (plain_effect a (commands.Pop k))
   pop-refines k =
       record {
         good = good-stack a (drop k a.stack) good (each_drop (IsReferring a) k a.stack good.referred.stack);
@@ -158,31 +158,31 @@ module _ (view : View) (a : State) (good : IsGood a) (shows : Shows view a) wher
       }
 
   pub inner-refines : (i bytes : ℕ) → refusal a (commands.Inner i bytes) ≡ None
-      → Refines (held_plain_effect view (commands.Inner i bytes)) (plain_effect a (commands.Inner i bytes))
+      → Refines (flat_plain_effect view (commands.Inner i bytes)) (plain_effect a (commands.Inner i bytes))
   inner-refines i bytes allowed =
       on_cell i _ _ (λ value e.
       pushes-refine (record value { word = value.word + bytes }) (inner_refers a good i bytes allowed value e))
 
-  pub get-refines : (i s : ℕ) → Refines (held_plain_effect view (commands.Get i s)) (plain_effect a (commands.Get i s))
+  pub get-refines : (i s : ℕ) → Refines (flat_plain_effect view (commands.Get i s)) (plain_effect a (commands.Get i s))
   get-refines i s =
       on_object i _ _ (λ birth object one.
       let split : (found : Option Value) → slice_get object.slots s ≡ found
-      → Refines (with_held (option_map (λ (v : Value). v.word) found) view (λ word. held_pushes word view))
+      → Refines (with_flat (option_map (λ (v : Value). v.word) found) view (λ word. flat_pushes word view))
       (with_some found a (λ value. pushes value a)) =
       elim [
         | None ↦ λ e. nothing-refines
         | Some value ↦ λ e. pushes-refine value (good.referred.slots birth object one.lives s value e).refers
       ] in
-      subst (λ found. Refines (with_held found view (λ word. held_pushes word view))
+      subst (λ found. Refines (with_flat found view (λ word. flat_pushes word view))
       (with_some (slice_get object.slots s) a (λ value. pushes value a)))
       (sym (slice_get-map (λ (v : Value). v.word) object.slots s)) (split (slice_get object.slots s) refl))
 
-  pub map-refines : (i : ℕ) → Refines (held_plain_effect view (commands.Map i)) (plain_effect a (commands.Map i))
+  pub map-refines : (i : ℕ) → Refines (flat_plain_effect view (commands.Map i)) (plain_effect a (commands.Map i))
   map-refines i =
-      let split : (found : Option Object) → held_map_reply (option_map (held a) found) ≡ map_reply found =
+      let split : (found : Option Object) → flat_map_reply (option_map (flat_object a) found) ≡ map_reply found =
       elim [ None ↦ refl | Some object ↦ refl ] in
       record {
         good = good;
         shows = shows;
-        reply = ap held_map_reply (meant-shown view a good shows i) ∙ split (object_meant a i);
+        reply = ap flat_map_reply (meant-shown view a good shows i) ∙ split (object_meant a i);
       }

@@ -6,31 +6,31 @@ use Rattle.mm_model.specs.State.{State}
 use Rattle.mm_model.specs.Place.{Objects, live_pieces, place_among, place_of}
 use Rattle.mm_model.specs.Effect.{Effect, new_effect}
 use Rattle.mm_model.specs.Good.{IsGood}
-use Rattle.mm_model.specs.View.{View, Shows}
-use Rattle.mm_model.specs.ViewEffect.{HeldEffect, held_pieces, held_new_effect}
+use Rattle.mm_model.specs.FlatView.{FlatView, FlatShows}
+use Rattle.mm_model.specs.FlatEffect.{FlatEffect, flat_pieces, flat_new_effect}
 use Rattle.mm_model.proofs.Good.Births.{made_is_good, goes_at}
 use Rattle.mm_model.proofs.Places.SeenAlike.{place_among-alike}
 use Rattle.mm_model.proofs.Good.Living.{some_extent}
-use Rattle.mm_model.proofs.View.Showing.{pieces_alike, nothing_at, shows-made}
+use Rattle.mm_model.proofs.FlatView.Showing.{pieces_alike, nothing_at, shows-made}
 
 -- an effect on a view is that on a state
-pub record Refines (held : HeldEffect) (effect : Effect) : Type 0 where
+pub record Refines (held : FlatEffect) (effect : Effect) : Type 0 where
   pub good : IsGood effect.state
-  pub shows : Shows held.view effect.state
+  pub shows : FlatShows held.view effect.state
   pub reply : held.reply ≡ effect.reply
 
-module _ (view : View) (a : State) (good : IsGood a) (shows : Shows view a) (shape : Shape) where
-  pub place-shown : place_among (held_pieces view) view.settings.max Objects (size_of (object_bytes shape.slots))
+module _ (view : FlatView) (a : State) (good : IsGood a) (shows : FlatShows view a) (shape : Shape) where
+  pub place-shown : place_among (flat_pieces view) view.settings.max Objects (size_of (object_bytes shape.slots))
       ≡ place_of a a.settings.max Objects (object_bytes shape.slots)
   place-shown =
       let size = size_of (object_bytes shape.slots) in
-      place_among-alike (held_pieces view) (live_pieces a)
+      place_among-alike (flat_pieces view) (live_pieces a)
       (pieces_alike view a good shows) view.settings.max Objects size
       ∙ ap (λ s. place_among (live_pieces a) s.max Objects size) shows.settings
 
   -- the object that is born at the place that was found, if one was
   pub new-refines : (found : Option ℕ) → place_of a a.settings.max Objects (object_bytes shape.slots) ≡ found →
-      Refines (held_new_effect view shape found) (new_effect a shape found)
+      Refines (flat_new_effect view shape found) (new_effect a shape found)
   new-refines None e = record { good = good; shows = shows; reply = refl }
   new-refines (Some base) e =
       let goes = goes_at a shape a.settings.max base good (omega arith) e in

@@ -11,7 +11,7 @@ piece_of family bytes base = record { base = base; extent = extent_of bytes; fam
 
 -- The piece lies in the pages from 1 to below the limit, on its grid. No live piece shares a byte with it, and those
 -- that share a page with it are cells of its class and family.
-pub record Fits (limit : ℕ) (pieces : List Piece) (piece : Piece) : Type 0 where
+pub record IsFreeFor (limit : ℕ) (pieces : List Piece) (piece : Piece) : Type 0 where
   pub inside : IsInside limit piece
   pub vacant : IsTrue (is_vacant pieces piece.base piece.extent)
   pub apart : AllByRecursion (λ other. AreApart other piece) pieces

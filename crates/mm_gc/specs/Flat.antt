@@ -1,7 +1,7 @@
 -- What the heap's own list of objects and its memory show.
 use Rattle.std.specs.Prelude.{ℕ, ◌+◌, ◌/◌, false, List, map, take, drop, None}
 use Rattle.mm_model.specs.Place.{Piece, Objects}
-use Rattle.mm_model.specs.View.{HeldObject}
+use Rattle.mm_model.specs.FlatView.{FlatObject}
 use Rattle.mm_gc.specs.declared.object.Object.{Object}
 
 -- the room that it takes
@@ -20,8 +20,8 @@ abbrev pub words_at : List ℕ → ℕ → ℕ → List ℕ
 words_at memory from count = take count (drop from memory)
 
 -- the object in words
-abbrev pub held_of : List ℕ → Object → HeldObject
-held_of memory object =
+abbrev pub flat_of : List ℕ → Object → FlatObject
+flat_of memory object =
     record {
       base = object.base;
       extent = object.extent;

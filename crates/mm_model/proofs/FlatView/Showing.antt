@@ -13,8 +13,8 @@ use Rattle.mm_model.specs.declared.object.Colour.TheVariants.{White, Black}
 use Rattle.mm_model.specs.State.{State, Area, Cycle, PartlyScanned, lives_at, totals_of, live_count, with_black_birth}
 use Rattle.mm_model.specs.Place.{Piece, object_piece, area_piece, live_pieces}
 use Rattle.mm_model.specs.Good.{AreApart, AreAllApart, IsInside, IsPaired, IsPartlyScanned, IsColoured, IsGood}
-use Rattle.mm_model.specs.View.{View, HeldObject, HeldColour, HeldCycle, Shows, ShowsCycles, colour_at, held_partly_scanned, held_at, held, held_area, shown_at, base_of}
-use Rattle.mm_model.specs.ViewEffect.{held_piece, held_area_piece, held_pieces, held_newborn, held_black_birth, one_more_birth, held_made}
+use Rattle.mm_model.specs.FlatView.{FlatView, FlatObject, FlatColour, FlatCycle, FlatShows, FlatShowsCycles, colour_at, flat_partly_scanned, flat_at, flat_object, flat_area, shown_at, base_of}
+use Rattle.mm_model.specs.FlatEffect.{flat_piece, flat_area_piece, flat_pieces, flat_newborn, flat_black_birth, one_more_birth, flat_made}
 use Rattle.mm_model.specs.Effect.{made_at}
 use Rattle.std.proofs.lemmas.Bool.{eq-eqb}
 use Rattle.mm_model.specs.SizeClass.{extent_of, object_bytes}
@@ -72,27 +72,27 @@ any-append test (x ∷ xs) ys =
     elim [ true ↦ refl | false ↦ any-append test xs ys ] in
     split (test x)
 
-area_pieces-held : (areas : List Area) → map held_area_piece (map held_area areas) ≡ map area_piece areas
+area_pieces-held : (areas : List Area) → map flat_area_piece (map flat_area areas) ≡ map area_piece areas
 area_pieces-held [] = refl
 area_pieces-held (area ∷ areas) = ap (λ ps. area_piece area ∷ ps) (area_pieces-held areas)
 
 piece-held : (a : State) (found : Option Object)
-    → option_map held_piece (option_map (held a) found) ≡ option_map object_piece found
+    → option_map flat_piece (option_map (flat_object a) found) ≡ option_map object_piece found
 piece-held a None = refl
 piece-held a (Some o) = refl
 
 -- A view and the state that it shows take the same room.
-pub pieces_alike : (view : View) (a : State) → IsGood a → Shows view a → AreSeenAlike (held_pieces view) (live_pieces a)
+pub pieces_alike : (view : FlatView) (a : State) → IsGood a → FlatShows view a → AreSeenAlike (flat_pieces view) (live_pieces a)
 pieces_alike view a good shows test =
-    let alike : (k : ℕ) → option_map held_piece (held_at view.objects k)
+    let alike : (k : ℕ) → option_map flat_piece (flat_at view.objects k)
     ≡ option_map object_piece (at (λ o. o.base) (live_objects a.objects) k) =
-    λ k. ap (option_map held_piece) (shows.objects k) ∙ piece-held a (find (lives_at k) a.objects)
+    λ k. ap (option_map flat_piece) (shows.objects k) ∙ piece-held a (find (lives_at k) a.objects)
     ∙ ap (option_map object_piece) (find-live a.objects k) in
-    let objects = seen_alike (λ o. o.base) (λ o. o.base) held_piece object_piece view.objects
+    let objects = seen_alike (λ o. o.base) (λ o. o.base) flat_piece object_piece view.objects
     (live_objects a.objects) shows.distinct (keyed_good a good) alike test in
-    any-append test (map held_area_piece view.areas) (map held_piece view.objects)
-    ∙ ap (λ areas. list_any test (map held_area_piece areas) || list_any test (map held_piece view.objects)) shows.areas
-    ∙ ap (λ ps. list_any test ps || list_any test (map held_piece view.objects)) (area_pieces-held a.areas)
+    any-append test (map flat_area_piece view.areas) (map flat_piece view.objects)
+    ∙ ap (λ areas. list_any test (map flat_area_piece areas) || list_any test (map flat_piece view.objects)) shows.areas
+    ∙ ap (λ ps. list_any test ps || list_any test (map flat_piece view.objects)) (area_pieces-held a.areas)
     ∙ ap (λ b. list_any test (map area_piece a.areas) || b) objects
     ∙ sym (any-append test (map area_piece a.areas) (map object_piece (live_objects a.objects)))
 
@@ -114,19 +114,19 @@ option_map-itself None = refl
 option_map-itself (Some x) = refl
 
 -- under each base the view has what the live objects are in words
-pub objects_alike : (view : View) (a : State) → Shows view a → (k : ℕ)
-    → option_map (λ x. x) (held_at view.objects k) ≡ option_map (held a) (at (λ o. o.base) (live_objects a.objects) k)
+pub objects_alike : (view : FlatView) (a : State) → FlatShows view a → (k : ℕ)
+    → option_map (λ x. x) (flat_at view.objects k) ≡ option_map (flat_object a) (at (λ o. o.base) (live_objects a.objects) k)
 objects_alike view a shows k =
-    option_map-itself (held_at view.objects k) ∙ shows.objects k ∙ ap (option_map (held a)) (find-live a.objects k)
+    option_map-itself (flat_at view.objects k) ∙ shows.objects k ∙ ap (option_map (flat_object a)) (find-live a.objects k)
 
 -- a test of some object of a view is one of some live object
-pub any-shown : (view : View) (a : State) → IsGood a → Shows view a → (test : HeldObject → Bool)
-    → list_any test view.objects ≡ list_any (λ o. is_live o && test (held a o)) a.objects
+pub any-shown : (view : FlatView) (a : State) → IsGood a → FlatShows view a → (test : FlatObject → Bool)
+    → list_any test view.objects ≡ list_any (λ o. is_live o && test (flat_object a o)) a.objects
 any-shown view a good shows test =
     ap (list_any test) (sym (map-itself view.objects))
-    ∙ seen_alike (λ o. o.base) (λ o. o.base) (λ x. x) (held a) view.objects (live_objects a.objects) shows.distinct
+    ∙ seen_alike (λ o. o.base) (λ o. o.base) (λ x. x) (flat_object a) view.objects (live_objects a.objects) shows.distinct
     (keyed_good a good) (objects_alike view a shows) test
-    ∙ any-map (held a) test (live_objects a.objects) ∙ any-live (λ o. test (held a o)) a.objects
+    ∙ any-map (flat_object a) test (live_objects a.objects) ∙ any-live (λ o. test (flat_object a o)) a.objects
 
 words_of-zeros : (n : ℕ) → words_of (replicate n (integer 0)) ≡ replicate n 0
 words_of-zeros zero = refl
@@ -174,7 +174,7 @@ module _ (a : State) (shape : Shape) (base : ℕ) (good : IsGood a) where
   partner-made birth o (Some other) h = base_of-made other h.partner h.lives.is
 
   -- the objects that lived are held as before
-  held-made : (b : ℕ) (o : Object) → Found (lives_at b) a.objects o → held a o ≡ held after o
+  held-made : (b : ℕ) (o : Object) → Found (lives_at b) a.objects o → flat_object a o ≡ flat_object after o
   held-made b o found =
       let live = both _ _ found.passes in
       ap (λ partner. record {
@@ -189,7 +189,7 @@ module _ (a : State) (shape : Shape) (base : ℕ) (good : IsGood a) where
       }) (partner-made found.place o o.partner
       (good.paired found.place o (record { is = found.is; live = live.0 })))
 
-  held-newborn : held after (newborn shape base) ≡ held_newborn shape base
+  held-newborn : flat_object after (newborn shape base) ≡ flat_newborn shape base
   held-newborn =
       ap (λ words. record {
         base = base;
@@ -202,41 +202,41 @@ module _ (a : State) (shape : Shape) (base : ℕ) (good : IsGood a) where
         partner = None;
       }) (words_of-zeros shape.slots)
 
-  objects-made : (objects : List HeldObject) (b : ℕ) → held_at objects b ≡ shown_at a b
+  objects-made : (objects : List FlatObject) (b : ℕ) → flat_at objects b ≡ shown_at a b
       → find (lives_at base) a.objects ≡ None
-      → held_at (objects ++ held_newborn shape base ∷ []) b ≡ shown_at after b
+      → flat_at (objects ++ flat_newborn shape base ∷ []) b ≡ shown_at after b
   objects-made objects b same none =
       let shown : (found : Option Object) → find (lives_at b) a.objects ≡ found
-      → held_at objects b ≡ option_map (held a) found
-      → option_or (held_at objects b) (cond (nat_eq base b) (Some (held_newborn shape base)) None)
-      ≡ option_map (held after) (option_or found (cond (nat_eq base b) (Some (newborn shape base)) None)) =
+      → flat_at objects b ≡ option_map (flat_object a) found
+      → option_or (flat_at objects b) (cond (nat_eq base b) (Some (flat_newborn shape base)) None)
+      ≡ option_map (flat_object after) (option_or found (cond (nat_eq base b) (Some (newborn shape base)) None)) =
       elim [
         | None ↦ λ is e.
-            ap (λ found. option_or found (cond (nat_eq base b) (Some (held_newborn shape base)) None)) e
+            ap (λ found. option_or found (cond (nat_eq base b) (Some (flat_newborn shape base)) None)) e
             ∙ own (nat_eq base b)
         | Some o ↦ λ is e.
-            ap (λ found. option_or found (cond (nat_eq base b) (Some (held_newborn shape base)) None)) e
+            ap (λ found. option_or found (cond (nat_eq base b) (Some (flat_newborn shape base)) None)) e
             ∙ ap Some (held-made b o (find-Some (lives_at b) a.objects o is))
       ] in
-      find-push (λ o. nat_eq o.base b) objects (held_newborn shape base)
+      find-push (λ o. nat_eq o.base b) objects (flat_newborn shape base)
       ∙ shown (find (lives_at b) a.objects) refl same
-      ∙ ap (option_map (held after)) (sym (find-push (lives_at b) a.objects (newborn shape base)))
+      ∙ ap (option_map (flat_object after)) (sym (find-push (lives_at b) a.objects (newborn shape base)))
     where
       own : (c : Bool)
-          → option_or None (cond c (Some (held_newborn shape base)) None)
-          ≡ option_map (held after) (option_or None (cond c (Some (newborn shape base)) None))
+          → option_or None (cond c (Some (flat_newborn shape base)) None)
+          ≡ option_map (flat_object after) (option_or None (cond c (Some (newborn shape base)) None))
       own true = ap Some (sym held-newborn)
       own false = refl
 
-  colour-made : (cycle : Cycle) (entries : List HeldColour) (b : ℕ) → length cycle.colours ≡ length a.objects →
+  colour-made : (cycle : Cycle) (entries : List FlatColour) (b : ℕ) → length cycle.colours ≡ length a.objects →
       option_map (λ entry. entry.colour) (find (λ entry. nat_eq entry.base b) entries) ≡ colour_at a cycle b →
       option_map (λ entry. entry.colour)
       (find (λ entry. nat_eq entry.base b) (entries ++ record { base = base; colour = Black } ∷ []))
       ≡ colour_at after (with_black_birth cycle) b
   colour-made cycle entries b each same =
-      let entry : HeldColour = record { base = base; colour = Black } in
+      let entry : FlatColour = record { base = base; colour = Black } in
       let colours = cycle.colours ++ Black ∷ [] in
-      let shown : (birth : Option ℕ) (found : Option HeldColour) → position_from (lives_at b) 0 a.objects ≡ birth →
+      let shown : (birth : Option ℕ) (found : Option FlatColour) → position_from (lives_at b) 0 a.objects ≡ birth →
       option_map (λ entry. entry.colour) found
       ≡ option_map (λ birth. slice_index_or cycle.colours birth White) birth →
       option_map (λ entry. entry.colour) (option_or found (cond (nat_eq base b) (Some entry) None))
@@ -259,7 +259,7 @@ module _ (a : State) (shape : Shape) (base : ℕ) (good : IsGood a) where
       ∙ ap (option_map (λ birth. slice_index_or colours birth White))
       (sym (position_from-push (lives_at b) 0 a.objects (newborn shape base)))
     where
-      last : (c : Bool) → option_map (λ (entry : HeldColour). entry.colour)
+      last : (c : Bool) → option_map (λ (entry : FlatColour). entry.colour)
           (option_or None (cond c (Some (record { base = base; colour = Black })) None))
           ≡ option_map (λ birth. slice_index_or (cycle.colours ++ Black ∷ []) birth White)
           (option_or None (cond c (Some (0 + length a.objects)) None))
@@ -267,15 +267,15 @@ module _ (a : State) (shape : Shape) (base : ℕ) (good : IsGood a) where
       last false = refl
 
   partly_scanned-made : (cycle : Cycle) (partly_scanned : Option PartlyScanned) → IfSome partly_scanned (IsPartlyScanned a cycle) →
-      option_and_then (held_partly_scanned a) partly_scanned ≡ option_and_then (held_partly_scanned after) partly_scanned
+      option_and_then (flat_partly_scanned a) partly_scanned ≡ option_and_then (flat_partly_scanned after) partly_scanned
   partly_scanned-made cycle None h = refl
   partly_scanned-made cycle (Some partly_scanned) h =
       ap (option_map (λ base. record { base = base; slots_done = partly_scanned.slots_done }))
       (base_of-made partly_scanned.object h.object h.lives.is)
 
-  cycle-made : (entries : Option HeldCycle) (cycle : Option Cycle) → IfSome cycle (IsColoured a)
-      → ShowsCycles entries a cycle
-      → ShowsCycles (option_map (held_black_birth base) entries) after (option_map with_black_birth cycle)
+  cycle-made : (entries : Option FlatCycle) (cycle : Option Cycle) → IfSome cycle (IsColoured a)
+      → FlatShowsCycles entries a cycle
+      → FlatShowsCycles (option_map (flat_black_birth base) entries) after (option_map with_black_birth cycle)
   cycle-made None None h shows = tt
   cycle-made None (Some cycle) h shows = shows
   cycle-made (Some entries) None h shows = shows
@@ -302,13 +302,13 @@ module _ (a : State) (shape : Shape) (base : ℕ) (good : IsGood a) where
       totals_path commands p q r i = record { commands = commands; born = p i; freed = q i; live = r i }
 
   -- The view with the new object shows the state with it.
-  pub shows-made : (view : View) → Shows view a → find (lives_at base) a.objects ≡ None
-      → Shows (held_made shape base view) (made_at a shape base)
+  pub shows-made : (view : FlatView) → FlatShows view a → find (lives_at base) a.objects ≡ None
+      → FlatShows (flat_made shape base view) (made_at a shape base)
   shows-made view shows none =
       record {
         objects = λ b. objects-made view.objects b (shows.objects b) none;
-        distinct = keyed-push (λ o. o.base) view.objects (held_newborn shape base) shows.distinct
-            (shows.objects base ∙ ap (option_map (held a)) none);
+        distinct = keyed-push (λ o. o.base) view.objects (flat_newborn shape base) shows.distinct
+            (shows.objects base ∙ ap (option_map (flat_object a)) none);
         stack = ap (λ ws. base ∷ ws) shows.stack;
         areas = shows.areas;
         cycle = cycle-made view.cycle a.cycle good.coloured shows.cycle;

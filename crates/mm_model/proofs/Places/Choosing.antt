@@ -16,8 +16,8 @@ use Rattle.mm_model.specs.Good.{AreApart, IsPlaced}
 use Rattle.mm_model.proofs.Lists.Tests.{first_from-Some, first_from-None}
 use Rattle.mm_model.proofs.Places.SizeClasses.{class_bounds, class_of_small, class_fits}
 use Rattle.mm_model.proofs.Places.Placing.{mapped, both, IsSize, place_goes}
-use Rattle.mm_laws.specs.Lowest.{piece_of, Fits, IsRun, IsFreeCell, IsNowhere, IsLowest, IsLowestOf, IsPreferred, Of_first, Of_second}
-use Rattle.mm_laws.proofs.Truth.{together, not-false, no_other}
+use Rattle.mm_model.specs.Lowest.{piece_of, IsFreeFor, IsRun, IsFreeCell, IsNowhere, IsLowest, IsLowestOf, IsPreferred, Of_first, Of_second}
+use Rattle.mm_model.proofs.Lists.Truth.{together, not-false, no_other}
 
 -- nothing was found through a function
 unmapped : (f : ℕ → ℕ) (found : Option ℕ) → option_map f found ≡ None → found ≡ None
@@ -284,7 +284,7 @@ none_overlaps q (p ∷ ps) h =
     short p l = grind (arith, nat_tests)
 
 pub place_fits : (a : State) (limit : ℕ) (family : Family) (bytes base : ℕ) → IsPlaced a.settings.max (live_pieces a)
-    → place_of a limit family bytes ≡ Some base → Fits limit (live_pieces a) (piece_of family bytes base)
+    → place_of a limit family bytes ≡ Some base → IsFreeFor limit (live_pieces a) (piece_of family bytes base)
 place_fits a limit family bytes base placed e =
     let goes = place_goes limit (live_pieces a) family (size_of bytes) base (sized bytes) placed.apart e in
     record {

@@ -6,7 +6,7 @@ use Rattle.std.specs.Prelude.{◌&&◌, nat_lt, nat_le}
 use Rattle.std.specs.List.{AllByRecursion, Contains, prefix_len, position_or_len}
 use Rattle.mm_model.specs.SizeClass.{class_sizes, class_index, extent_of, extent_of_size}
 use Rattle.mm_model.proofs.Places.Placing.{both, each_weaker}
-use Rattle.mm_laws.proofs.Choosing.{size_of-small, size_of-large}
+use Rattle.mm_model.proofs.Places.Choosing.{size_of-small, size_of-large}
 
 -- each element is above the one before it
 rises : ℕ → List ℕ → Bool

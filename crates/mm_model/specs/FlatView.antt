@@ -12,7 +12,7 @@ use Rattle.mm_model.specs.Object.{Object}
 use Rattle.mm_model.specs.State.{State, Area, Cycle, PartlyScanned, lives_at, totals_of}
 
 -- a live object as the heap holds it
-pub record HeldObject : Type 0 where
+pub record FlatObject : Type 0 where
   pub base : ℕ
   pub extent : ℕ
   pub kind : Kind
@@ -23,7 +23,7 @@ pub record HeldObject : Type 0 where
   -- the base of the partner
   pub partner : Option ℕ
 
-pub record HeldArea : Type 0 where
+pub record FlatArea : Type 0 where
   pub number : ℕ
   pub base : ℕ
   pub extent : ℕ
@@ -32,41 +32,41 @@ pub record HeldArea : Type 0 where
   pub words : List ℕ
 
 -- the colour of the object at a base
-pub record HeldColour : Type 0 where
+pub record FlatColour : Type 0 where
   pub base : ℕ
   pub colour : Colour
 
-pub record HeldPartlyScanned : Type 0 where
+pub record FlatPartlyScanned : Type 0 where
   pub base : ℕ
   pub slots_done : ℕ
 
-pub record HeldCycle : Type 0 where
-  pub colours : List HeldColour
+pub record FlatCycle : Type 0 where
+  pub colours : List FlatColour
   pub gone : ℕ
-  pub partly_scanned : Option HeldPartlyScanned
+  pub partly_scanned : Option FlatPartlyScanned
 
-pub record View : Type 0 where
+pub record FlatView : Type 0 where
   -- in any order
-  pub objects : List HeldObject
+  pub objects : List FlatObject
   -- from the top
   pub stack : List ℕ
   -- by ascending number
-  pub areas : List HeldArea
-  pub cycle : Option HeldCycle
+  pub areas : List FlatArea
+  pub cycle : Option FlatCycle
   pub threshold : ℕ
   pub totals : Totals
   pub settings : Settings
 
-abbrev pub held_at : List HeldObject → ℕ → Option HeldObject
-held_at objects base = find (λ object. nat_eq object.base base) objects
+abbrev pub flat_at : List FlatObject → ℕ → Option FlatObject
+flat_at objects base = find (λ object. nat_eq object.base base) objects
 
 -- the base of the object with a birth number
 abbrev pub base_of : State → ℕ → Option ℕ
 base_of a birth = option_map (λ object. object.base) (slice_get a.objects birth)
 
 -- an object as the heap holds it
-abbrev pub held : State → Object → HeldObject
-held a object =
+abbrev pub flat_object : State → Object → FlatObject
+flat_object a object =
     record {
       base = object.base;
       extent = object.extent;
@@ -79,11 +79,11 @@ held a object =
     }
 
 -- the live object that begins there, as the heap holds it
-abbrev pub shown_at : State → ℕ → Option HeldObject
-shown_at a base = option_map (held a) (find (lives_at base) a.objects)
+abbrev pub shown_at : State → ℕ → Option FlatObject
+shown_at a base = option_map (flat_object a) (find (lives_at base) a.objects)
 
-abbrev pub held_area : Area → HeldArea
-held_area area =
+abbrev pub flat_area : Area → FlatArea
+flat_area area =
     record {
       number = area.number;
       base = area.base;
@@ -98,29 +98,29 @@ abbrev pub colour_at : State → Cycle → ℕ → Option Colour
 colour_at a cycle base =
     option_map (λ birth. slice_index_or cycle.colours birth White) (position_from (lives_at base) 0 a.objects)
 
-abbrev pub held_partly_scanned : State → PartlyScanned → Option HeldPartlyScanned
-held_partly_scanned a partly_scanned = option_map (λ base. record { base = base; slots_done = partly_scanned.slots_done }) (base_of a partly_scanned.object)
+abbrev pub flat_partly_scanned : State → PartlyScanned → Option FlatPartlyScanned
+flat_partly_scanned a partly_scanned = option_map (λ base. record { base = base; slots_done = partly_scanned.slots_done }) (base_of a partly_scanned.object)
 
-pub record ShowsCycle (held : HeldCycle) (a : State) (cycle : Cycle) : Type 0 where
+pub record FlatShowsCycle (held : FlatCycle) (a : State) (cycle : Cycle) : Type 0 where
   pub colours : (base : ℕ) →
       option_map (λ entry. entry.colour) (find (λ entry. nat_eq entry.base base) held.colours) ≡ colour_at a cycle base
   pub gone : held.gone ≡ cycle.gone
-  pub partly_scanned : held.partly_scanned ≡ option_and_then (held_partly_scanned a) cycle.partly_scanned
+  pub partly_scanned : held.partly_scanned ≡ option_and_then (flat_partly_scanned a) cycle.partly_scanned
 
-abbrev pub ShowsCycles : Option HeldCycle → State → Option Cycle → Type 0
-ShowsCycles None a None = ⊤
-ShowsCycles None a (Some cycle) = ⊥
-ShowsCycles (Some held) a None = ⊥
-ShowsCycles (Some held) a (Some cycle) = ShowsCycle held a cycle
+abbrev pub FlatShowsCycles : Option FlatCycle → State → Option Cycle → Type 0
+FlatShowsCycles None a None = ⊤
+FlatShowsCycles None a (Some cycle) = ⊥
+FlatShowsCycles (Some held) a None = ⊥
+FlatShowsCycles (Some held) a (Some cycle) = FlatShowsCycle held a cycle
 
 -- Heap and state agree on all that words can tell. A heap can show several states.
-pub record Shows (view : View) (a : State) : Type 0 where
-  pub objects : (base : ℕ) → held_at view.objects base ≡ shown_at a base
+pub record FlatShows (view : FlatView) (a : State) : Type 0 where
+  pub objects : (base : ℕ) → flat_at view.objects base ≡ shown_at a base
   -- no two objects that are held begin at one base
   pub distinct : IsDistinct nat_eq (map (λ object. object.base) view.objects)
   pub stack : view.stack ≡ words_of a.stack
-  pub areas : view.areas ≡ map held_area a.areas
-  pub cycle : ShowsCycles view.cycle a a.cycle
+  pub areas : view.areas ≡ map flat_area a.areas
+  pub cycle : FlatShowsCycles view.cycle a a.cycle
   pub threshold : view.threshold ≡ a.threshold
   pub totals : view.totals ≡ totals_of a
   pub settings : view.settings ≡ a.settings

@@ -18,12 +18,12 @@ use Rattle.mm_model.specs.Marking.{is_white, is_black, is_raw, colour_of, done_i
 use Rattle.mm_model.specs.Place.{live_pieces}
 use Rattle.mm_model.specs.Store.{is_counted_slot, with_slot, put_in_slot}
 use Rattle.mm_model.specs.Good.{IsPlaced, IsReferring, IsPartlyScanned, IsColoured, IsGood}
-use Rattle.mm_model.specs.View.{View, HeldObject, HeldColour, HeldCycle, Shows, ShowsCycle, ShowsCycles, held, held_at, shown_at, base_of, colour_at, held_partly_scanned}
-use Rattle.mm_model.specs.ViewEffect.{held_resolved, held_slot_kind, with_held_word, held_grayed, with_held_grayed, is_black_at, is_done_at, is_held_passed, held_put}
+use Rattle.mm_model.specs.FlatView.{FlatView, FlatObject, FlatColour, FlatCycle, FlatShows, FlatShowsCycle, FlatShowsCycles, flat_object, flat_at, shown_at, base_of, colour_at, flat_partly_scanned}
+use Rattle.mm_model.specs.FlatEffect.{flat_resolved, flat_slot_kind, with_flat_word, flat_grayed, with_flat_grayed, is_black_at, is_done_at, is_flat_passed, flat_put}
 use Rattle.mm_model.proofs.Lists.Keyed.{refuted}
 use Rattle.mm_model.proofs.Lists.Growing.{find-Some, position_from-Some, position_from-get}
 use Rattle.mm_model.proofs.Good.Living.{lives_same, lives_once_at}
-use Rattle.mm_model.proofs.View.Resolving.{lives_from, find-lives, resolved-shown, resolved-lives}
+use Rattle.mm_model.proofs.FlatView.Resolving.{lives_from, find-lives, resolved-shown, resolved-lives}
 use Rattle.mm_model.proofs.Lists.Replaced.{get-set_same, get-set_other, map-set, map_live-set, position_from-set_alike, option_get-set_alike, find-set_None, find-map_alike, map-map_alike}
 use Rattle.mm_model.proofs.Good.Stores.{with_store, keeps-store, store_is_good}
 use Rattle.mm_model.proofs.Good.Shading.{shade, colour-grayed, barrier_cycle, put-is}
@@ -33,7 +33,7 @@ use Rattle.mm_model.proofs.Lists.Tests.{same_tests}
 true_false : true ≡ false → ⊥
 true_false e = cc
 
-module _ (view : View) (a : State) (good : IsGood a) (shows : Shows view a) (birth : ℕ) (object : Object)
+module _ (view : FlatView) (a : State) (good : IsGood a) (shows : FlatShows view a) (birth : ℕ) (object : Object)
     (lives : Lives a birth object) (s : ℕ) (value : Value) (refers : IsReferring a value)
     (uncounted : is_counted_slot (slot_kind object s) ≡ false) where
   abbrev store : State
@@ -42,14 +42,14 @@ module _ (view : View) (a : State) (good : IsGood a) (shows : Shows view a) (bir
   abbrev changed : Object
   changed = with_slot a object s value
 
-  abbrev own : HeldObject
-  own = held a object
+  abbrev own : FlatObject
+  own = flat_object a object
 
   -- what the view does to each object
-  abbrev step : HeldObject → HeldObject
+  abbrev step : FlatObject → FlatObject
   step o = if o.base == own.base then record own { words = slice_set own.words s value.word } else o
 
-  step-base : (o : HeldObject) → (step o).base ≡ o.base
+  step-base : (o : FlatObject) → (step o).base ≡ o.base
   step-base o = split (o.base == own.base) refl
     where
       split : (b : Bool) → (o.base == own.base) ≡ b
@@ -67,10 +67,10 @@ module _ (view : View) (a : State) (good : IsGood a) (shows : Shows view a) (bir
   partner-store None = refl
   partner-store (Some other) = sym (base_of-store other)
 
-  held-store : (o : Object) → held store o ≡ held a o
-  held-store o = ap (λ partner. record (held a o) { partner = partner }) (sym (partner-store o.partner))
+  held-store : (o : Object) → flat_object store o ≡ flat_object a o
+  held-store o = ap (λ partner. record (flat_object a o) { partner = partner }) (sym (partner-store o.partner))
 
-  held-changed : held store changed ≡ record own { words = slice_set own.words s value.word }
+  held-changed : flat_object store changed ≡ record own { words = slice_set own.words s value.word }
   held-changed =
       held-store changed
       ∙ ap (λ words. record own { words = words })
@@ -80,16 +80,16 @@ module _ (view : View) (a : State) (good : IsGood a) (shows : Shows view a) (bir
   changed_lives = record { is = get-set_same a.objects birth object changed lives.is; live = lives.live }
 
   shown-store : (x : ℕ) (found : Option Object) → find (lives_at x) a.objects ≡ found
-      → option_map step (option_map (held a) found) ≡ shown_at store x
+      → option_map step (option_map (flat_object a) found) ≡ shown_at store x
   shown-store x None e =
-      sym (ap (option_map (held store))
+      sym (ap (option_map (flat_object store))
       (find-set_None (lives_at x) a.objects birth object changed lives.is refl e))
   shown-store x (Some o) e =
       let place = find-Some (lives_at x) a.objects o e in
       let n = place.place in
       let there = lives_from a n o _ place.is place.passes in
       let base : o.base ≡ x = eqb-true _ _ (both _ _ place.passes).1 in
-      let split : (b : Bool) → (n == birth) ≡ b → Some (step (held a o)) ≡ shown_at store x =
+      let split : (b : Bool) → (n == birth) ≡ b → Some (step (flat_object a o)) ≡ shown_at store x =
       elim [
         | true ↦ λ p.
             let here : n ≡ birth = eqb-true _ _ p in
@@ -97,11 +97,11 @@ module _ (view : View) (a : State) (good : IsGood a) (shows : Shows view a) (bir
             let at_x : object.base ≡ x = ap (λ (y : Object). y.base) (sym same) ∙ base in
             let found : find (lives_at x) store.objects ≡ Some changed =
             ap (λ y. find (lives_at y) store.objects) (sym at_x) ∙ find-lives store store_placed birth changed changed_lives in
-            let stepped : step (held a o) ≡ record own { words = slice_set own.words s value.word } =
-            ap (λ (y : Object). step (held a y)) same
+            let stepped : step (flat_object a o) ≡ record own { words = slice_set own.words s value.word } =
+            ap (λ (y : Object). step (flat_object a y)) same
             ∙ ap (λ b. if b then record own { words = slice_set own.words s value.word } else own)
             (eq-eqb own.base own.base refl) in
-            ap (λ (h : HeldObject). Some h) (stepped ∙ sym held-changed) ∙ sym (ap (option_map (held store)) found)
+            ap (λ (h : FlatObject). Some h) (stepped ∙ sym held-changed) ∙ sym (ap (option_map (flat_object store)) found)
         | false ↦ λ p.
             let apart : n ≡ birth → ⊥ = λ q. true_false (sym (eq-eqb _ _ q) ∙ p) in
             let lives_on : Lives store n o =
@@ -110,21 +110,21 @@ module _ (view : View) (a : State) (good : IsGood a) (shows : Shows view a) (bir
             ap (λ y. find (lives_at y) store.objects) (sym base) ∙ find-lives store store_placed n o lives_on in
             let other : (o.base == object.base) ≡ false =
             refuted _ (λ q. apart (lives_once_at a good.placed n birth o object there lives (eqb-true _ _ q))) in
-            let stepped : step (held a o) ≡ held a o =
-            ap (λ b. if b then record own { words = slice_set own.words s value.word } else held a o) other in
-            ap (λ (h : HeldObject). Some h) (stepped ∙ sym (held-store o)) ∙ sym (ap (option_map (held store)) found)
+            let stepped : step (flat_object a o) ≡ flat_object a o =
+            ap (λ b. if b then record own { words = slice_set own.words s value.word } else flat_object a o) other in
+            ap (λ (h : FlatObject). Some h) (stepped ∙ sym (held-store o)) ∙ sym (ap (option_map (flat_object store)) found)
       ] in
       split (n == birth) refl
 
-  objects-store : (x : ℕ) → held_at (map step view.objects) x ≡ shown_at store x
+  objects-store : (x : ℕ) → flat_at (map step view.objects) x ≡ shown_at store x
   objects-store x =
-      find-map_alike (λ (o : HeldObject). nat_eq o.base x) step (λ o. ap (λ n. nat_eq n x) (step-base o)) view.objects
+      find-map_alike (λ (o : FlatObject). nat_eq o.base x) step (λ o. ap (λ n. nat_eq n x) (step-base o)) view.objects
       ∙ ap (option_map step) (shows.objects x)
       ∙ shown-store x (find (lives_at x) a.objects) refl
 
-  distinct-store : IsDistinct nat_eq (map (λ (o : HeldObject). o.base) (map step view.objects))
+  distinct-store : IsDistinct nat_eq (map (λ (o : FlatObject). o.base) (map step view.objects))
   distinct-store =
-      subst (IsDistinct nat_eq) (sym (map-map_alike (λ (o : HeldObject). o.base) step step-base view.objects))
+      subst (IsDistinct nat_eq) (sym (map-map_alike (λ (o : FlatObject). o.base) step step-base view.objects))
       shows.distinct
 
   totals-store : totals_of a ≡ totals_of (record store { cycle = a.cycle })
@@ -141,11 +141,11 @@ module _ (view : View) (a : State) (good : IsGood a) (shows : Shows view a) (bir
           (record { commands = a.commands; born = n; freed = n - q; live = q })
       same e f t = record { commands = a.commands; born = e t; freed = e t - f t; live = f t }
 
-  abbrev view_store : View
-  view_store = with_held_word own s value.word view
+  abbrev view_store : FlatView
+  view_store = with_flat_word own s value.word view
 
   -- outside a cycle the view shows the state
-  shows-store : Shows (record view_store { cycle = None }) store
+  shows-store : FlatShows (record view_store { cycle = None }) store
   shows-store =
       record {
         objects = objects-store;
@@ -161,8 +161,8 @@ module _ (view : View) (a : State) (good : IsGood a) (shows : Shows view a) (bir
   position-store : (x : ℕ) → position_from (lives_at x) 0 store.objects ≡ position_from (lives_at x) 0 a.objects
   position-store x = position_from-set_alike (lives_at x) 0 a.objects birth object changed lives.is refl
 
-  partly_scanned-store : (cycle : Option PartlyScanned) → option_and_then (held_partly_scanned a) cycle
-      ≡ option_and_then (held_partly_scanned store) cycle
+  partly_scanned-store : (cycle : Option PartlyScanned) → option_and_then (flat_partly_scanned a) cycle
+      ≡ option_and_then (flat_partly_scanned store) cycle
   partly_scanned-store None = refl
   partly_scanned-store (Some partly_scanned) =
       ap (option_map (λ base. record { base = base; slots_done = partly_scanned.slots_done })) (sym (base_of-store partly_scanned.object))
@@ -176,7 +176,7 @@ module _ (view : View) (a : State) (good : IsGood a) (shows : Shows view a) (bir
       lives_once_at a good.placed j n other o (lives_from a j other _ is passes) h
       (eqb-true _ _ (both _ _ passes).1))
 
-  module _ (h : HeldCycle) (cycle : Cycle) (coloured : IsColoured a cycle) (shown : ShowsCycle h a cycle) where
+  module _ (h : FlatCycle) (cycle : Cycle) (coloured : IsColoured a cycle) (shown : FlatShowsCycle h a cycle) where
     -- the object's colour in the view
     black-shown : is_black_at h.colours own.base ≡ is_black (colour_of cycle birth)
     black-shown =
@@ -191,7 +191,7 @@ module _ (view : View) (a : State) (good : IsGood a) (shows : Shows view a) (bir
         below e = let less : s < 0 = grind (arith, nat_tests) in omega arith
 
     done-shown : (found : Option PartlyScanned) → cycle.partly_scanned ≡ found
-        → is_done_at (option_and_then (held_partly_scanned a) found) own.base s ≡ nat_lt s (done_in found birth)
+        → is_done_at (option_and_then (flat_partly_scanned a) found) own.base s ≡ nat_lt s (done_in found birth)
     done-shown None e = sym none_less
     done-shown (Some p) e =
         let one = subst (λ found. IfSome found (IsPartlyScanned a cycle)) e coloured.partly_scanned in
@@ -215,14 +215,14 @@ module _ (view : View) (a : State) (good : IsGood a) (shows : Shows view a) (bir
         ap (λ found. is_done_at (option_map (λ base. record { base = base; slots_done = p.slots_done }) found) own.base s) base
         ∙ split (p.object == birth) refl
 
-    passed-shown : is_held_passed (Some h) own.base s ≡ is_passed (Some cycle) birth s
+    passed-shown : is_flat_passed (Some h) own.base s ≡ is_passed (Some cycle) birth s
     passed-shown =
         ap (λ b. b || is_done_at h.partly_scanned own.base s) black-shown
         ∙ ap (λ found. is_black (colour_of cycle birth) || is_done_at found own.base s) shown.partly_scanned
         ∙ ap (λ b. is_black (colour_of cycle birth) || b) (done-shown cycle.partly_scanned refl)
 
     -- where marking hasn't passed the slot
-    cycle_stays : (marking : Option Cycle) → ShowsCycle h (record store { cycle = marking }) cycle
+    cycle_stays : (marking : Option Cycle) → FlatShowsCycle h (record store { cycle = marking }) cycle
     cycle_stays marking =
         record {
           colours = λ x. shown.colours x
@@ -235,17 +235,17 @@ module _ (view : View) (a : State) (good : IsGood a) (shows : Shows view a) (bir
     abbrev shaded : Cycle
     shaded = grayed_cycle (value.word ∷ []) store cycle
 
-    abbrev entry_at : List HeldColour → ℕ → Option HeldColour
+    abbrev entry_at : List FlatColour → ℕ → Option FlatColour
     entry_at entries x = find (λ entry. nat_eq entry.base x) entries
 
-    shade-base : (t : HeldObject) (entry : HeldColour) → (held_grayed t entry).base ≡ entry.base
+    shade-base : (t : FlatObject) (entry : FlatColour) → (flat_grayed t entry).base ≡ entry.base
     shade-base t entry = split (entry.base == t.base && is_white entry.colour)
       where
         split : (b : Bool) → (if b then record entry { colour = Gray } else entry).base ≡ entry.base
         split true = refl
         split false = refl
 
-    shade-colour : (t : HeldObject) (entry : HeldColour) → (held_grayed t entry).colour
+    shade-colour : (t : FlatObject) (entry : FlatColour) → (flat_grayed t entry).colour
         ≡ (if entry.base == t.base && is_white entry.colour then Gray else entry.colour)
     shade-colour t entry = split (entry.base == t.base && is_white entry.colour)
       where
@@ -263,17 +263,17 @@ module _ (view : View) (a : State) (good : IsGood a) (shows : Shows view a) (bir
         (coloured.each ∙ sym (length-set a.objects birth changed)) there.is)
 
     -- and what the view has there, with the colour before
-    entries-shaded : (x : ℕ) (t : HeldObject) → option_map (λ (e : HeldColour). e.colour)
-        (entry_at (map (held_grayed t) h.colours) x)
-        ≡ option_map (λ (e : HeldColour). (held_grayed t e).colour) (entry_at h.colours x)
+    entries-shaded : (x : ℕ) (t : FlatObject) → option_map (λ (e : FlatColour). e.colour)
+        (entry_at (map (flat_grayed t) h.colours) x)
+        ≡ option_map (λ (e : FlatColour). (flat_grayed t e).colour) (entry_at h.colours x)
     entries-shaded x t =
-        ap (option_map (λ (e : HeldColour). e.colour))
-        (find-map_alike (λ (e : HeldColour). nat_eq e.base x) (held_grayed t)
+        ap (option_map (λ (e : FlatColour). e.colour))
+        (find-map_alike (λ (e : FlatColour). nat_eq e.base x) (flat_grayed t)
         (λ e. ap (λ n. nat_eq n x) (shade-base t e)) h.colours)
         ∙ split (entry_at h.colours x)
       where
-        split : (found : Option HeldColour) → option_map (λ (e : HeldColour). e.colour) (option_map (held_grayed t) found)
-            ≡ option_map (λ (e : HeldColour). (held_grayed t e).colour) found
+        split : (found : Option FlatColour) → option_map (λ (e : FlatColour). e.colour) (option_map (flat_grayed t) found)
+            ≡ option_map (λ (e : FlatColour). (flat_grayed t e).colour) found
         split None = refl
         split (Some e) = refl
 
@@ -296,20 +296,20 @@ module _ (view : View) (a : State) (good : IsGood a) (shows : Shows view a) (bir
         split false = refl
 
     -- what the view makes of an entry
-    abbrev view_shade : Option HeldObject → HeldColour → Colour
-    view_shade found entry = option_map_or (λ t. (held_grayed t entry).colour) found entry.colour
+    abbrev view_shade : Option FlatObject → FlatColour → Colour
+    view_shade found entry = option_map_or (λ t. (flat_grayed t entry).colour) found entry.colour
 
-    abbrev word_names : Option HeldObject
-    word_names = held_resolved view_store value.word
+    abbrev word_names : Option FlatObject
+    word_names = flat_resolved view_store value.word
 
-    entries-shaded_by : (x : ℕ) (found : Option HeldObject) → option_map (λ (e : HeldColour). e.colour)
-        (entry_at (option_map_or (λ t. record h { colours = map (held_grayed t) h.colours }) found h).colours x)
+    entries-shaded_by : (x : ℕ) (found : Option FlatObject) → option_map (λ (e : FlatColour). e.colour)
+        (entry_at (option_map_or (λ t. record h { colours = map (flat_grayed t) h.colours }) found h).colours x)
         ≡ option_map (view_shade found) (entry_at h.colours x)
     entries-shaded_by x None = refl
     entries-shaded_by x (Some t) = entries-shaded x t
 
     word_names-is : word_names
-        ≡ option_map (held store) (option_and_then (slice_get store.objects) (resolved store value.word))
+        ≡ option_map (flat_object store) (option_and_then (slice_get store.objects) (resolved store value.word))
     word_names-is = resolved-shown (record view_store { cycle = None }) store store_placed shows-store value.word
 
     -- whether the word falls in an object, by its base
@@ -350,13 +350,13 @@ module _ (view : View) (a : State) (good : IsGood a) (shows : Shows view a) (bir
         or_false true = refl
         or_false false = refl
 
-    view_shade-is : (entry : HeldColour) (n : ℕ) (o : Object) → Lives store n o → entry.base ≡ o.base
+    view_shade-is : (entry : FlatColour) (n : ℕ) (o : Object) → Lives store n o → entry.base ≡ o.base
         → view_shade word_names entry ≡ shade (value.word ∷ []) o entry.colour
     view_shade-is entry n o there base =
         ap (λ found. view_shade found entry) word_names-is ∙ split (resolved store value.word) refl
       where
         split : (found : Option ℕ) → resolved store value.word ≡ found
-            → view_shade (option_map (held store) (option_and_then (slice_get store.objects) found)) entry
+            → view_shade (option_map (flat_object store) (option_and_then (slice_get store.objects) found)) entry
             ≡ shade (value.word ∷ []) o entry.colour
         split None e =
             let none : falls value.word o.base o.extent ≡ false =
@@ -368,8 +368,8 @@ module _ (view : View) (a : State) (good : IsGood a) (shows : Shows view a) (bir
             let t = place.0 in
             let here = lives_from store k t _ place.1 place.2 in
             let test = names_by_base n o there k t here (both _ _ place.2).1 in
-            ap (λ found. view_shade (option_map (held store) found) entry) place.1
-            ∙ shade-colour (held store t) entry
+            ap (λ found. view_shade (option_map (flat_object store) found) entry) place.1
+            ∙ shade-colour (flat_object store t) entry
             ∙ same_colour (entry.base == t.base) (falls value.word o.base o.extent) entry.colour
             (ap (λ m. m == t.base) base ∙ test)
             ∙ shade-live o entry.colour there.live
@@ -377,8 +377,8 @@ module _ (view : View) (a : State) (good : IsGood a) (shows : Shows view a) (bir
     colours-shaded : (x : ℕ) → option_map (view_shade word_names) (entry_at h.colours x) ≡ colour_at store shaded x
     colours-shaded x = split (position_from (lives_at x) 0 a.objects) refl
       where
-        entry : (n : ℕ) → position_from (lives_at x) 0 a.objects ≡ Some n → (found : Option HeldColour)
-            → entry_at h.colours x ≡ found → option_map (λ (e : HeldColour). e.colour) found ≡ Some (colour_of cycle n)
+        entry : (n : ℕ) → position_from (lives_at x) 0 a.objects ≡ Some n → (found : Option FlatColour)
+            → entry_at h.colours x ≡ found → option_map (λ (e : FlatColour). e.colour) found ≡ Some (colour_of cycle n)
             → option_map (view_shade word_names) found ≡ colour_at store shaded x
         entry n p None q r = cc
         entry n p (Some e) q r =
@@ -387,7 +387,7 @@ module _ (view : View) (a : State) (good : IsGood a) (shows : Shows view a) (bir
             let on = keeps-store a good birth object lives s value refers uncounted n place.0 there in
             let at_x : place.0.base ≡ x = eqb-true _ _ (both _ _ place.2).1 in
             let own_base : e.base ≡ x =
-            eqb-true _ _ (find-Some (λ (y : HeldColour). nat_eq y.base x) h.colours e q).passes in
+            eqb-true _ _ (find-Some (λ (y : FlatColour). nat_eq y.base x) h.colours e q).passes in
             let colour : e.colour ≡ colour_of cycle n = cc in
             ap (λ (c : Colour). Some c)
             (view_shade-is e n on.after on.lives (own_base ∙ sym at_x ∙ sym on.base)
@@ -397,12 +397,12 @@ module _ (view : View) (a : State) (good : IsGood a) (shows : Shows view a) (bir
         split : (found : Option ℕ) → position_from (lives_at x) 0 a.objects ≡ found
             → option_map (view_shade word_names) (entry_at h.colours x) ≡ colour_at store shaded x
         split None p =
-            let none : option_map (λ (e : HeldColour). e.colour) (entry_at h.colours x) ≡ None =
+            let none : option_map (λ (e : FlatColour). e.colour) (entry_at h.colours x) ≡ None =
             shown.colours x ∙ ap (option_map (λ n. slice_index_or cycle.colours n White)) p in
             nothing (entry_at h.colours x) none
             ∙ sym (ap (option_map (λ n. slice_index_or shaded.colours n White)) (position-store x ∙ p))
           where
-            nothing : (found : Option HeldColour) → option_map (λ (e : HeldColour). e.colour) found ≡ None
+            nothing : (found : Option FlatColour) → option_map (λ (e : FlatColour). e.colour) found ≡ None
                 → option_map (view_shade word_names) found ≡ None
             nothing None e = refl
             nothing (Some y) e = cc
@@ -411,7 +411,7 @@ module _ (view : View) (a : State) (good : IsGood a) (shows : Shows view a) (bir
             (shown.colours x ∙ ap (option_map (λ m. slice_index_or cycle.colours m White)) p)
 
     cycle_shades : (marking : Option Cycle)
-        → ShowsCycle (with_held_grayed view_store value.word h) (record store { cycle = marking }) shaded
+        → FlatShowsCycle (with_flat_grayed view_store value.word h) (record store { cycle = marking }) shaded
     cycle_shades marking =
         record {
           colours = λ x. entries-shaded_by x word_names ∙ colours-shaded x;
@@ -419,74 +419,74 @@ module _ (view : View) (a : State) (good : IsGood a) (shows : Shows view a) (bir
           partly_scanned = kept_partial word_names ∙ shown.partly_scanned ∙ partly_scanned-store cycle.partly_scanned;
         }
       where
-        gone : (found : Option HeldObject)
-            → (option_map_or (λ t. record h { colours = map (held_grayed t) h.colours }) found h).gone ≡ cycle.gone
+        gone : (found : Option FlatObject)
+            → (option_map_or (λ t. record h { colours = map (flat_grayed t) h.colours }) found h).gone ≡ cycle.gone
         gone None = shown.gone
         gone (Some t) = shown.gone
 
-        kept_partial : (found : Option HeldObject)
-            → (option_map_or (λ t. record h { colours = map (held_grayed t) h.colours }) found h).partly_scanned ≡ h.partly_scanned
+        kept_partial : (found : Option FlatObject)
+            → (option_map_or (λ t. record h { colours = map (flat_grayed t) h.colours }) found h).partly_scanned ≡ h.partly_scanned
         kept_partial None = refl
         kept_partial (Some t) = refl
 
   -- the view's barrier, and what it shows
-  abbrev held_cycle : Option HeldCycle
-  held_cycle =
-      if not (is_raw (held_slot_kind own s)) && is_held_passed view.cycle own.base s
-      then option_map (with_held_grayed view_store value.word) view.cycle else view.cycle
+  abbrev flat_cycle : Option FlatCycle
+  flat_cycle =
+      if not (is_raw (flat_slot_kind own s)) && is_flat_passed view.cycle own.base s
+      then option_map (with_flat_grayed view_store value.word) view.cycle else view.cycle
 
-  held_put-is : held_put view own s value.word ≡ record view_store { cycle = held_cycle }
-  held_put-is = split (not (is_raw (held_slot_kind own s)) && is_held_passed view.cycle own.base s)
+  flat_put-is : flat_put view own s value.word ≡ record view_store { cycle = flat_cycle }
+  flat_put-is = split (not (is_raw (flat_slot_kind own s)) && is_flat_passed view.cycle own.base s)
     where
       split : (b : Bool)
-          → (if b then record view_store { cycle = option_map (with_held_grayed view_store value.word) view.cycle }
+          → (if b then record view_store { cycle = option_map (with_flat_grayed view_store value.word) view.cycle }
           else view_store)
           ≡ record view_store {
-            cycle = if b then option_map (with_held_grayed view_store value.word) view.cycle else view.cycle;
+            cycle = if b then option_map (with_flat_grayed view_store value.word) view.cycle else view.cycle;
           }
       split true = refl
       split false = refl
 
-  cycles-store : (held_before : Option HeldCycle) (before : Option Cycle) → IfSome before (IsColoured a)
-      → ShowsCycles held_before a before → (marking : Option Cycle)
-      → ShowsCycles
-      (if not (is_raw (held_slot_kind own s)) && is_held_passed held_before own.base s
-      then option_map (with_held_grayed view_store value.word) held_before else held_before)
+  cycles-store : (flat_before : Option FlatCycle) (before : Option Cycle) → IfSome before (IsColoured a)
+      → FlatShowsCycles flat_before a before → (marking : Option Cycle)
+      → FlatShowsCycles
+      (if not (is_raw (flat_slot_kind own s)) && is_flat_passed flat_before own.base s
+      then option_map (with_flat_grayed view_store value.word) flat_before else flat_before)
       (record store { cycle = marking })
       (if not (is_raw (slot_kind object s)) && is_passed before birth s
       then option_map (grayed_cycle (value.word ∷ []) store) before else before)
   cycles-store None None h shown marking = split (not (is_raw (slot_kind object s)) && false)
     where
-      split : (b : Bool) → ShowsCycles (if b then None else None) (record store { cycle = marking })
+      split : (b : Bool) → FlatShowsCycles (if b then None else None) (record store { cycle = marking })
           (if b then None else None)
       split true = tt
       split false = tt
   cycles-store None (Some cycle) h shown marking = absurd shown
-  cycles-store (Some held_before) None h shown marking = absurd shown
-  cycles-store (Some held_before) (Some cycle) h shown marking =
-      subst (λ passed. ShowsCycles
+  cycles-store (Some flat_before) None h shown marking = absurd shown
+  cycles-store (Some flat_before) (Some cycle) h shown marking =
+      subst (λ passed. FlatShowsCycles
       (if not (is_raw (slot_kind object s)) && passed
-      then Some (with_held_grayed view_store value.word held_before) else Some held_before)
+      then Some (with_flat_grayed view_store value.word flat_before) else Some flat_before)
       (record store { cycle = marking })
       (if not (is_raw (slot_kind object s)) && is_passed (Some cycle) birth s
       then Some (grayed_cycle (value.word ∷ []) store cycle) else Some cycle))
-      (sym (passed-shown held_before cycle h shown))
+      (sym (passed-shown flat_before cycle h shown))
       (split (not (is_raw (slot_kind object s)) && is_passed (Some cycle) birth s))
     where
-      split : (b : Bool) → ShowsCycles
-          (if b then Some (with_held_grayed view_store value.word held_before) else Some held_before)
+      split : (b : Bool) → FlatShowsCycles
+          (if b then Some (with_flat_grayed view_store value.word flat_before) else Some flat_before)
           (record store { cycle = marking })
           (if b then Some (grayed_cycle (value.word ∷ []) store cycle) else Some cycle)
-      split true = cycle_shades held_before cycle h shown marking
-      split false = cycle_stays held_before cycle h shown marking
+      split true = cycle_shades flat_before cycle h shown marking
+      split false = cycle_stays flat_before cycle h shown marking
 
   -- What `put` into a slot that isn't counted does to the view, it does to the state.
-  pub shows-put : Shows (held_put view own s value.word) (put_in_slot a birth object s value)
+  pub shows-put : FlatShows (flat_put view own s value.word) (put_in_slot a birth object s value)
   shows-put =
       let cycle = barrier_cycle a good birth object lives s value refers uncounted in
       let put = put-is a good birth object lives s value refers uncounted in
-      subst (λ v. Shows v (put_in_slot a birth object s value)) (sym held_put-is)
-      (subst (Shows (record view_store { cycle = held_cycle })) (sym put)
+      subst (λ v. FlatShows v (put_in_slot a birth object s value)) (sym flat_put-is)
+      (subst (FlatShows (record view_store { cycle = flat_cycle })) (sym put)
       (record {
         objects = objects-store;
         distinct = distinct-store;
