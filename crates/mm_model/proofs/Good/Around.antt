@@ -99,7 +99,7 @@ cycles-around a stack commands None None shows = tt
 cycles-around a stack commands None (Some cycle) shows = shows
 cycles-around a stack commands (Some entries) None shows = shows
 cycles-around a stack commands (Some entries) (Some cycle) shows =
-    record { colours = shows.colours; gone = shows.gone; partly_scanned = shows.partly_scanned }
+    record { colours = shows.colours; gone_before = shows.gone_before; partly_scanned = shows.partly_scanned }
 
 pub shows-stack : (view : FlatView) (a : State) (stack : List Value) (words : List ℕ) → FlatShows view a
     → words ≡ words_of stack → FlatShows (record view { stack = words }) (with_stack stack a)
