@@ -4,3 +4,4 @@ pub mod Good
 pub mod Lists
 pub mod Places
 pub mod Text
+pub mod View
