@@ -1,4 +1,5 @@
 pub mod Cycle
+pub mod Decided
 pub mod FlatView
 pub mod Good
 pub mod Lists
