@@ -4,4 +4,5 @@ pub mod FlatView
 pub mod Good
 pub mod Lists
 pub mod Places
+pub mod Steps
 pub mod Text

@@ -5,7 +5,7 @@ use Rattle.std.proofs.lemmas.Bool.{and_parts, or_cases, or_left, eq-eqb}
 use Rattle.std.proofs.lemmas.List.Sums.{sum_by-cons, count_by-le-length}
 use Rattle.mm_model.specs.Object.{Object, is_live}
 use Rattle.mm_model.specs.State.{State, Lives}
-use Rattle.mm_model.proofs.Lists.Growing.{find-Some}
+use Rattle.mm_model.proofs.Lists.Growing.{find-Some, find-None}
 use Rattle.mm_model.proofs.Decided.Members.{Numbered, numbered, living_from, living, has_birth, IsMember, each_from_all, all_from_each, at_live, each_living, any_implied, each_implied}
 
 -- whether an object joins the members
@@ -93,15 +93,6 @@ module _ {X : Type 0} (kept left : X → Bool) (less : (x : X) → left x ≡ tr
             omega arith
       ] in
       split (test y) e
-
-find-None : {X : Type 0} (test : X → Bool) (xs : List X) → find test xs ≡ None
-    → AllByRecursion (λ x. test x ≡ false) xs
-find-None test [] e = tt
-find-None {X} test (x ∷ xs) e =
-    let split : (b : Bool) → test x ≡ b → ◌≡◌ {A = Option X} (cond b (Some x) (find test xs)) None
-    → AllByRecursion (λ y. test y ≡ false) (x ∷ xs) =
-    elim [ true ↦ λ p q. cc | false ↦ λ p q. (p, find-None test xs q) ] in
-    split (test x) refl e
 
 -- where none of the objects misses, each is a member
 none_missing : (all members : List Numbered) → missing all members ≡ 0
