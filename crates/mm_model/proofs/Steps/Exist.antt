@@ -75,9 +75,6 @@ record IsSearched (a : State) (family : Family) (bytes : ℕ) : Type 0 where
 search_exists : (a : State) (family : Family) (bytes : ℕ) → IsSearched a family bytes
 search_exists a family bytes = at_once (place_now a family bytes) refl
   where
-    middle : List ℕ → State
-    middle dead = reaped dead a
-
     grown : place_now a family bytes ≡ None → (dead : List ℕ) → AreReaped a dead → (place : Option ℕ)
         → place_grown (reaped dead a) family bytes ≡ place → IsSearched a family bytes
     grown none dead reapable (Some base) e =
@@ -217,7 +214,8 @@ end_exists a false =
     (cases_lt (zero_count a) a.threshold)
 
 -- Each command has a group of lines that takes a good state to another one.
-pub steps_exist : (a : State) (command : Command) → IsGood a → (group : List Line) × (b : State) × IsStep a command group b
+pub steps_exist : (a : State) (command : Command) → IsGood a
+    → (group : List Line) × (b : State) × IsStep a command group b
 steps_exist a command good = split (refusal a command) refl
   where
     split : (because : Option Refusal) → refusal a command ≡ because
