@@ -1,13 +1,13 @@
 -- Lists by base: what stands at each entry, and the list of what begins somewhere.
-use Rattle.std.proofs.Common.{◌≡◌, ℕ, zero, suc, ◌+◌, ◌*◌, ◌/◌, ◌<◌, ◌≤◌, Bool, true, false, ◌||◌, cond, eqb-true, List, [], ◌∷◌, map, length, Option, Some, None, refl, sym, ap, ◌∙◌, arith}
+use Rattle.std.proofs.Common.{◌≡◌, ℕ, zero, suc, ◌+◌, ◌*◌, ◌/◌, ◌<◌, ◌≤◌, Bool, true, false, cond, eqb-true, List, [], ◌∷◌, map, length, Option, Some, None, refl, sym, ap, ◌∙◌, arith}
 use Rattle.std.proofs.lemmas.Bool.Decides.{nat_tests}
 use Rattle.std.specs.Prelude.{slice_get, slice_set, nat_eq, ◌==◌, if◌then◌else◌}
-use Rattle.std.specs.List.{list_any, find, AllByRecursion, IsDistinct}
+use Rattle.std.specs.List.{list_any, AllByRecursion, IsDistinct}
 use Rattle.std.specs.Option.{option_map, option_and_then}
 use Rattle.mm_model.specs.Phase.{IsAscending}
 use Rattle.mm_model.specs.ByBase.{Begins, Based, with_entry, based_from, based, changed_from, changed}
 use Rattle.mm_model.proofs.Lists.Growing.{any_get, any_from_get}
-use Rattle.mm_model.proofs.Lists.Keyed.{IsKeyed, refuted}
+use Rattle.mm_model.proofs.Lists.Keyed.{IsKeyed}
 use Rattle.mm_model.proofs.Lists.Replaced.{get-set_same, get-set_other}
 
 get-changed_from : {X : Type 0} (f : ℕ → X → Option X) (low : ℕ) (entries : List (Option X)) (k : ℕ)
