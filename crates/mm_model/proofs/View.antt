@@ -1,2 +1,4 @@
 pub mod Entries
+pub mod Room
 pub mod Seen
+pub mod Words
