@@ -1,4 +1,5 @@
 pub mod Entries
+pub mod Meaning
 pub mod Room
 pub mod Seen
 pub mod Words
