@@ -1,4 +1,7 @@
+pub mod Changes
 pub mod Entries
 pub mod Room
+pub mod Graying
+pub mod SameEffects
 pub mod Seen
 pub mod Words
