@@ -1,3 +1,4 @@
+pub mod Areas
 pub mod Changes
 pub mod Entries
 pub mod Room
