@@ -1,3 +1,4 @@
+pub mod Alike
 pub mod Areas
 pub mod Changes
 pub mod Entries
@@ -6,3 +7,4 @@ pub mod Graying
 pub mod SameEffects
 pub mod Seen
 pub mod Words
+pub mod Sticky
