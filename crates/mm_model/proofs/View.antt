@@ -8,3 +8,4 @@ pub mod SameEffects
 pub mod Seen
 pub mod Words
 pub mod Sticky
+pub mod Stores
