@@ -1,5 +1,6 @@
 pub mod Alike
 pub mod Areas
+pub mod Barrier
 pub mod Changes
 pub mod Entries
 pub mod Room
