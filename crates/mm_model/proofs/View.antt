@@ -5,6 +5,7 @@ pub mod Changes
 pub mod Entries
 pub mod Room
 pub mod Graying
+pub mod Puts
 pub mod SameEffects
 pub mod Seen
 pub mod Words
