@@ -3,11 +3,11 @@ pub mod Areas
 pub mod Barrier
 pub mod Changes
 pub mod Entries
-pub mod Room
 pub mod Graying
 pub mod Puts
+pub mod Room
 pub mod SameEffects
 pub mod Seen
-pub mod Words
 pub mod Sticky
 pub mod Stores
+pub mod Words

@@ -17,7 +17,7 @@ use Rattle.mm_model.proofs.Lists.Keyed.{refuted}
 use Rattle.mm_model.proofs.Lists.Truth.{no_other}
 use Rattle.mm_model.proofs.Places.Placing.{both}
 use Rattle.mm_model.proofs.View.Alike.{cycle-alike}
-use Rattle.mm_model.proofs.View.Graying.{HasColours, view_with_grayed-shown}
+use Rattle.mm_model.proofs.View.Graying.{HasColours, view_with_grayed-seen}
 use Rattle.mm_model.proofs.View.Seen.{seen_based}
 
 none_less : (s : ℕ) → nat_lt s 0 ≡ false
@@ -29,11 +29,11 @@ none_less s = refuted (nat_lt s 0) (λ e. absurd (below e))
 module _ (a : State) (placed : IsPlaced a.settings.max (live_pieces a)) (birth : ℕ) (object : Object)
     (lives : Lives a birth object) (s : ℕ) where
   -- the partly scanned object is this one in the view where it is in the state
-  done-shown : (partly : Option PartlyScanned)
+  done-seen : (partly : Option PartlyScanned)
       → IfSome partly (λ p. (other : Object) × Lives a p.object other)
       → is_slot_done (option_and_then (seen_partly a) partly) object.base s ≡ nat_lt s (done_in partly birth)
-  done-shown None h = sym (none_less s)
-  done-shown (Some p) h =
+  done-seen None h = sym (none_less s)
+  done-seen (Some p) h =
       ap (λ base. is_slot_done (option_map (λ base. record { base = base; slots_done = p.slots_done }) base) object.base s)
       (ap (option_map (λ (o : Object). o.base)) h.1.is)
       ∙ split (p.object == birth) refl
@@ -59,24 +59,24 @@ module _ (a : State) (placed : IsPlaced a.settings.max (live_pieces a)) (birth :
       split None p = tt
       split (Some partly) p = (p.object, p.lives)
 
-  passed-shown : (cycle : Option Cycle) → a.cycle ≡ cycle → IfSome cycle (IsColoured a)
+  passed-seen : (cycle : Option Cycle) → a.cycle ≡ cycle → IfSome cycle (IsColoured a)
       → view_is_passed (option_map (seen_cycle a) cycle) (seen_based a birth object) s ≡ is_passed cycle birth s
-  passed-shown None e h = refl
-  passed-shown (Some cycle) e h =
+  passed-seen None e h = refl
+  passed-seen (Some cycle) e h =
       ap (λ c. is_black (colour_in c birth)
       || is_slot_done (option_and_then (seen_partly a) cycle.partly_scanned) object.base s) e
-      ∙ ap (λ b. is_black (colour_of cycle birth) || b) (done-shown cycle.partly_scanned (partly_lives cycle h))
+      ∙ ap (λ b. is_black (colour_of cycle birth) || b) (done-seen cycle.partly_scanned (partly_lives cycle h))
 
   -- The barrier comes after the store, when the objects have the same bases and the cycle is the same.
-  pub view_barrier-shown : (b : State) → b.cycle ≡ a.cycle → base_of b ≡ base_of a → IfSome a.cycle (IsColoured a)
+  pub view_barrier-seen : (b : State) → b.cycle ≡ a.cycle → base_of b ≡ base_of a → IfSome a.cycle (IsColoured a)
       → IfSome b.cycle (HasColours b) → (word : ℕ)
       → view_barrier (seen_based a birth object) s word (view_of b)
       ≡ view_of (barrier (slot_kind object s) birth s word b)
-  view_barrier-shown b cycle bases coloured each word =
+  view_barrier-seen b cycle bases coloured each word =
       let passed : view_is_passed (view_of b).cycle (seen_based a birth object) s ≡ is_passed b.cycle birth s =
       ap (λ c. view_is_passed c (seen_based a birth object) s)
       (cycle-alike a b bases b.cycle ∙ ap (option_map (seen_cycle a)) cycle)
-      ∙ passed-shown a.cycle refl coloured ∙ ap (λ c. is_passed c birth s) (sym cycle) in
+      ∙ passed-seen a.cycle refl coloured ∙ ap (λ c. is_passed c birth s) (sym cycle) in
       ap (λ passed. if not (is_raw (slot_kind object s)) && passed
       then view_with_grayed (word ∷ []) (view_of b) else view_of b) passed
       ∙ split (not (is_raw (slot_kind object s)) && is_passed b.cycle birth s) refl
@@ -88,5 +88,5 @@ module _ (a : State) (placed : IsPlaced a.settings.max (live_pieces a)) (birth :
       split : (test : Bool) → (not (is_raw (slot_kind object s)) && is_passed b.cycle birth s) ≡ test
           → (if test then view_with_grayed (word ∷ []) (view_of b) else view_of b)
           ≡ view_of (if test then with_grayed (word ∷ []) b else b)
-      split true e = view_with_grayed-shown b (word ∷ []) (runs b.cycle (both _ _ e).1) each
+      split true e = view_with_grayed-seen b (word ∷ []) (runs b.cycle (both _ _ e).1) each
       split false e = refl

@@ -19,11 +19,12 @@ use Rattle.mm_model.specs.ObjectView.{slot_kind_of}
 use Rattle.mm_model.specs.View.{view_of}
 use Rattle.mm_model.specs.ViewStore.{view_recounted, view_barrier, view_put, view_store_reply}
 use Rattle.mm_model.proofs.Good.Around.{if_some-weaker}
-use Rattle.mm_model.proofs.View.Barrier.{view_barrier-shown}
+use Rattle.mm_model.proofs.View.Barrier.{view_barrier-seen}
 use Rattle.mm_model.proofs.View.Graying.{HasColours}
-use Rattle.mm_model.proofs.View.Seen.{seen_based, any-seen}
-use Rattle.mm_model.proofs.View.Sticky.{CountsAlike, bases, view_recounted-shown}
-use Rattle.mm_model.proofs.View.Stores.{store, bases-store, view_with_word-shown}
+use Rattle.mm_model.proofs.View.Seen.{seen_based}
+use Rattle.mm_model.proofs.View.Sticky.{CountsAlike, bases, view_recounted-seen}
+use Rattle.mm_model.proofs.View.Stores.{store, bases-store, view_with_word-seen}
+use Rattle.mm_model.proofs.View.Words.{falls_in_counted_of-seen}
 
 module _ (a : State) (placed : IsPlaced a.settings.max (live_pieces a)) where
   module _ (birth : ℕ) (object : Object) (lives : Lives a birth object) (s : ℕ) (value : Value)
@@ -40,35 +41,27 @@ module _ (a : State) (placed : IsPlaced a.settings.max (live_pieces a)) where
         (view_of (if b then with_sticky value.word after else after))
         ≡ view_of (barrier (slot_kind object s) birth s value.word (if b then with_sticky value.word after else after))
     barrier-after true =
-        view_barrier-shown a placed birth object lives s (with_sticky value.word after) refl
+        view_barrier-seen a placed birth object lives s (with_sticky value.word after) refl
         (bases after value.word ∙ bases-store a placed birth object lives s value) coloured
         (if_some-weaker (HasColours after) (HasColours (with_sticky value.word after))
         (λ cycle h. h ∙ sym (length-map after.objects (made_sticky after value.word))) a.cycle colours-after) value.word
     barrier-after false =
-        view_barrier-shown a placed birth object lives s after refl (bases-store a placed birth object lives s value)
+        view_barrier-seen a placed birth object lives s after refl (bases-store a placed birth object lives s value)
         coloured colours-after value.word
 
-    pub view_put-shown : CountsAlike after
+    pub view_put-seen : CountsAlike after
         → view_put (view_of a) (seen_based a birth object) s value.word ≡ view_of (put_in_slot a birth object s value)
-    view_put-shown counts =
+    view_put-seen counts =
         let old = slice_index (words_of object.slots) s in
         ap (λ view. view_barrier (seen_based a birth object) s value.word
         (view_recounted (slot_kind object s) old value.word view))
-        (view_with_word-shown a placed birth object lives s value)
+        (view_with_word-seen a placed birth object lives s value)
         ∙ ap (view_barrier (seen_based a birth object) s value.word)
-        (view_recounted-shown after value.word counts (slot_kind object s) old)
+        (view_recounted-seen after value.word counts (slot_kind object s) old)
         ∙ barrier-after (is_counted_slot (slot_kind object s) && not (old == value.word))
 
-  pub view_store_reply-shown : (kind : SlotKind) (word : ℕ)
+  pub view_store_reply-seen : (kind : SlotKind) (word : ℕ)
       → view_store_reply (view_of a) kind word ≡ store_reply a kind word
-  view_store_reply-shown kind word =
+  view_store_reply-seen kind word =
       ap (λ loose. if not (is_counted_slot kind) && loose then replies.Loose else replies.Done)
-      (any-seen a placed (λ o. is_counted o.value.kind && falls word o.base o.value.extent)
-      (λ o. is_counted o.kind && falls word o.base o.extent) (λ birth object lives. refl)
-      ∙ ap (λ test. list_any test a.objects)
-      (fun_ext (λ o. swapped (is_live o) (is_counted o.kind) (falls word o.base o.extent))))
-    where
-      swapped : (b c d : Bool) → (b && (c && d)) ≡ (c && (b && d))
-      swapped true c d = refl
-      swapped false true d = refl
-      swapped false false d = refl
+      (falls_in_counted_of-seen a placed word)

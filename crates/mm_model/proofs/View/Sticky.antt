@@ -71,8 +71,8 @@ module _ (a : State) (word : ℕ) where
         (slice_get-map (made_sticky a word) a.objects birth ∙ ap (option_map (made_sticky a word)) is)
         ∙ object-alike birth object (16 * k) live.0 (eqb-true _ _ live.1)))
 
-    pub view_with_sticky-shown : view_with_sticky word (view_of a) ≡ view_of b
-    view_with_sticky-shown =
+    pub view_with_sticky-seen : view_with_sticky word (view_of a) ≡ view_of b
+    view_with_sticky-seen =
         let totals = totals-alike a b (length-map a.objects (made_sticky a word))
         (live_count-map (made_sticky a word) (λ o. refl) a.objects) refl in
         ap (λ objects. record (view_of a) { objects = objects }) (sym objects-made_sticky)
@@ -80,11 +80,11 @@ module _ (a : State) (word : ℕ) where
         ∙ ap (λ totals. record (view_of b) { totals = totals }) (sym totals)
 
     -- where a counted place gets another word
-    pub view_recounted-shown : (kind : SlotKind) (old : ℕ)
+    pub view_recounted-seen : (kind : SlotKind) (old : ℕ)
         → view_recounted kind old word (view_of a) ≡ view_of (recounted kind old word a)
-    view_recounted-shown kind old = split (is_counted_slot kind && not (old == word))
+    view_recounted-seen kind old = split (is_counted_slot kind && not (old == word))
       where
         split : (b : Bool) → (if b then view_with_sticky word (view_of a) else view_of a)
             ≡ view_of (if b then with_sticky word a else a)
-        split true = view_with_sticky-shown
+        split true = view_with_sticky-seen
         split false = refl

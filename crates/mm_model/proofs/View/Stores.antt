@@ -89,8 +89,8 @@ module _ (a : State) (placed : IsPlaced a.settings.max (live_pieces a)) (birth :
       ∙ ap length (map_live-set (λ (o : Object). o.base) a.objects birth object changed lives.is refl refl)
       ∙ length-map (live_objects a.objects) (λ o. o.base)
 
-  pub view_with_word-shown : view_with_word (seen_based a birth object) s value.word (view_of a) ≡ view_of store
-  view_with_word-shown =
+  pub view_with_word-seen : view_with_word (seen_based a birth object) s value.word (view_of a) ≡ view_of store
+  view_with_word-seen =
       ap (λ objects. record (view_of a) { objects = objects }) (sym objects-store)
       ∙ ap (λ cycle. record (view_of a) { objects = seen_objects store; cycle = cycle })
       (sym (cycle-alike a store bases-store a.cycle))
