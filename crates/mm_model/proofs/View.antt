@@ -1,3 +1,6 @@
 pub mod Entries
 pub mod Seen
+pub mod Areas
 pub mod Changes
+pub mod Graying
+pub mod SameEffects
