@@ -1,6 +1,8 @@
 pub mod Entries
 pub mod Seen
+pub mod Alike
 pub mod Areas
 pub mod Changes
 pub mod Graying
 pub mod SameEffects
+pub mod Sticky
