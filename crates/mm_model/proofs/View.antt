@@ -1,8 +1,11 @@
-pub mod Entries
-pub mod Seen
 pub mod Alike
 pub mod Areas
 pub mod Changes
+pub mod CommonBases
+pub mod Entries
 pub mod Graying
+pub mod Parts
 pub mod SameEffects
+pub mod Scanning
+pub mod Seen
 pub mod Sticky
