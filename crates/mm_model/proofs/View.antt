@@ -2,11 +2,14 @@ pub mod Alike
 pub mod Areas
 pub mod Barrier
 pub mod Changes
+pub mod CommonBases
 pub mod Entries
 pub mod Graying
+pub mod Parts
 pub mod Puts
 pub mod Room
 pub mod SameEffects
+pub mod Scanning
 pub mod Seen
 pub mod Sticky
 pub mod Stores
