@@ -8,6 +8,7 @@ pub mod Graying
 pub mod Meaning
 pub mod Parts
 pub mod Puts
+pub mod Reads
 pub mod Room
 pub mod SameEffects
 pub mod Scanning

@@ -1,21 +1,17 @@
 -- `put` does to a view what it does to its state.
-use Rattle.std.proofs.Common.{◌≡◌, ℕ, Bool, true, false, not, length, Option, Some, None, refl, sym, ap, ◌∙◌}
-use mathlib.Core.Path.{fun_ext}
+use Rattle.std.proofs.Common.{◌≡◌, ℕ, Bool, true, false, not, refl, sym, ap, ◌∙◌}
 use Rattle.std.proofs.lemmas.List.{length-set, length-map}
 use Rattle.std.specs.Prelude.{IfSome, slice_index, ◌&&◌, ◌==◌, if◌then◌else◌}
-use Rattle.std.specs.List.{list_any}
 use Rattle.mm_model.specs.declared.reply.Reply.TheVariants as replies
 use Rattle.mm_model.specs.Value.{Value, words_of}
-use Rattle.mm_model.specs.Object.{Object, is_live, is_counted}
-use Rattle.mm_model.specs.State.{State, Cycle, Lives}
-use Rattle.mm_model.specs.Words.{SlotKind, slot_kind, falls}
-use Rattle.mm_model.specs.Meaning.{falls_in}
+use Rattle.mm_model.specs.Object.{Object}
+use Rattle.mm_model.specs.State.{State, Lives}
+use Rattle.mm_model.specs.Words.{SlotKind, slot_kind}
 use Rattle.mm_model.specs.Marking.{barrier}
 use Rattle.mm_model.specs.Count.{made_sticky, with_sticky}
 use Rattle.mm_model.specs.Place.{live_pieces}
-use Rattle.mm_model.specs.Store.{is_counted_slot, recounted, with_slot, put_in_slot, store_reply}
+use Rattle.mm_model.specs.Store.{is_counted_slot, with_slot, put_in_slot, store_reply}
 use Rattle.mm_model.specs.Good.{IsPlaced, IsColoured}
-use Rattle.mm_model.specs.ObjectView.{slot_kind_of}
 use Rattle.mm_model.specs.View.{view_of}
 use Rattle.mm_model.specs.ViewStore.{view_recounted, view_barrier, view_put, view_store_reply}
 use Rattle.mm_model.proofs.Good.Around.{if_some-weaker}
