@@ -1,1 +1,4 @@
+pub mod Areas
 pub mod Changes
+pub mod Graying
+pub mod SameEffects

@@ -6,20 +6,23 @@ use Rattle.std.specs.List.{flat_map, list_any}
 use Rattle.std.specs.Option.{option_map, option_and_then}
 use Rattle.mm_model.specs.declared.object.Colour.{Colour}
 use Rattle.mm_model.specs.declared.object.Colour.TheVariants.{White, Gray}
+use Rattle.mm_model.specs.declared.command.Command.TheVariants as commands
 use Rattle.mm_model.specs.Object.{Object, is_live}
 use Rattle.mm_model.specs.State.{State, Area, Cycle, gone_count, lives_at}
 use Rattle.mm_model.specs.Words.{falls, names, scanned_cells, area_words, root_words}
 use Rattle.mm_model.specs.Marking.{is_white, colour_of, grayed, grayed_cycle, with_grayed, begun}
+use Rattle.mm_model.specs.Effect.{plain_effect}
 use Rattle.mm_model.specs.ByBase.{changed}
 use Rattle.mm_model.specs.ObjectView.{ObjectView, ObjectsByBase}
 use Rattle.mm_model.specs.SetsByBase.{with_grayed_objects, grayed_at}
 use Rattle.mm_model.specs.View.{View, seen, seen_area, seen_objects, view_of}
 use Rattle.mm_model.specs.ViewWords.{scanned_cells_of, marking_words}
 use Rattle.mm_model.specs.ViewStore.{view_with_grayed}
-use Rattle.mm_model.specs.ViewEffect.{with_colour, view_begun}
+use Rattle.mm_model.specs.ViewEffect.{with_colour, view_begun, view_plain_effect}
 use Rattle.mm_model.proofs.Good.Shading.{shade, colour-grayed}
 use Rattle.mm_model.proofs.Places.Placing.{both}
 use Rattle.mm_model.proofs.View.Changes.{seen_objects-changed, seen_at-changed}
+use Rattle.mm_model.proofs.View.SameEffects.{SameEffect}
 
 module _ (a : State) (words : List ℕ) (cycle : Cycle) (each : length cycle.colours ≡ length a.objects) where
   abbrev running : State
@@ -118,10 +121,13 @@ module _ (a : State) where
       ap (option_map (seen all_white_state birth)) is
       ∙ ap (λ colour. Some (record (seen a birth object) { colour = colour })) (all_white (length a.objects) birth)))
 
-  -- `begin`
   pub view_begun-shown : view_begun (view_of a) ≡ view_of (begun a)
   view_begun-shown =
       ap (λ objects. record (view_of (begun a)) { objects = objects })
       (ap (λ words. with_grayed_objects words (changed (with_colour White) (seen_objects a))) (marking_words-shown a)
       ∙ ap (with_grayed_objects (root_words a)) (sym white-shown)
       ∙ sym (grayed-shown a (root_words a) white (length-replicate (length a.objects) White)))
+
+  -- `begin`
+  pub begin-shown : SameEffect (view_plain_effect (view_of a) commands.Begin) (plain_effect a commands.Begin)
+  begin-shown = record { view = view_begun-shown; reply = refl }
