@@ -1,0 +1,108 @@
+-- What the commands on areas do to a view, they do to its state, but for the store into a cell.
+use Rattle.std.proofs.Common.{◌≡◌, ℕ, zero, suc, ◌+◌, Bool, true, false, not, cond, List, [], ◌∷◌, map, replicate, Option, Some, None, refl, sym, ap, ◌∙◌}
+use mathlib.Core.Path.{fun_ext}
+use Rattle.std.proofs.lemmas.Option.{slice_get-map}
+use Rattle.std.specs.Prelude.{is_some, nat_lt, slice_get, unwrap_or, ◌==◌, if◌then◌else◌}
+use Rattle.std.specs.List.{find, filter}
+use Rattle.std.specs.Option.{option_map}
+use Rattle.mm_model.specs.declared.command.Command.TheVariants as commands
+use Rattle.mm_model.specs.declared.reply.Reply.TheVariants as replies
+use Rattle.mm_model.specs.Value.{Value, integer, words_of}
+use Rattle.mm_model.specs.State.{State, Area}
+use Rattle.mm_model.specs.Place.{first_from}
+use Rattle.mm_model.specs.Areas.{most_areas, area_at, free_number, new_area, area_inserted, without_area}
+use Rattle.mm_model.specs.Effect.{Effect, pushes, with_some, area_effect, plain_effect}
+use Rattle.mm_model.specs.View.{View, AreaView, seen_area, view_of}
+use Rattle.mm_model.specs.ViewWords.{area_in}
+use Rattle.mm_model.specs.ViewEffect.{ViewEffect, view_pushes, with_found, view_free_number, new_area_view, view_area_inserted, view_area_effect, view_without_area, view_plain_effect}
+use Rattle.mm_model.proofs.View.SameEffects.{SameEffect, nothing-same, found-same}
+
+find-map : {X Y : Type 0} (f : X → Y) (test : Y → Bool) (xs : List X)
+    → find test (map f xs) ≡ option_map f (find (λ x. test (f x)) xs)
+find-map f test [] = refl
+find-map {X} f test (x ∷ xs) =
+    let split : (b : Bool) → cond b (Some (f x)) (find test (map f xs))
+    ≡ option_map f (cond b (Some x) (find (λ y. test (f y)) xs)) =
+    elim [ true ↦ refl | false ↦ find-map f test xs ] in
+    split (test (f x))
+
+filter-map : {X Y : Type 0} (f : X → Y) (test : Y → Bool) (xs : List X)
+    → filter test (map f xs) ≡ map f (filter (λ x. test (f x)) xs)
+filter-map f test [] = refl
+filter-map f test (x ∷ xs) =
+    let rest = filter-map f test xs in
+    let split : (b : Bool) → cond b (f x ∷ filter test (map f xs)) (filter test (map f xs))
+    ≡ map f (cond b (x ∷ filter (λ y. test (f y)) xs) (filter (λ y. test (f y)) xs)) =
+    elim [ true ↦ ap (λ ys. f x ∷ ys) rest | false ↦ rest ] in
+    split (test (f x))
+
+words_of-zeros : (n : ℕ) → words_of (replicate n (integer 0)) ≡ replicate n 0
+words_of-zeros zero = refl
+words_of-zeros (suc n) = ap (λ ws. 0 ∷ ws) (words_of-zeros n)
+
+module _ (a : State) where
+  pub area_in-shown : (number : ℕ) → area_in (view_of a) number ≡ option_map seen_area (area_at a number)
+  area_in-shown number = find-map seen_area (λ area. area.number == number) a.areas
+
+  taken-shown : (number : ℕ) → is_some (area_in (view_of a) number) ≡ is_some (area_at a number)
+  taken-shown number = ap is_some (area_in-shown number) ∙ split (area_at a number)
+    where
+      split : (found : Option Area) → is_some (option_map seen_area found) ≡ is_some found
+      split None = refl
+      split (Some area) = refl
+
+  free_number-shown : (count : ℕ)
+      → first_from (λ number. not (is_some (area_in (view_of a) number))) 0 count
+      ≡ first_from (λ number. not (is_some (area_at a number))) 0 count
+  free_number-shown count =
+      ap (λ taken. first_from (λ number. not (taken number)) 0 count) (fun_ext (λ number. taken-shown number))
+
+  pub view_free_number-shown : view_free_number (view_of a) ≡ free_number a
+  view_free_number-shown = ap (λ found. unwrap_or found most_areas) (free_number-shown most_areas)
+
+  -- `adrop`
+  pub drop_area-shown : (number : ℕ)
+      → SameEffect (view_plain_effect (view_of a) (commands.DropArea number)) (plain_effect a (commands.DropArea number))
+  drop_area-shown number =
+      record {
+        view = ap (λ areas. record (view_of a) { areas = areas })
+            (filter-map seen_area (λ area. not (area.number == number)) a.areas);
+        reply = refl;
+      }
+
+  -- `aget`
+  pub area_get-shown : (number s : ℕ)
+      → SameEffect (view_plain_effect (view_of a) (commands.AreaGet number s)) (plain_effect a (commands.AreaGet number s))
+  area_get-shown number s =
+      found-same a seen_area (area_in (view_of a) number) (area_at a number) (area_in-shown number) _ _
+      (λ area is.
+      found-same a (λ value. value.word) (slice_get (words_of area.cells) s) (slice_get area.cells s)
+      (slice_get-map (λ (value : Value). value.word) area.cells s) _ _
+      (λ value e. record { view = refl; reply = refl }))
+
+inserted-shown : (new : Area) (areas : List Area)
+    → view_area_inserted (seen_area new) (map seen_area areas) ≡ map seen_area (area_inserted new areas)
+inserted-shown new [] = refl
+inserted-shown new (area ∷ areas) =
+    let split : (b : Bool) → (if b then seen_area new ∷ seen_area area ∷ map seen_area areas
+    else seen_area area ∷ view_area_inserted (seen_area new) (map seen_area areas))
+    ≡ map seen_area (if b then new ∷ area ∷ areas else area ∷ area_inserted new areas) =
+    elim [ true ↦ refl | false ↦ ap (λ rest. seen_area area ∷ rest) (inserted-shown new areas) ] in
+    split (nat_lt new.number area.number)
+
+-- `root` and `fixed`, once a place was looked for
+pub area_effect-shown : (a : State) (scanned : Bool) (counted cells : ℕ) (found : Option ℕ)
+    → SameEffect (view_area_effect (view_of a) scanned counted cells found) (area_effect a scanned counted cells found)
+area_effect-shown a scanned counted cells None = record { view = refl; reply = refl }
+area_effect-shown a scanned counted cells (Some base) =
+    let number = view_free_number-shown a in
+    record {
+      view = ap (λ areas. record (view_of a) { areas = areas })
+          (ap (λ number. view_area_inserted (new_area_view number base scanned counted cells) (map seen_area a.areas))
+          number
+          ∙ ap (λ words. view_area_inserted
+          (record (new_area_view (free_number a) base scanned counted cells) { words = words }) (map seen_area a.areas))
+          (sym (words_of-zeros cells))
+          ∙ inserted-shown (new_area (free_number a) base scanned counted cells) a.areas);
+      reply = ap (λ number. replies.Area (record { number = number; base = base })) number;
+    }
