@@ -3,6 +3,8 @@ pub mod Areas
 pub mod Changes
 pub mod Entries
 pub mod Graying
+pub mod MarkedSets
 pub mod SameEffects
 pub mod Seen
+pub mod Sets
 pub mod Sticky
