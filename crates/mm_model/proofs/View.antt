@@ -4,7 +4,9 @@ pub mod Changes
 pub mod Entries
 pub mod Graying
 pub mod MarkedSets
+pub mod Releases
 pub mod SameEffects
 pub mod Seen
 pub mod Sets
 pub mod Sticky
+pub mod Totals
