@@ -5,8 +5,10 @@ pub mod Entries
 pub mod Graying
 pub mod MarkedSets
 pub mod Releases
+pub mod Room
 pub mod SameEffects
 pub mod Seen
 pub mod Sets
 pub mod Sticky
 pub mod Totals
+pub mod Words
