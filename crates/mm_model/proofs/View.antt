@@ -5,12 +5,16 @@ pub mod Changes
 pub mod CommonBases
 pub mod Entries
 pub mod Graying
+pub mod MarkedSets
 pub mod Parts
 pub mod Puts
+pub mod Releases
 pub mod Room
 pub mod SameEffects
 pub mod Scanning
 pub mod Seen
+pub mod Sets
 pub mod Sticky
 pub mod Stores
+pub mod Totals
 pub mod Words
