@@ -1,4 +1,5 @@
 pub mod Alike
+pub mod AreaStores
 pub mod Areas
 pub mod Barrier
 pub mod Changes
