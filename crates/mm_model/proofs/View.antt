@@ -7,6 +7,7 @@ pub mod CommonBases
 pub mod Entries
 pub mod Graying
 pub mod MarkedSets
+pub mod Meaning
 pub mod Parts
 pub mod Puts
 pub mod Releases
@@ -18,4 +19,5 @@ pub mod Sets
 pub mod Sticky
 pub mod Stores
 pub mod Totals
+pub mod Tests
 pub mod Words
