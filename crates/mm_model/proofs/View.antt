@@ -18,6 +18,6 @@ pub mod Seen
 pub mod Sets
 pub mod Sticky
 pub mod Stores
-pub mod Totals
 pub mod Tests
+pub mod Totals
 pub mod Words
