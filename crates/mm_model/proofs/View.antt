@@ -1,11 +1,14 @@
 pub mod Alike
 pub mod Areas
+pub mod Births
 pub mod Changes
 pub mod CommonBases
 pub mod Entries
 pub mod Graying
+pub mod NewObjects
 pub mod Parts
 pub mod SameEffects
 pub mod Scanning
 pub mod Seen
 pub mod Sticky
+pub mod WeakBirths
