@@ -1,4 +1,5 @@
 pub mod Alike
+pub mod AreaStores
 pub mod Areas
 pub mod Barrier
 pub mod Births
@@ -6,16 +7,20 @@ pub mod Changes
 pub mod CommonBases
 pub mod Entries
 pub mod Graying
+pub mod MarkedSets
 pub mod Meaning
 pub mod NewObjects
 pub mod Parts
 pub mod Puts
+pub mod Releases
 pub mod Room
 pub mod SameEffects
 pub mod Scanning
 pub mod Seen
+pub mod Sets
 pub mod Sticky
 pub mod Stores
 pub mod Tests
+pub mod Totals
 pub mod WeakBirths
 pub mod Words
