@@ -10,6 +10,7 @@ pub mod MarkedSets
 pub mod Meaning
 pub mod Parts
 pub mod Puts
+pub mod Reads
 pub mod Releases
 pub mod Room
 pub mod SameEffects
