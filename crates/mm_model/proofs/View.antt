@@ -12,6 +12,7 @@ pub mod Meaning
 pub mod NewObjects
 pub mod Parts
 pub mod Puts
+pub mod Reads
 pub mod Releases
 pub mod Room
 pub mod SameEffects

@@ -5,7 +5,6 @@ use Rattle.std.proofs.lemmas.Option.{slice_get-map}
 use Rattle.std.specs.Prelude.{slice_get}
 use Rattle.std.specs.List.{position_from}
 use Rattle.std.specs.Option.{option_map, option_and_then}
-use Rattle.mm_model.specs.declared.line.Totals.{Totals}
 use Rattle.mm_model.specs.Object.{Object, is_live, live_objects}
 use Rattle.mm_model.specs.State.{State, Cycle, totals_of, live_count}
 use Rattle.mm_model.specs.View.{base_of, seen_cycle}

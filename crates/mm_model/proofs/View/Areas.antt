@@ -1,20 +1,20 @@
 -- What the commands on areas do to a view, they do to its state, but for the store into a cell.
-use Rattle.std.proofs.Common.{◌≡◌, ℕ, zero, suc, ◌+◌, Bool, true, false, not, cond, List, [], ◌∷◌, map, replicate, Option, Some, None, refl, sym, ap, ◌∙◌}
+use Rattle.std.proofs.Common.{◌≡◌, ℕ, zero, suc, Bool, true, false, not, cond, List, [], ◌∷◌, map, replicate, Option, Some, None, refl, sym, ap, ◌∙◌}
 use mathlib.Core.Path.{fun_ext}
 use Rattle.std.proofs.lemmas.Option.{slice_get-map}
 use Rattle.std.specs.Prelude.{is_some, nat_lt, slice_get, unwrap_or, ◌==◌, if◌then◌else◌}
-use Rattle.std.specs.List.{find, filter}
+use Rattle.std.specs.List.{filter}
 use Rattle.std.specs.Option.{option_map}
 use Rattle.mm_model.specs.declared.command.Command.TheVariants as commands
 use Rattle.mm_model.specs.declared.reply.Reply.TheVariants as replies
 use Rattle.mm_model.specs.Value.{Value, integer, words_of}
 use Rattle.mm_model.specs.State.{State, Area}
 use Rattle.mm_model.specs.Place.{first_from}
-use Rattle.mm_model.specs.Areas.{most_areas, area_at, free_number, new_area, area_inserted, without_area}
-use Rattle.mm_model.specs.Effect.{Effect, pushes, with_some, area_effect, plain_effect}
-use Rattle.mm_model.specs.View.{View, AreaView, seen_area, view_of}
+use Rattle.mm_model.specs.Areas.{most_areas, area_at, free_number, new_area, area_inserted}
+use Rattle.mm_model.specs.Effect.{area_effect, plain_effect}
+use Rattle.mm_model.specs.View.{seen_area, view_of}
 use Rattle.mm_model.specs.ViewWords.{area_in}
-use Rattle.mm_model.specs.ViewEffect.{ViewEffect, view_pushes, with_found, view_free_number, new_area_view, view_area_inserted, view_area_effect, view_without_area, view_plain_effect}
+use Rattle.mm_model.specs.ViewEffect.{view_free_number, new_area_view, view_area_inserted, view_area_effect, view_plain_effect}
 use Rattle.mm_model.proofs.View.SameEffects.{SameEffect, found-same}
 use Rattle.mm_model.proofs.View.Words.{area_in-seen}
 

@@ -6,11 +6,11 @@ use Rattle.std.specs.Prelude.{IsTrue, IfSome, is_some, nat_lt, ◌&&◌, ◌==�
 use Rattle.std.specs.Option.{option_map, option_and_then}
 use Rattle.mm_model.specs.Object.{Object}
 use Rattle.mm_model.specs.State.{State, Cycle, PartlyScanned, Lives}
-use Rattle.mm_model.specs.Words.{SlotKind, slot_kind}
+use Rattle.mm_model.specs.Words.{slot_kind}
 use Rattle.mm_model.specs.Marking.{is_black, is_raw, colour_of, colour_in, done_in, is_passed, with_grayed, barrier}
 use Rattle.mm_model.specs.Place.{live_pieces}
 use Rattle.mm_model.specs.Good.{IsPlaced, IsPartlyScanned, IsColoured}
-use Rattle.mm_model.specs.View.{PartlyScannedView, base_of, seen_partly, seen_cycle, view_of}
+use Rattle.mm_model.specs.View.{base_of, seen_partly, seen_cycle, view_of}
 use Rattle.mm_model.specs.ViewStore.{is_slot_done, view_is_passed, view_with_grayed, view_barrier}
 use Rattle.mm_model.proofs.Good.Living.{lives_same, lives_once_at}
 use Rattle.mm_model.proofs.Lists.Keyed.{refuted}

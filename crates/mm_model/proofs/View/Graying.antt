@@ -1,22 +1,20 @@
 -- Graying what some words name, and beginning a cycle, do to a view what they do to its state.
-use Rattle.std.proofs.Common.{◌≡◌, ℕ, zero, suc, ◌*◌, Bool, true, false, eqb-true, List, [], ◌∷◌, ◌++◌, length, map, replicate, Option, Some, None, refl, sym, ap, ◌∙◌}
+use Rattle.std.proofs.Common.{◌≡◌, ℕ, zero, suc, ◌*◌, Bool, true, false, eqb-true, List, length, replicate, Option, Some, None, refl, sym, ap, ◌∙◌}
 use Rattle.std.proofs.lemmas.List.{length-replicate}
-use Rattle.std.specs.Prelude.{IsTrue, IfSome, is_some, slice_get, nat_eq, slice_index_or, ◌&&◌, if◌then◌else◌}
-use Rattle.std.specs.List.{flat_map, list_any}
-use Rattle.std.specs.Option.{option_map, option_and_then}
-use Rattle.mm_model.specs.declared.object.Colour.{Colour}
+use Rattle.std.specs.Prelude.{IsTrue, IfSome, is_some, slice_index_or, ◌&&◌, if◌then◌else◌}
+use Rattle.std.specs.List.{list_any}
+use Rattle.std.specs.Option.{option_map}
 use Rattle.mm_model.specs.declared.object.Colour.TheVariants.{White, Gray}
 use Rattle.mm_model.specs.declared.command.Command.TheVariants as commands
 use Rattle.mm_model.specs.Object.{Object, is_live}
-use Rattle.mm_model.specs.State.{State, Area, Cycle, gone_count, lives_at}
-use Rattle.mm_model.specs.Words.{falls, names, scanned_cells, area_words, root_words}
-use Rattle.mm_model.specs.Marking.{is_white, colour_of, grayed, grayed_cycle, with_grayed, begun}
+use Rattle.mm_model.specs.State.{State, Cycle, gone_count}
+use Rattle.mm_model.specs.Words.{falls, names, root_words}
+use Rattle.mm_model.specs.Marking.{is_white, colour_of, with_grayed, begun}
 use Rattle.mm_model.specs.Effect.{plain_effect}
 use Rattle.mm_model.specs.ByBase.{changed}
-use Rattle.mm_model.specs.ObjectView.{ObjectView, ObjectsByBase}
+use Rattle.mm_model.specs.ObjectView.{ObjectView}
 use Rattle.mm_model.specs.SetsByBase.{with_grayed_objects, grayed_at}
-use Rattle.mm_model.specs.View.{View, seen, seen_area, seen_objects, view_of}
-use Rattle.mm_model.specs.ViewWords.{scanned_cells_of, marking_words}
+use Rattle.mm_model.specs.View.{seen, seen_objects, view_of}
 use Rattle.mm_model.specs.ViewStore.{view_with_grayed}
 use Rattle.mm_model.specs.ViewEffect.{with_colour, view_begun, view_plain_effect}
 use Rattle.mm_model.proofs.Good.Shading.{shade, colour-grayed}

@@ -1,18 +1,18 @@
 -- What a word or a stack cell means, in a state and in its view.
-use Rattle.std.proofs.Common.{◌≡◌, ℕ, Bool, true, false, eqb-true, Option, Some, None, refl, sym, ap, ◌∙◌, subst, arith}
+use Rattle.std.proofs.Common.{◌≡◌, ℕ, true, eqb-true, Option, Some, None, refl, sym, ap, ◌∙◌, subst}
 use Rattle.std.proofs.lemmas.Bool.{eq-eqb}
 use Rattle.std.proofs.lemmas.Option.{slice_get-map}
-use Rattle.std.specs.Prelude.{IsTrue, IfSome, slice_get, ◌&&◌, ◌==◌}
+use Rattle.std.specs.Prelude.{IsTrue, IfSome, slice_get, ◌==◌}
 use Rattle.std.specs.Option.{option_map, option_map_or, option_and_then, option_or}
 use Rattle.mm_model.specs.Value.{Value}
-use Rattle.mm_model.specs.Object.{Object, is_live}
+use Rattle.mm_model.specs.Object.{Object}
 use Rattle.mm_model.specs.State.{State, Lives, lives_at}
 use Rattle.mm_model.specs.After.{birth_at}
 use Rattle.mm_model.specs.Words.{falls}
 use Rattle.mm_model.specs.Meaning.{falls_in, resolved, meant, meant_at, object_meant}
 use Rattle.mm_model.specs.Place.{live_pieces}
 use Rattle.mm_model.specs.Good.{IsPlaced, IsReferring, IsGood}
-use Rattle.mm_model.specs.ByBase.{Based, based}
+use Rattle.mm_model.specs.ByBase.{Based}
 use Rattle.mm_model.specs.ObjectView.{ObjectView}
 use Rattle.mm_model.specs.View.{seen_objects, view_of}
 use Rattle.mm_model.specs.ViewWords.{resolved_in, object_at, view_meant}

@@ -1,13 +1,11 @@
 -- A view takes the room that its state takes, so places, pages of the region and free pages are the same.
-use Rattle.std.proofs.Common.{◌≡◌, ℕ, ◌+◌, ◌-◌, ◌*◌, ◌/◌, ◌<◌, max, Bool, true, false, ◌||◌, List, [], ◌∷◌, ◌++◌, map, refl, sym, ap, ◌∙◌, arith}
-use Rattle.std.proofs.lemmas.Bool.Decides.{nat_tests}
+use Rattle.std.proofs.Common.{◌≡◌, ℕ, ◌-◌, ◌*◌, Bool, true, false, ◌||◌, List, [], ◌∷◌, ◌++◌, map, refl, sym, ap, ◌∙◌}
 use mathlib.Core.Path.{fun_ext}
-use Rattle.std.specs.Prelude.{nat_lt}
-use Rattle.std.specs.List.{list_any, fold, count_by, range_with_len}
+use Rattle.std.specs.List.{list_any, count_by, range_with_len}
 use Rattle.mm_model.specs.Object.{live_objects}
 use Rattle.mm_model.specs.State.{State, Area}
 use Rattle.mm_model.specs.SizeClass.{size_of}
-use Rattle.mm_model.specs.Place.{Family, Piece, object_piece, area_piece, live_pieces, page_end, is_vacant, place_among, region_pages}
+use Rattle.mm_model.specs.Place.{Family, Piece, object_piece, area_piece, live_pieces, is_vacant, place_among, region_pages}
 use Rattle.mm_model.specs.Search.{place_now, place_grown}
 use Rattle.mm_model.specs.Effect.{free_pages}
 use Rattle.mm_model.specs.Good.{IsPlaced}
@@ -18,7 +16,6 @@ use Rattle.mm_model.specs.ViewWords.{piece_of_area, view_pieces, view_region_pag
 use Rattle.mm_model.specs.ViewEffect.{view_free_pages}
 use Rattle.mm_model.specs.ViewStep.{view_place_now, view_place_grown}
 use Rattle.mm_model.proofs.Lists.Keyed.{any-map}
-use Rattle.mm_model.proofs.Lists.Tests.{same_tests}
 use Rattle.mm_model.proofs.Places.Ends.{fold-alike}
 use Rattle.mm_model.proofs.Places.SeenAlike.{AreSeenAlike, is_vacant-alike, place_among-alike}
 use Rattle.mm_model.proofs.View.Seen.{any-live, any-seen}

@@ -1,19 +1,18 @@
 -- Making an object sticky does to a view what it does to its state.
-use Rattle.std.proofs.Common.{◌≡◌, ℕ, ◌*◌, Bool, true, false, not, ◌||◌, eqb-true, List, map, Option, Some, None, refl, sym, ap, ◌∙◌}
+use Rattle.std.proofs.Common.{◌≡◌, ℕ, ◌*◌, Bool, true, false, not, ◌||◌, eqb-true, Some, refl, sym, ap, ◌∙◌}
 use Rattle.std.proofs.lemmas.List.{length-map}
 use Rattle.std.proofs.lemmas.Option.{slice_get-map}
-use Rattle.std.specs.Prelude.{slice_get, nat_le, ◌&&◌, ◌==◌, if◌then◌else◌}
+use Rattle.std.specs.Prelude.{nat_le, ◌&&◌, ◌==◌, if◌then◌else◌}
 use Rattle.std.specs.Option.{option_map, option_and_then}
 use Rattle.mm_model.specs.Object.{Object, is_live, is_counted}
-use Rattle.mm_model.specs.State.{State, lives_at, totals_of}
+use Rattle.mm_model.specs.State.{State, lives_at}
 use Rattle.mm_model.specs.After.{birth_at}
 use Rattle.mm_model.specs.Words.{SlotKind}
 use Rattle.mm_model.specs.Count.{refs, begins_counted, made_sticky, with_sticky}
 use Rattle.mm_model.specs.Store.{is_counted_slot, recounted}
 use Rattle.mm_model.specs.ByBase.{changed}
-use Rattle.mm_model.specs.ObjectView.{ObjectView}
 use Rattle.mm_model.specs.SetsByBase.{count_at}
-use Rattle.mm_model.specs.View.{View, base_of, seen, seen_objects, seen_cycle, view_of}
+use Rattle.mm_model.specs.View.{base_of, seen, seen_objects, view_of}
 use Rattle.mm_model.specs.ViewWords.{outside_references}
 use Rattle.mm_model.specs.ViewStore.{view_made_sticky, view_with_sticky, view_recounted}
 use Rattle.mm_model.proofs.Places.Placing.{both}

@@ -1,8 +1,8 @@
 -- Storing a word into a slot does to a view what storing the value does to its state.
-use Rattle.std.proofs.Common.{◌≡◌, ℕ, ◌+◌, ◌*◌, ◌<◌, Bool, true, false, not, ◌||◌, eqb-true, List, [], ◌∷◌, ◌++◌, map, length, Option, Some, None, refl, sym, ap, ◌∙◌, subst, arith}
+use Rattle.std.proofs.Common.{◌≡◌, ℕ, ◌*◌, eqb-true, ◌++◌, map, length, Option, Some, refl, sym, ap, ◌∙◌, subst, arith}
 use mathlib.Core.Path.{fun_ext}
 use Rattle.std.proofs.lemmas.List.{length-set, length-map}
-use Rattle.std.specs.Prelude.{slice_get, slice_set, ◌&&◌, ◌==◌, if◌then◌else◌}
+use Rattle.std.specs.Prelude.{slice_get, slice_set}
 use Rattle.std.specs.Option.{option_map, option_and_then}
 use Rattle.mm_model.specs.Value.{Value, words_of}
 use Rattle.mm_model.specs.Object.{Object, live_objects}
@@ -15,7 +15,7 @@ use Rattle.mm_model.specs.Store.{with_object, with_slot}
 use Rattle.mm_model.specs.Good.{IsPlaced}
 use Rattle.mm_model.specs.ByBase.{with_entry}
 use Rattle.mm_model.specs.ObjectView.{ObjectView}
-use Rattle.mm_model.specs.View.{base_of, seen, seen_at, seen_objects, seen_cycle, view_of}
+use Rattle.mm_model.specs.View.{base_of, seen, seen_at, seen_objects, view_of}
 use Rattle.mm_model.specs.ViewStore.{view_with_word}
 use Rattle.mm_model.proofs.Lists.Replaced.{get-set_same, get-set_other, map-set, map_live-set, position_from-set_alike, option_get-set_alike}
 use Rattle.mm_model.proofs.Good.Living.{lives_inside}

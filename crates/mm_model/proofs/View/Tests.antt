@@ -2,21 +2,19 @@
 use Rattle.std.proofs.Common.{◌≡◌, ℕ, ◌+◌, Bool, true, false, not, length, Option, Some, None, refl, sym, ap, ◌∙◌}
 use mathlib.Core.Path.{fun_ext}
 use Rattle.std.proofs.lemmas.List.{length-map}
-use Rattle.std.specs.Prelude.{is_some, nat_le, nat_lt, ◌==◌, slice_index}
+use Rattle.std.specs.Prelude.{is_some, nat_le, nat_lt, ◌==◌}
 use Rattle.std.specs.Option.{option_map, option_map_or}
 use Rattle.mm_model.specs.declared.command.Command.{Command}
-use Rattle.mm_model.specs.declared.refusal.Refusal.{Refusal}
 use Rattle.mm_model.specs.Value.{Value, words_of}
-use Rattle.mm_model.specs.Object.{Object, is_weak}
+use Rattle.mm_model.specs.Object.{is_weak}
 use Rattle.mm_model.specs.State.{State, Area}
 use Rattle.mm_model.specs.Words.{slot_kind, cell_kind, falls}
 use Rattle.mm_model.specs.Meaning.{object_meant}
 use Rattle.mm_model.specs.Areas.{area_at, most_areas}
 use Rattle.mm_model.specs.Store.{refuses_word}
-use Rattle.mm_model.specs.Refusing.{Tests, tests_of, refusal_row, first_refusal, is_stack_full, are_areas_full, no_cell, no_area, means_nothing, means_weak, is_outside, has_no_slot, refuses_in_slot, has_no_area_cell, refuses_in_cell, word_at, refusal}
+use Rattle.mm_model.specs.Refusing.{tests_of, refusal_row, first_refusal, no_area, means_nothing, means_weak, is_outside, has_no_slot, refuses_in_slot, has_no_area_cell, refuses_in_cell, word_at, refusal}
 use Rattle.mm_model.specs.Good.{IsGood}
-use Rattle.mm_model.specs.ByBase.{Based}
-use Rattle.mm_model.specs.ObjectView.{ObjectView, slot_kind_of}
+use Rattle.mm_model.specs.ObjectView.{slot_kind_of}
 use Rattle.mm_model.specs.View.{AreaView, seen_cycle, seen_area, view_of}
 use Rattle.mm_model.specs.ViewWords.{area_in, view_meant, cell_kind_of, view_refuses_word}
 use Rattle.mm_model.specs.ViewTests.{tests_of_view, view_is_outside, view_has_no_slot, view_refuses_in_slot, view_means_weak, view_has_no_area_cell, view_refuses_in_cell, view_refusal}
