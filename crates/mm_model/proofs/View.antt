@@ -4,6 +4,8 @@ pub mod Changes
 pub mod Entries
 pub mod Graying
 pub mod MarkedSets
+pub mod Protecting
+pub mod Reapable
 pub mod Releases
 pub mod Room
 pub mod SameEffects
