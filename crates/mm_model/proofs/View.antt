@@ -1,5 +1,6 @@
 pub mod Alike
 pub mod Areas
+pub mod Bases
 pub mod Changes
 pub mod Entries
 pub mod Graying
