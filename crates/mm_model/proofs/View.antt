@@ -5,6 +5,7 @@ pub mod Changes
 pub mod Entries
 pub mod Graying
 pub mod MarkedSets
+pub mod Phases
 pub mod Protecting
 pub mod Reapable
 pub mod Releases
