@@ -21,8 +21,8 @@ module _ (a b : State) where
       ap (λ (base : ℕ → Option ℕ). option_map (λ cycle. record {
         gone_before = cycle.gone_before;
         partly_scanned = option_and_then (λ partly.
-        option_map (λ base. record { base = base; slots_done = partly.slots_done }) (base partly.object))
-        cycle.partly_scanned;
+            option_map (λ base. record { base = base; slots_done = partly.slots_done }) (base partly.object))
+            cycle.partly_scanned;
       }) cycle) bases
 
   pub totals-alike : length b.objects ≡ length a.objects → live_count b ≡ live_count a → b.commands ≡ a.commands

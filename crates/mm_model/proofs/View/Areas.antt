@@ -15,16 +15,8 @@ use Rattle.mm_model.specs.Effect.{Effect, pushes, with_some, area_effect, plain_
 use Rattle.mm_model.specs.View.{View, AreaView, seen_area, view_of}
 use Rattle.mm_model.specs.ViewWords.{area_in}
 use Rattle.mm_model.specs.ViewEffect.{ViewEffect, view_pushes, with_found, view_free_number, new_area_view, view_area_inserted, view_area_effect, view_without_area, view_plain_effect}
-use Rattle.mm_model.proofs.View.SameEffects.{SameEffect, nothing-same, found-same}
-
-find-map : {X Y : Type 0} (f : X → Y) (test : Y → Bool) (xs : List X)
-    → find test (map f xs) ≡ option_map f (find (λ x. test (f x)) xs)
-find-map f test [] = refl
-find-map {X} f test (x ∷ xs) =
-    let split : (b : Bool) → cond b (Some (f x)) (find test (map f xs))
-    ≡ option_map f (cond b (Some x) (find (λ y. test (f y)) xs)) =
-    elim [ true ↦ refl | false ↦ find-map f test xs ] in
-    split (test (f x))
+use Rattle.mm_model.proofs.View.SameEffects.{SameEffect, found-same}
+use Rattle.mm_model.proofs.View.Words.{area_in-seen}
 
 filter-map : {X Y : Type 0} (f : X → Y) (test : Y → Bool) (xs : List X)
     → filter test (map f xs) ≡ map f (filter (λ x. test (f x)) xs)
@@ -41,29 +33,26 @@ words_of-zeros zero = refl
 words_of-zeros (suc n) = ap (λ ws. 0 ∷ ws) (words_of-zeros n)
 
 module _ (a : State) where
-  pub area_in-shown : (number : ℕ) → area_in (view_of a) number ≡ option_map seen_area (area_at a number)
-  area_in-shown number = find-map seen_area (λ area. area.number == number) a.areas
-
-  taken-shown : (number : ℕ) → is_some (area_in (view_of a) number) ≡ is_some (area_at a number)
-  taken-shown number = ap is_some (area_in-shown number) ∙ split (area_at a number)
+  taken-seen : (number : ℕ) → is_some (area_in (view_of a) number) ≡ is_some (area_at a number)
+  taken-seen number = ap is_some (area_in-seen a number) ∙ split (area_at a number)
     where
       split : (found : Option Area) → is_some (option_map seen_area found) ≡ is_some found
       split None = refl
       split (Some area) = refl
 
-  free_number-shown : (count : ℕ)
+  free_number-seen : (count : ℕ)
       → first_from (λ number. not (is_some (area_in (view_of a) number))) 0 count
       ≡ first_from (λ number. not (is_some (area_at a number))) 0 count
-  free_number-shown count =
-      ap (λ taken. first_from (λ number. not (taken number)) 0 count) (fun_ext (λ number. taken-shown number))
+  free_number-seen count =
+      ap (λ taken. first_from (λ number. not (taken number)) 0 count) (fun_ext (λ number. taken-seen number))
 
-  pub view_free_number-shown : view_free_number (view_of a) ≡ free_number a
-  view_free_number-shown = ap (λ found. unwrap_or found most_areas) (free_number-shown most_areas)
+  pub view_free_number-seen : view_free_number (view_of a) ≡ free_number a
+  view_free_number-seen = ap (λ found. unwrap_or found most_areas) (free_number-seen most_areas)
 
   -- `adrop`
-  pub drop_area-shown : (number : ℕ)
+  pub drop_area-seen : (number : ℕ)
       → SameEffect (view_plain_effect (view_of a) (commands.DropArea number)) (plain_effect a (commands.DropArea number))
-  drop_area-shown number =
+  drop_area-seen number =
       record {
         view = ap (λ areas. record (view_of a) { areas = areas })
             (filter-map seen_area (λ area. not (area.number == number)) a.areas);
@@ -71,31 +60,31 @@ module _ (a : State) where
       }
 
   -- `aget`
-  pub area_get-shown : (number s : ℕ)
+  pub area_get-seen : (number s : ℕ)
       → SameEffect (view_plain_effect (view_of a) (commands.AreaGet number s)) (plain_effect a (commands.AreaGet number s))
-  area_get-shown number s =
-      found-same a seen_area (area_in (view_of a) number) (area_at a number) (area_in-shown number) _ _
+  area_get-seen number s =
+      found-same a seen_area (area_in (view_of a) number) (area_at a number) (area_in-seen a number) _ _
       (λ area is.
       found-same a (λ value. value.word) (slice_get (words_of area.cells) s) (slice_get area.cells s)
       (slice_get-map (λ (value : Value). value.word) area.cells s) _ _
       (λ value e. record { view = refl; reply = refl }))
 
-inserted-shown : (new : Area) (areas : List Area)
+inserted-seen : (new : Area) (areas : List Area)
     → view_area_inserted (seen_area new) (map seen_area areas) ≡ map seen_area (area_inserted new areas)
-inserted-shown new [] = refl
-inserted-shown new (area ∷ areas) =
+inserted-seen new [] = refl
+inserted-seen new (area ∷ areas) =
     let split : (b : Bool) → (if b then seen_area new ∷ seen_area area ∷ map seen_area areas
     else seen_area area ∷ view_area_inserted (seen_area new) (map seen_area areas))
     ≡ map seen_area (if b then new ∷ area ∷ areas else area ∷ area_inserted new areas) =
-    elim [ true ↦ refl | false ↦ ap (λ rest. seen_area area ∷ rest) (inserted-shown new areas) ] in
+    elim [ true ↦ refl | false ↦ ap (λ rest. seen_area area ∷ rest) (inserted-seen new areas) ] in
     split (nat_lt new.number area.number)
 
 -- `root` and `fixed`, once a place was looked for
-pub area_effect-shown : (a : State) (scanned : Bool) (counted cells : ℕ) (found : Option ℕ)
+pub area_effect-seen : (a : State) (scanned : Bool) (counted cells : ℕ) (found : Option ℕ)
     → SameEffect (view_area_effect (view_of a) scanned counted cells found) (area_effect a scanned counted cells found)
-area_effect-shown a scanned counted cells None = record { view = refl; reply = refl }
-area_effect-shown a scanned counted cells (Some base) =
-    let number = view_free_number-shown a in
+area_effect-seen a scanned counted cells None = record { view = refl; reply = refl }
+area_effect-seen a scanned counted cells (Some base) =
+    let number = view_free_number-seen a in
     record {
       view = ap (λ areas. record (view_of a) { areas = areas })
           (ap (λ number. view_area_inserted (new_area_view number base scanned counted cells) (map seen_area a.areas))
@@ -103,6 +92,6 @@ area_effect-shown a scanned counted cells (Some base) =
           ∙ ap (λ words. view_area_inserted
           (record (new_area_view (free_number a) base scanned counted cells) { words = words }) (map seen_area a.areas))
           (sym (words_of-zeros cells))
-          ∙ inserted-shown (new_area (free_number a) base scanned counted cells) a.areas);
+          ∙ inserted-seen (new_area (free_number a) base scanned counted cells) a.areas);
       reply = ap (λ number. replies.Area (record { number = number; base = base })) number;
     }

@@ -21,8 +21,10 @@ use Rattle.mm_model.specs.ViewStore.{view_with_grayed}
 use Rattle.mm_model.specs.ViewEffect.{with_colour, view_begun, view_plain_effect}
 use Rattle.mm_model.proofs.Good.Shading.{shade, colour-grayed}
 use Rattle.mm_model.proofs.Places.Placing.{both}
-use Rattle.mm_model.proofs.View.Changes.{seen_objects-changed, seen_at-changed}
+use Rattle.mm_model.proofs.View.Changes.{seen_at-changed}
 use Rattle.mm_model.proofs.View.SameEffects.{SameEffect}
+use Rattle.mm_model.proofs.View.Seen.{seen_objects-changed}
+use Rattle.mm_model.proofs.View.Words.{marking_words-seen}
 
 module _ (a : State) (words : List ℕ) (cycle : Cycle) (each : length cycle.colours ≡ length a.objects) where
   abbrev running : State
@@ -32,11 +34,11 @@ module _ (a : State) (words : List ℕ) (cycle : Cycle) (each : length cycle.col
   after = with_grayed words running
 
   -- an object that lives shows the colour that the words leave it
-  shade-shown : (birth : ℕ) (object : Object) (base : ℕ) → is_live object ≡ true → object.base ≡ base
+  shade-seen : (birth : ℕ) (object : Object) (base : ℕ) → is_live object ≡ true → object.base ≡ base
       → ◌≡◌ {A = Option ObjectView}
       (Some (record (seen running birth object) { colour = shade words object (colour_of cycle birth) }))
       (grayed_at words base (seen running birth object))
-  shade-shown birth object base live at =
+  shade-seen birth object base live at =
       ap (λ b. Some (record (seen running birth object) {
         colour = if is_white (colour_of cycle birth) && b && names words object then Gray else colour_of cycle birth;
       })) live
@@ -56,16 +58,16 @@ module _ (a : State) (words : List ℕ) (cycle : Cycle) (each : length cycle.col
       split true false = refl
       split false named = refl
 
-  grayed-shown : seen_objects after ≡ with_grayed_objects words (seen_objects running)
-  grayed-shown =
+  grayed-seen : seen_objects after ≡ with_grayed_objects words (seen_objects running)
+  grayed-seen =
       seen_objects-changed running after refl (grayed_at words)
-      (λ k. seen_at-changed running after (grayed_at words (16 * k)) (16 * k) refl
+      (λ k below. seen_at-changed running after (16 * k) refl (grayed_at words (16 * k))
       (λ birth object is passes.
       let live = both _ _ passes in
       ap (option_map (seen after birth)) is
       ∙ ap (λ colour. Some (record (seen running birth object) { colour = colour }))
       (colour-grayed words a.objects cycle.colours birth object each is)
-      ∙ shade-shown birth object (16 * k) live.0 (eqb-true _ _ live.1)))
+      ∙ shade-seen birth object (16 * k) live.0 (eqb-true _ _ live.1)))
 
 -- each object has a colour
 abbrev pub HasColours : State → Cycle → Type 0
@@ -76,28 +78,20 @@ pub seen_objects-grayed : (a : State) (words : List ℕ) (cycle : Cycle) → a.c
     → seen_objects (with_grayed words a) ≡ with_grayed_objects words (seen_objects a)
 seen_objects-grayed a words cycle is each =
     ap (λ c. seen_objects (with_grayed words (record a { cycle = c }))) is
-    ∙ grayed-shown a words cycle each
+    ∙ grayed-seen a words cycle each
     ∙ sym (ap (λ c. with_grayed_objects words (seen_objects (record a { cycle = c }))) is)
 
 -- and so is the whole view
-pub view_with_grayed-shown : (a : State) (words : List ℕ) → IsTrue (is_some a.cycle) → IfSome a.cycle (HasColours a)
+pub view_with_grayed-seen : (a : State) (words : List ℕ) → IsTrue (is_some a.cycle) → IfSome a.cycle (HasColours a)
     → view_with_grayed words (view_of a) ≡ view_of (with_grayed words a)
-view_with_grayed-shown a words running each = split a.cycle running each
+view_with_grayed-seen a words running each = split a.cycle running each
   where
     split : (c : Option Cycle) → IsTrue (is_some c) → IfSome c (HasColours a)
         → view_with_grayed words (view_of (record a { cycle = c })) ≡ view_of (with_grayed words (record a { cycle = c }))
     split None t h = cc
     split (Some cycle) t h =
         ap (λ objects. record (view_of (record a { cycle = Some cycle })) { objects = objects })
-        (sym (grayed-shown a words cycle h))
-
-area_words-shown : (areas : List Area) → flat_map scanned_cells_of (map seen_area areas) ≡ flat_map scanned_cells areas
-area_words-shown [] = refl
-area_words-shown (area ∷ areas) = ap (λ words. scanned_cells area ++ words) (area_words-shown areas)
-
--- the words at which marking begins
-pub marking_words-shown : (a : State) → marking_words (view_of a) ≡ root_words a
-marking_words-shown a = ap (λ words. map (λ value. value.word) a.stack ++ words) (area_words-shown a.areas)
+        (sym (grayed-seen a words cycle h))
 
 all_white : (count birth : ℕ) → slice_index_or (replicate count White) birth White ≡ White
 all_white zero birth = refl
@@ -113,21 +107,21 @@ module _ (a : State) where
   abbrev all_white_state : State
   all_white_state = record a { cycle = Some white }
 
-  white-shown : seen_objects all_white_state ≡ changed (with_colour White) (seen_objects a)
-  white-shown =
+  white-seen : seen_objects all_white_state ≡ changed (with_colour White) (seen_objects a)
+  white-seen =
       seen_objects-changed a all_white_state refl (with_colour White)
-      (λ k. seen_at-changed a all_white_state (with_colour White (16 * k)) (16 * k) refl
+      (λ k below. seen_at-changed a all_white_state (16 * k) refl (with_colour White (16 * k))
       (λ birth object is passes.
       ap (option_map (seen all_white_state birth)) is
       ∙ ap (λ colour. Some (record (seen a birth object) { colour = colour })) (all_white (length a.objects) birth)))
 
-  pub view_begun-shown : view_begun (view_of a) ≡ view_of (begun a)
-  view_begun-shown =
+  pub view_begun-seen : view_begun (view_of a) ≡ view_of (begun a)
+  view_begun-seen =
       ap (λ objects. record (view_of (begun a)) { objects = objects })
-      (ap (λ words. with_grayed_objects words (changed (with_colour White) (seen_objects a))) (marking_words-shown a)
-      ∙ ap (with_grayed_objects (root_words a)) (sym white-shown)
-      ∙ sym (grayed-shown a (root_words a) white (length-replicate (length a.objects) White)))
+      (ap (λ words. with_grayed_objects words (changed (with_colour White) (seen_objects a))) (marking_words-seen a)
+      ∙ ap (with_grayed_objects (root_words a)) (sym white-seen)
+      ∙ sym (grayed-seen a (root_words a) white (length-replicate (length a.objects) White)))
 
   -- `begin`
-  pub begin-shown : SameEffect (view_plain_effect (view_of a) commands.Begin) (plain_effect a commands.Begin)
-  begin-shown = record { view = view_begun-shown; reply = refl }
+  pub begin-seen : SameEffect (view_plain_effect (view_of a) commands.Begin) (plain_effect a commands.Begin)
+  begin-seen = record { view = view_begun-seen; reply = refl }

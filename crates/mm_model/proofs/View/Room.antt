@@ -19,50 +19,9 @@ use Rattle.mm_model.specs.ViewEffect.{view_free_pages}
 use Rattle.mm_model.specs.ViewStep.{view_place_now, view_place_grown}
 use Rattle.mm_model.proofs.Lists.Keyed.{any-map}
 use Rattle.mm_model.proofs.Lists.Tests.{same_tests}
+use Rattle.mm_model.proofs.Places.Ends.{fold-alike}
 use Rattle.mm_model.proofs.Places.SeenAlike.{AreSeenAlike, is_vacant-alike, place_among-alike}
 use Rattle.mm_model.proofs.View.Seen.{any-live, any-seen}
-
--- the greatest end of pieces, as tests see it
-unfoldable ends : ℕ → Piece → Bool
-ends n piece = nat_lt n ((piece.base + piece.extent + 4095) / 4096)
-
-fold-ends : (least n : ℕ) (pieces : List Piece)
-    → nat_lt n (fold page_end least pieces) ≡ (nat_lt n least || list_any (ends n) pieces)
-unfolding ends
-fold-ends least n [] = or_false (nat_lt n least)
-  where
-    or_false : (b : Bool) → b ≡ (b || false)
-    or_false true = refl
-    or_false false = refl
-fold-ends least n (p ∷ ps) =
-    fold-ends (page_end least p) n ps
-    ∙ ap (λ b. b || list_any (ends n) ps) (past_max n least ((p.base + p.extent + 4095) / 4096))
-    ∙ regroup (nat_lt n least) (ends n p) (list_any (ends n) ps)
-  where
-    past_max : (n k m : ℕ) → nat_lt n (max k m) ≡ (nat_lt n k || nat_lt n m)
-    past_max n k m =
-        same_tests (nat_lt n (max k m)) (nat_lt n k || nat_lt n m) (λ e. grind (arith, nat_tests))
-        (λ e. grind (arith, nat_tests))
-
-    regroup : (b c d : Bool) → ((b || c) || d) ≡ (b || (c || d))
-    regroup true c d = refl
-    regroup false c d = refl
-
-same_bounds : (m n : ℕ) → ((k : ℕ) → nat_lt k m ≡ nat_lt k n) → m ≡ n
-same_bounds m n same =
-    let below : (k : ℕ) → nat_lt k m ≡ nat_lt k n → k < m → k < n = λ k e l. grind (arith, nat_tests) in
-    let above : (k : ℕ) → nat_lt k m ≡ nat_lt k n → k < n → k < m = λ k e l. grind (arith, nat_tests) in
-    let one : n < m → ⊥ = λ l. let more = below n (same n) l in omega arith in
-    let other : m < n → ⊥ = λ l. let more = above m (same m) l in omega arith in
-    equal m n one other
-  where
-    equal : (m n : ℕ) → (n < m → ⊥) → (m < n → ⊥) → m ≡ n
-    equal m n f g = omega arith
-
-pub fold-alike : (least : ℕ) (ps qs : List Piece) → AreSeenAlike ps qs
-    → fold page_end least ps ≡ fold page_end least qs
-fold-alike least ps qs alike =
-    same_bounds _ _ (λ k. fold-ends least k ps ∙ ap (λ b. nat_lt k least || b) (alike (ends k)) ∙ sym (fold-ends least k qs))
 
 any-append : {X : Type 0} (test : X → Bool) (xs ys : List X)
     → list_any test (xs ++ ys) ≡ (list_any test xs || list_any test ys)
