@@ -17,7 +17,7 @@ use Rattle.mm_model.specs.View.{seen, seen_objects, view_of}
 use Rattle.mm_model.specs.ViewPhase.{ViewReaps, ViewCollects, ViewFinishes}
 use Rattle.mm_model.proofs.Places.Placing.{each_weaker}
 use Rattle.mm_model.proofs.View.Seen.{begins-seen, seen-begins}
-use Rattle.mm_model.proofs.View.Graying.{HasColours, seen_objects-grayed}
+use Rattle.mm_model.proofs.View.Graying.{HasColours}
 use Rattle.mm_model.proofs.View.Words.{marking_words-seen}
 use Rattle.mm_model.proofs.View.Sets.{IsSameSet, unreached_same}
 use Rattle.mm_model.proofs.View.Reapable.{reapable_same}
@@ -59,6 +59,6 @@ module _ (a : State) (placed : IsPlaced a.settings.max (live_pieces a)) where
       → ViewFinishes (view_of a) bases → AreFinished a bases
   finishes-seen cycle runs each bases are =
       bases_of (IsFreedAtFinish a) (IsFreedAtFinishAt (seen_objects a) (root_words a))
-      (freed_same a placed (sym (seen_objects-grayed a (root_words a) cycle runs each))) bases
+      (freed_same a placed cycle runs each) bases
       (subst (λ words. AreBasesAt (seen_objects a) (IsFreedAtFinishAt (seen_objects a) words) bases)
       (marking_words-seen a) are)

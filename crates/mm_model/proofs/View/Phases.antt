@@ -26,9 +26,9 @@ use Rattle.mm_model.specs.ViewPhase.{view_final_lines, view_phase_lines, view_af
 use Rattle.mm_model.specs.ViewStep.{ViewReapsOnce, ViewCollectsOnce, ViewFinishesOnce}
 use Rattle.mm_model.proofs.Good.Phases.{reaped_is_good, collected_is_good, finished_is_good}
 use Rattle.mm_model.proofs.View.Bases.{reaps-seen, collects-seen, finishes-seen}
-use Rattle.mm_model.proofs.View.Changes.{seen_objects-changed, seen_at-changed}
+use Rattle.mm_model.proofs.View.Changes.{seen_at-changed}
 use Rattle.mm_model.proofs.View.Releases.{objects-released, cycle-released}
-use Rattle.mm_model.proofs.View.Seen.{seen_based, one_birth, find-lives_at, find-seen}
+use Rattle.mm_model.proofs.View.Seen.{seen_based, one_birth, find-lives_at, find-seen, seen_objects-changed}
 use Rattle.mm_model.proofs.View.Totals.{totals-released}
 use Rattle.mm_model.proofs.View.Words.{view_zero_count-seen}
 
@@ -75,7 +75,7 @@ white-seen : (a : State) → changed (with_colour White) (seen_objects a) ≡ se
 white-seen a =
     sym
     (seen_objects-changed a (record a { cycle = None }) refl (with_colour White)
-    (λ k. seen_at-changed a (record a { cycle = None }) (with_colour White (16 * k)) (16 * k) refl
+    (λ k below. seen_at-changed a (record a { cycle = None }) (16 * k) refl (with_colour White (16 * k))
     (λ birth object is passes. ap (option_map (seen (record a { cycle = None }) birth)) is)))
 
 module _ (a : State) (good : IsGood a) (Dead : ℕ → Type 0) (bases : List ℕ) (are : AreBasesOf a Dead bases)

@@ -13,8 +13,7 @@ use Rattle.mm_model.specs.ByBase.{changed}
 use Rattle.mm_model.specs.ObjectView.{ObjectView}
 use Rattle.mm_model.specs.View.{PartlyScannedView, base_of, seen, seen_at, seen_objects, seen_partly, seen_cycle}
 use Rattle.mm_model.specs.ViewPhase.{unless_listed, view_after_release, view_partly_left, view_cycle_left}
-use Rattle.mm_model.proofs.View.Changes.{seen_objects-changed}
-use Rattle.mm_model.proofs.View.Seen.{IsSeen, seen_at-some, seen_at-lives}
+use Rattle.mm_model.proofs.View.Seen.{IsSeen, seen_at-some, seen_at-lives, seen_objects-changed}
 
 -- the object with a birth number begins where it began
 pub base_of-released : (a : State) (bases : List ℕ) (birth : ℕ) → base_of (released bases a) birth ≡ base_of a birth
@@ -180,7 +179,7 @@ module _ (a : State) (good : IsGood a) (bases : List ℕ)
   -- the objects that are left
   pub objects-released : changed (view_after_release bases) (seen_objects a) ≡ seen_objects b
   objects-released =
-      sym (seen_objects-changed a b refl (view_after_release bases) (λ k. seen_at-released (16 * k)))
+      sym (seen_objects-changed a b refl (view_after_release bases) (λ k below. seen_at-released (16 * k)))
 
   partly-released : (cycle : Cycle) (partly_scanned : Option PartlyScanned)
       → IfSome partly_scanned (IsPartlyScanned a cycle)
