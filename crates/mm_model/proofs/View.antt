@@ -17,6 +17,7 @@ pub mod Releases
 pub mod Room
 pub mod SameEffects
 pub mod Scanning
+pub mod Searches
 pub mod Seen
 pub mod Sets
 pub mod Sticky
