@@ -4,6 +4,7 @@ pub mod Barrier
 pub mod Bases
 pub mod Changes
 pub mod CommonBases
+pub mod Ends
 pub mod Entries
 pub mod Graying
 pub mod MarkedSets
