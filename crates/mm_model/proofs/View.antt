@@ -9,6 +9,7 @@ pub mod CommonBases
 pub mod Ends
 pub mod Entries
 pub mod Graying
+pub mod Makes
 pub mod MarkedSets
 pub mod Meaning
 pub mod NewObjects
@@ -20,14 +21,17 @@ pub mod Reads
 pub mod Reapable
 pub mod Releases
 pub mod Room
+pub mod Rows
 pub mod SameEffects
 pub mod Scanning
 pub mod Searches
 pub mod Seen
 pub mod Sets
+pub mod Steps
 pub mod Sticky
 pub mod Stores
 pub mod Tests
 pub mod Totals
 pub mod WeakBirths
+pub mod WeakRows
 pub mod Words
