@@ -22,7 +22,7 @@ pub record RowShown (Row : Effect → Type 0) (v : ViewEffect) : Type 0 where
 pub same-is : (v w : ViewEffect) (e : Effect) → v ≡ w → SameEffect w e → SameEffect v e
 same-is v w e is same = subst (λ x. SameEffect x e) (sym is) same
 
-module _ (a : State) (good : IsGood a) (least : a.settings.pages ≤ a.settings.max) where
+module _ (a : State) (good : IsGood a) where
   -- what is made of a place
   pub makes-shown : (family : Family) (bytes : ℕ) (on_view : View → Option ℕ → ViewEffect)
       (on_state : State → Option ℕ → Effect)
@@ -32,7 +32,7 @@ module _ (a : State) (good : IsGood a) (least : a.settings.pages ≤ a.settings.
       → RowShown (Makes a family bytes on_state log) v
   makes-shown family bytes on_view on_state same log v m =
       let s = search-shown a good family bytes log m.left m.found m.search in
-      let f = searched_is_found a family bytes log s.state m.found good least s.searches in
+      let f = searched_is_found a family bytes log s.state m.found good s.searches in
       record {
         effect = on_state s.state m.found;
         row = record { state = s.state; found = m.found; search = s.searches; effect_is = refl };

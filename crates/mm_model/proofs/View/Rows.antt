@@ -40,13 +40,13 @@ cycle_runs a allowed =
     not_true true e = refl
     not_true false e = cc
 
-module _ (a : State) (good : IsGood a) (least : a.settings.pages ≤ a.settings.max) where
+module _ (a : State) (good : IsGood a) where
   area-shown : (scanned : Bool) (counted cells : ℕ) (log : List Line) (v : ViewEffect)
       → ViewMakes (view_of a) Areas (area_bytes cells)
       (λ left found. view_area_effect left scanned counted cells found) log v
       → RowShown (Makes a Areas (area_bytes cells) (λ b found. area_effect b scanned counted cells found) log) v
   area-shown scanned counted cells =
-      makes-shown a good least Areas (area_bytes cells)
+      makes-shown a good Areas (area_bytes cells)
       (λ left found. view_area_effect left scanned counted cells found)
       (λ b found. area_effect b scanned counted cells found)
       (λ b found f. area_effect-seen b scanned counted cells found)
@@ -63,9 +63,9 @@ module _ (a : State) (good : IsGood a) (least : a.settings.pages ≤ a.settings.
   pub carries-shown : (command : Command) (log : List Line) (v : ViewEffect) → refusal a command ≡ None
       → ViewCarries (view_of a) command log v → RowShown (Carries a command log) v
   carries-shown (commands.New shape) log v allowed m =
-      makes-shown a good least Objects (object_bytes shape.slots) (λ left found. view_new_effect left shape found)
+      makes-shown a good Objects (object_bytes shape.slots) (λ left found. view_new_effect left shape found)
       (λ b found. new_effect b shape found) (λ b found f. new-seen b f.good shape found f.place) log v m
-  carries-shown (commands.Weak i) log v allowed m = makes_weak_of-shown a good least i log v m
+  carries-shown (commands.Weak i) log v allowed m = makes_weak_of-shown a good i log v m
   carries-shown (commands.Root counted cells) log v allowed m = area-shown true counted cells log v m
   carries-shown (commands.Fixed cells) log v allowed m = area-shown false 0 cells log v m
   carries-shown commands.Reap log v allowed m =

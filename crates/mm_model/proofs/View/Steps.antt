@@ -48,12 +48,12 @@ record UnlessShown (because : Option Refusal) (a : State) (command : Command) (g
   step : IsStepUnless because a command group state
   left_is : left ≡ view_of state
 
-module _ (a : State) (good : IsGood a) (least : a.settings.pages ≤ a.settings.max) where
+module _ (a : State) (good : IsGood a) where
   carried_out-shown : (command : Command) (group : List Line) (left : View) → refusal a command ≡ None
       → ViewIsCarriedOut (view_of a) command group left → UnlessShown None a command group left
   carried_out-shown command group left allowed m =
-      let row = carries-shown a good least command m.log m.effect allowed m.carries in
-      let after = (carries_stays a good least command m.log row.effect allowed row.row).good in
+      let row = carries-shown a good command m.log m.effect allowed m.carries in
+      let after = carries_stays a good command m.log row.effect allowed row.row in
       let one = end-shown row.effect.state after (is_full row.effect.reply) m.end_log m.end
       (subst (λ view. ViewEnds view (is_full row.effect.reply) m.end_log m.end) row.same.view
       (subst (λ reply. ViewEnds m.effect.view (is_full reply) m.end_log m.end) row.same.reply m.ends)) in
@@ -90,17 +90,17 @@ pub record StepShown (a : State) (command : Command) (group : List Line) (left :
   pub good : IsGood state
   pub shows : Shows left state
 
-pub step-shown : (view : View) (a : State) → IsGood a → a.settings.pages ≤ a.settings.max → Shows view a
+pub step-shown : (view : View) (a : State) → IsGood a → Shows view a
     → (command : Command) (group : List Line) (left : View) → IsViewStep view command group left
     → StepShown a command group left
-step-shown view a good least shows command group left step =
+step-shown view a good shows command group left step =
     let of_state = subst (λ v. IsViewStep v command group left) (shown-is view a shows) step in
-    let one = unless-shown a good least (refusal a command) command group left refl
+    let one = unless-shown a good (refusal a command) command group left refl
     (subst (λ because. IsViewStepUnless because (view_of a) command group left)
     (view_refusal-seen a good command) of_state) in
     record {
       state = one.state;
       step = one.step;
-      good = step_is_good a command group one.state good least one.step;
+      good = step_is_good a command group one.state good one.step;
       shows = subst (λ v. Shows v one.state) (sym one.left_is) (view_of-shows one.state);
     }

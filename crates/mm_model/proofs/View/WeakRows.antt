@@ -27,7 +27,7 @@ use Rattle.mm_model.proofs.View.Scanning.{base_of-lives}
 use Rattle.mm_model.proofs.View.Seen.{seen_based}
 use Rattle.mm_model.proofs.View.WeakBirths.{weak-seen}
 
-module _ (a : State) (good : IsGood a) (least : a.settings.pages ≤ a.settings.max) where
+module _ (a : State) (good : IsGood a) where
   -- the object that a stack cell means is named by the stack
   meant_named : (i birth : ℕ) (object : Object) → IsMeant a i birth object → names (stack_words a) object ≡ true
   meant_named i birth object one =
@@ -48,7 +48,7 @@ module _ (a : State) (good : IsGood a) (least : a.settings.pages ≤ a.settings.
       → ViewMakesWeak (view_of a) object.base (option_and_then (base_of a) partner) log v
       → RowShown (MakesWeak a birth partner log) v
   makes_weak-shown birth object lives named log v None paired m =
-      makes-shown a good least Objects (object_bytes 0) (λ left found. view_weak_effect left object.base found)
+      makes-shown a good Objects (object_bytes 0) (λ left found. view_weak_effect left object.base found)
       (λ b found. weak_effect b birth found)
       (λ b found f.
       let one = f.spared birth object lives named in
