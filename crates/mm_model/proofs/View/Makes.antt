@@ -1,5 +1,5 @@
 -- What is made of the place that a search finds.
-use Rattle.std.proofs.Common.{◌≡◌, ℕ, ◌≤◌, List, Option, refl, sym, ap, ◌∙◌, subst}
+use Rattle.std.proofs.Common.{◌≡◌, ℕ, List, Option, refl, sym, ap, ◌∙◌, subst}
 use Rattle.mm_model.specs.declared.line.Line.{Line}
 use Rattle.mm_model.specs.State.{State}
 use Rattle.mm_model.specs.Place.{Family}
