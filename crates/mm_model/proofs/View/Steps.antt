@@ -7,10 +7,12 @@ use Rattle.mm_model.specs.declared.refusal.Refusal.{Refusal}
 use Rattle.mm_model.specs.State.{State, one_more_command}
 use Rattle.mm_model.specs.Refusing.{refusal}
 use Rattle.mm_model.specs.Step.{IsStepUnless, IsStep, is_full}
+use Rattle.mm_model.specs.After.{after}
 use Rattle.mm_model.specs.Good.{IsGood}
 use Rattle.mm_model.specs.View.{View, Shows, view_of}
 use Rattle.mm_model.specs.ViewStep.{ViewEnds, ViewIsCarriedOut, IsViewStepUnless, IsViewStep, one_more_counted}
 use Rattle.mm_model.proofs.Good.Steps.{carries_stays, step_is_good}
+use Rattle.mm_model.proofs.Steps.Determining.{lines_determine_the_state}
 use Rattle.mm_model.proofs.View.Ends.{end-shown}
 use Rattle.mm_model.proofs.View.Rows.{carries-shown}
 use Rattle.mm_model.proofs.View.Tests.{view_refusal-seen}
@@ -83,12 +85,11 @@ module _ (a : State) (good : IsGood a) where
         left_is = m.left_is;
       }
 
--- The step of a good state that a step of its view shows.
+-- What a step of its view tells of a good state: the lines say what state is left, and the view left is the view of it.
 pub record StepShown (a : State) (command : Command) (group : List Line) (left : View) : Type 0 where
-  pub state : State
-  pub step : IsStep a command group state
-  pub good : IsGood state
-  pub shows : Shows left state
+  pub step : IsStep a command group (after a command group)
+  pub good : IsGood (after a command group)
+  pub shows : Shows left (after a command group)
 
 pub step-shown : (view : View) (a : State) → IsGood a → Shows view a
     → (command : Command) (group : List Line) (left : View) → IsViewStep view command group left
@@ -98,9 +99,15 @@ step-shown view a good shows command group left step =
     let one = unless-shown a good (refusal a command) command group left refl
     (subst (λ because. IsViewStepUnless because (view_of a) command group left)
     (view_refusal-seen a good command) of_state) in
-    record {
-      state = one.state;
-      step = one.step;
-      good = step_is_good a command group one.state good one.step;
-      shows = subst (λ v. Shows v one.state) (sym one.left_is) (view_of-shows one.state);
-    }
+    to_after a command group left (lines_determine_the_state a command group one.state good one.step) one.step
+    (step_is_good a command group one.state good one.step)
+    (subst (λ v. Shows v one.state) (sym one.left_is) (view_of-shows one.state))
+  where
+    to_after : (a : State) (command : Command) (group : List Line) (left : View) {b : State}
+        → b ≡ after a command group → IsStep a command group b → IsGood b → Shows left b → StepShown a command group left
+    to_after a command group left is step good shows =
+        record {
+          step = subst (IsStep a command group) is step;
+          good = subst IsGood is good;
+          shows = subst (Shows left) is shows;
+        }
