@@ -1,5 +1,5 @@
 -- `aput` does to a view what it does to its state.
-use Rattle.std.proofs.Common.{◌≡◌, ℕ, ◌+◌, Bool, true, false, cond, List, [], ◌∷◌, map, Option, Some, None, refl, sym, ap, ◌∙◌}
+use Rattle.std.proofs.Common.{◌≡◌, ℕ, ◌+◌, Bool, true, false, cond, List, [], ◌∷◌, map, refl, sym, ap, ◌∙◌}
 use Rattle.std.proofs.lemmas.List.Sums.{sum_by-append}
 use Rattle.std.proofs.lemmas.Option.{slice_get-map}
 use Rattle.std.specs.Prelude.{slice_get, slice_set, slice_index, ◌==◌, if◌then◌else◌}
@@ -15,7 +15,7 @@ use Rattle.mm_model.specs.Place.{live_pieces}
 use Rattle.mm_model.specs.Store.{with_cell, put_in_cell}
 use Rattle.mm_model.specs.Effect.{plain_effect}
 use Rattle.mm_model.specs.Good.{IsPlaced}
-use Rattle.mm_model.specs.View.{View, AreaView, seen_area, view_of}
+use Rattle.mm_model.specs.View.{AreaView, seen_area, view_of}
 use Rattle.mm_model.specs.ViewWords.{outside_references, area_in}
 use Rattle.mm_model.specs.ViewStore.{view_recounted, view_with_area, view_area_put}
 use Rattle.mm_model.specs.ViewEffect.{view_plain_effect}

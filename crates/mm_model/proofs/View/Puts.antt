@@ -1,5 +1,5 @@
 -- `put` does to a view what it does to its state.
-use Rattle.std.proofs.Common.{◌≡◌, ℕ, Bool, true, false, not, length, Option, Some, None, refl, sym, ap, ◌∙◌, subst}
+use Rattle.std.proofs.Common.{◌≡◌, ℕ, Bool, true, false, not, Option, Some, None, refl, sym, ap, ◌∙◌, subst}
 use Rattle.std.proofs.lemmas.List.{length-set, length-map}
 use Rattle.std.proofs.lemmas.Option.{slice_get-map}
 use Rattle.std.specs.Prelude.{IfSome, slice_get, slice_index, ◌&&◌, ◌==◌, if◌then◌else◌}
@@ -8,14 +8,14 @@ use Rattle.mm_model.specs.declared.command.Command.TheVariants as commands
 use Rattle.mm_model.specs.declared.reply.Reply.TheVariants as replies
 use Rattle.mm_model.specs.Value.{Value, words_of}
 use Rattle.mm_model.specs.Object.{Object}
-use Rattle.mm_model.specs.State.{State, Cycle, Lives}
+use Rattle.mm_model.specs.State.{State, Lives}
 use Rattle.mm_model.specs.Words.{SlotKind, slot_kind}
 use Rattle.mm_model.specs.Meaning.{meant_at}
 use Rattle.mm_model.specs.Effect.{Effect, with_some, put_effect, plain_effect}
 use Rattle.mm_model.specs.Marking.{barrier}
 use Rattle.mm_model.specs.Count.{made_sticky, with_sticky}
 use Rattle.mm_model.specs.Place.{live_pieces}
-use Rattle.mm_model.specs.Store.{is_counted_slot, recounted, with_slot, put_in_slot, store_reply}
+use Rattle.mm_model.specs.Store.{is_counted_slot, with_slot, put_in_slot, store_reply}
 use Rattle.mm_model.specs.Good.{IsPlaced, IsColoured, IsGood}
 use Rattle.mm_model.specs.ByBase.{Based}
 use Rattle.mm_model.specs.ObjectView.{ObjectView}
