@@ -9,6 +9,7 @@ pub mod Graying
 pub mod MarkedSets
 pub mod Meaning
 pub mod Parts
+pub mod Plain
 pub mod Puts
 pub mod Reads
 pub mod Releases
