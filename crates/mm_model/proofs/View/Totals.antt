@@ -26,6 +26,14 @@ unlisted_below base (next ∷ bases) h =
     let other : (next == base) ≡ false = refuted (next == base) (λ e. apart (eqb-true _ _ e)) in
     ap (λ b. b || lists bases base) other ∙ unlisted_below base bases h.1
 
+same_totals : (commands : ℕ) {born b freed f live l : ℕ} → born ≡ b → freed ≡ f → live ≡ l
+    → ◌≡◌ {A = Totals} (record { commands = commands; born = born; freed = freed; live = live })
+    (record { commands = commands; born = b; freed = f; live = l })
+same_totals commands {born} {b} {freed} {f} {live} {l} p q r =
+    ap (λ n. record { commands = commands; born = n; freed = freed; live = live }) p
+    ∙ ap (λ n. record { commands = commands; born = b; freed = n; live = live }) q
+    ∙ ap (λ n. record { commands = commands; born = b; freed = f; live = n }) r
+
 module _ (a : State) (placed : IsPlaced a.settings.max (live_pieces a)) (Dead : ℕ → Type 0) where
   -- a live object begins there
   abbrev IsBase : ℕ → Type 0
@@ -131,21 +139,4 @@ module _ (a : State) (placed : IsPlaced a.settings.max (live_pieces a)) (Dead : 
       let live : live_count a - length bases ≡ live_count (released bases a) = omega (arith, freed, parts) in
       let gone : gone_count a + length bases ≡ gone_count (released bases a) =
       omega (arith, freed, parts, all, most, lived) in
-      ap (λ n. record {
-        commands = a.commands;
-        born = n;
-        freed = gone_count a + length bases;
-        live = live_count a - length bases;
-      }) (sym all)
-      ∙ ap (λ n. record {
-        commands = a.commands;
-        born = length (released bases a).objects;
-        freed = n;
-        live = live_count a - length bases;
-      }) gone
-      ∙ ap (λ n. record {
-        commands = a.commands;
-        born = length (released bases a).objects;
-        freed = gone_count (released bases a);
-        live = n;
-      }) live
+      same_totals a.commands (sym all) gone live
