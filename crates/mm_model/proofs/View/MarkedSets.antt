@@ -1,8 +1,5 @@
 -- What marking reaches by base, and what `finish` keeps and frees, are the same by birth.
-use Rattle.std.proofs.Common.{◌≡◌, ℕ, Bool, not, List, Some, refl, sym, ap, ◌∙◌, subst}
-use Rattle.std.specs.Prelude.{IsTrue}
-use Rattle.mm_model.specs.declared.object.Colour.{Colour}
-use Rattle.mm_model.specs.declared.object.Colour.TheVariants.{White, Gray}
+use Rattle.std.proofs.Common.{◌≡◌, ℕ, not, Some, refl, sym, ap, ◌∙◌, subst}
 use Rattle.mm_model.specs.Object.{Object}
 use Rattle.mm_model.specs.State.{State, Cycle, Lives}
 use Rattle.mm_model.specs.Words.{root_words, scanned_slots, names}

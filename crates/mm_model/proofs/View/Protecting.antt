@@ -1,6 +1,5 @@
 -- What is protected by base is so by birth.
-use Rattle.std.proofs.Common.{◌≡◌, ℕ, Bool, not, List, refl, sym, ap, ◌∙◌}
-use Rattle.std.specs.Prelude.{IsTrue}
+use Rattle.std.proofs.Common.{◌≡◌, ℕ, not, refl, sym, ap, ◌∙◌}
 use Rattle.mm_model.specs.Object.{Object, is_counted}
 use Rattle.mm_model.specs.State.{State, Lives}
 use Rattle.mm_model.specs.Words.{stack_words, area_words, counted_cell_words, counted_slots, word_slots, names, holds}
