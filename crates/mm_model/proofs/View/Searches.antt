@@ -38,7 +38,8 @@ module _ (a : State) (good : IsGood a) (family : Family) (bytes : ℕ) where
   search-shown log left found (ViewSearches.At_once base place no_lines same is) =
       record {
         state = a;
-        searches = Searches.At_once base (sym (view_place_now-seen a good.placed family bytes) ∙ place) no_lines refl is;
+        searches = Searches.At_once base (sym (view_place_now-seen a good.placed family bytes) ∙ place) no_lines
+            refl is;
         left_is = same;
       }
   search-shown log left found (ViewSearches.After_reap base dead none reaps place lines same is) =

@@ -52,7 +52,8 @@ module _ (a : State) (placed : IsPlaced a.settings.max (live_pieces a)) where
       (ap (names (root_words a)) (sym same) ∙ named)
   reached_at birth (IsReached.By_slot number own by holder there held named reached) object lives =
       let same = lives_same a birth own object there lives in
-      IsReachedAt.By_slot object.base (seen a birth object) holder.base (seen a by holder) (begins-seen a placed birth object lives)
+      IsReachedAt.By_slot object.base (seen a birth object) holder.base (seen a by holder)
+      (begins-seen a placed birth object lives)
       (begins-seen a placed by holder held) (ap (names (scanned_slots holder)) (sym same) ∙ named)
       (reached_at by reached holder held)
 
