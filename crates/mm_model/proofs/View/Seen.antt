@@ -148,7 +148,8 @@ module _ (a : State) (placed : IsPlaced a.settings.max (live_pieces a)) where
   pub seen_at-lives : (birth : ℕ) (object : Object) → Lives a birth object
       → seen_at a object.base ≡ Some (seen a birth object)
   seen_at-lives birth object h =
-      ap (option_and_then (λ birth. option_map (seen a birth) (slice_get a.objects birth))) (birth_at-lives birth object h)
+      ap (option_and_then (λ birth. option_map (seen a birth) (slice_get a.objects birth)))
+      (birth_at-lives birth object h)
       ∙ ap (option_map (seen a birth)) h.is
 
   pub begins-seen : (birth : ℕ) (object : Object) → Lives a birth object
@@ -259,8 +260,8 @@ module _ (a : State) (placed : IsPlaced a.settings.max (live_pieces a)) where
           let base : object.base ≡ k = eqb-true _ _ (both _ _ place.passes).1 in
           let stands = based_at (seen_objects a) object.base (seen a place.place object)
           (begins-seen a placed place.place object lives) in
-          let found = keyed-get (λ (o : Based ObjectView). o.base) (based (seen_objects a)) (keyed-based (seen_objects a))
-          stands.0 (seen_based a place.place object) stands.1 in
+          let found = keyed-get (λ (o : Based ObjectView). o.base) (based (seen_objects a))
+          (keyed-based (seen_objects a)) stands.0 (seen_based a place.place object) stands.1 in
           ap (λ n. option_map f (at (λ o. o.base) (based (seen_objects a)) n)) (sym base) ∙ ap (option_map f) found
           ∙ ap (λ p. Some p) (same place.place object lives) ∙ ap (option_map own) (sym e)
 
