@@ -28,7 +28,7 @@ filter-map f test (x ∷ xs) =
     elim [ true ↦ ap (λ ys. f x ∷ ys) rest | false ↦ rest ] in
     split (test (f x))
 
-words_of-zeros : (n : ℕ) → words_of (replicate n (integer 0)) ≡ replicate n 0
+pub words_of-zeros : (n : ℕ) → words_of (replicate n (integer 0)) ≡ replicate n 0
 words_of-zeros zero = refl
 words_of-zeros (suc n) = ap (λ ws. 0 ∷ ws) (words_of-zeros n)
 
