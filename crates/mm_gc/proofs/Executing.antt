@@ -19,7 +19,8 @@ use Rattle.mm_model.specs.Words.{falls}
 use Rattle.mm_model.specs.Store.{is_counted_slot}
 use Rattle.mm_model.specs.FlatView.{FlatView, FlatObject, FlatShows}
 use Rattle.mm_model.specs.FlatEffect.{FlatEffect, flat_resolved, flat_slot_kind, flat_new_effect, one_more_carried_out}
-use Rattle.mm_model.proofs.Good.Around.{carried_out_is_good, shows-carried_out}
+use Rattle.mm_model.proofs.Good.Around.{carried_out_is_good}
+use Rattle.mm_model.proofs.FlatView.Around.{shows-carried_out}
 use Rattle.mm_model.proofs.Good.Steps.{shape_allowed}
 use Rattle.mm_model.proofs.FlatView.Creating.{Refines, place-shown, new-refines}
 use Rattle.mm_model.proofs.FlatView.PlainEffects.{IsUncounted, plain-refines}

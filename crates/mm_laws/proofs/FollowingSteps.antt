@@ -23,7 +23,7 @@ use Rattle.mm_model.specs.Effect.{Effect, with_some, new_effect, weak_effect, ar
 use Rattle.mm_model.specs.Refusing.{refusal, no_cell, means_nothing, means_weak, is_stack_full}
 use Rattle.mm_model.specs.Log.{IsRun}
 use Rattle.mm_model.specs.Step.{IsPlain, Makes, MakesWeak, Reaps, Carries, Ends, Refused_as_full, Below_threshold, At_threshold, IsStepUnless, IsStep}
-use Rattle.mm_model.proofs.FlatView.StackEffects.{all_allowed}
+use Rattle.mm_model.proofs.Good.Allowed.{all_allowed}
 use Rattle.mm_laws.specs.WeakReferences.{IsMadeFor}
 use Rattle.mm_laws.proofs.Following.{Keeps, made_for-kept, keeps-then, keeps-same_marks, keeps-same, keeps-more, keeps-weak_made, keeps-released}
 use Rattle.mm_laws.proofs.FollowingPlain.{same_marks-object, same_marks-plain}

@@ -21,7 +21,7 @@ use Rattle.mm_model.specs.Good.{IsReferring, IsGood}
 use Rattle.mm_model.specs.Step.{IsStepUnless, IsCarriedOut, IsStep}
 use Rattle.mm_model.proofs.Lists.Keyed.{refuted}
 use Rattle.mm_model.proofs.Good.Living.{each_get}
-use Rattle.mm_model.proofs.FlatView.Resolving.{resolved-lives}
+use Rattle.mm_model.proofs.Good.Meanings.{resolved-lives}
 
 module _ (a : State) (i birth : ℕ) (value : Value) (good : IsGood a) (cell : slice_get a.stack i ≡ Some value)
     (origin : value.origin ≡ Some birth) where

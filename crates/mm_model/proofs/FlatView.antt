@@ -1,3 +1,4 @@
+pub mod Around
 pub mod Creating
 pub mod PlainEffects
 pub mod RefusalsShown

@@ -1,3 +1,4 @@
+pub mod Allowed
 pub mod AreaBirths
 pub mod AreaStores
 pub mod Around
@@ -7,7 +8,9 @@ pub mod Closing
 pub mod CountedStores
 pub mod CountedWords
 pub mod Graying
+pub mod LiveLists
 pub mod Living
+pub mod Meanings
 pub mod Numbers
 pub mod OtherAreas
 pub mod Partners

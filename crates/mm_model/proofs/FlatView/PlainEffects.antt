@@ -18,7 +18,8 @@ use Rattle.mm_model.specs.FlatEffect.{FlatEffect, flat_meant, flat_slot_kind, fa
 use Rattle.mm_model.proofs.FlatView.Creating.{Refines}
 use Rattle.mm_model.proofs.Good.Living.{each_get}
 use Rattle.mm_model.proofs.FlatView.RefusalsShown.{any-same}
-use Rattle.mm_model.proofs.FlatView.Resolving.{IsMeant, is_meant, meant-shown}
+use Rattle.mm_model.proofs.FlatView.Resolving.{meant-shown}
+use Rattle.mm_model.proofs.Good.Meanings.{IsMeant, is_meant}
 use Rattle.mm_model.proofs.Good.Shading.{put_is_good}
 use Rattle.mm_model.proofs.FlatView.Showing.{any-shown}
 use Rattle.mm_model.proofs.FlatView.ShowingStores.{shows-put}

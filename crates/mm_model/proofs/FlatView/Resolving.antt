@@ -17,40 +17,10 @@ use Rattle.mm_model.specs.FlatEffect.{flat_resolved, flat_meant}
 use Rattle.mm_model.proofs.Places.Falling.{falls_from}
 use Rattle.mm_model.proofs.Lists.Keyed.{keyed-get}
 use Rattle.mm_model.proofs.Lists.Growing.{find-Some, find-only, position_from-get, position_from-Some}
-use Rattle.mm_model.proofs.Good.Living.{each_get, lives_once, lives_once_at, lives_same}
+use Rattle.mm_model.proofs.Good.Living.{each_get, lives_once, lives_same, lives_where}
+use Rattle.mm_model.proofs.Good.LiveLists.{find-lives_at}
+use Rattle.mm_model.proofs.Good.Meanings.{resolved-lives, meant-resolved}
 use Rattle.mm_model.proofs.Places.Placing.{both}
-
-pub lives_from : (a : State) (birth : ℕ) (object : Object) (b : Bool) → slice_get a.objects birth ≡ Some object
-    → (is_live object && b) ≡ true → Lives a birth object
-lives_from a birth object b is e = record { is = is; live = (both _ _ e).0 }
-
-both_true : (a b : Bool) → a ≡ true → b ≡ true → (a && b) ≡ true
-both_true true b p q = q
-both_true false b p q = cc
-
-module _ (a : State) (placed : IsPlaced a.settings.max (live_pieces a)) where
-  -- the live object at a base
-  pub find-lives : (birth : ℕ) (object : Object) → Lives a birth object
-      → find (lives_at object.base) a.objects ≡ Some object
-  find-lives birth object h =
-      find-only (lives_at object.base) a.objects birth object h.is
-      (both_true (is_live object) (nat_eq object.base object.base) h.live (eq-eqb object.base object.base refl))
-      (λ i other is passes.
-      let lives = lives_from a i other _ is passes in
-      let base : other.base ≡ object.base = eqb-true _ _ (both _ _ passes).1 in
-      lives_same a birth other object
-      (subst (λ n. Lives a n other) (lives_once_at a placed i birth other object lives h base) lives) h)
-
-  -- the live object in which a word falls
-  pub resolved-lives : (birth : ℕ) (object : Object) (word : ℕ) → Lives a birth object
-      → falls word object.base object.extent ≡ true → resolved a word ≡ Some birth
-  resolved-lives birth object word h f =
-      position_from-get (falls_in word) a.objects birth object h.is (both_true _ _ h.live f)
-      (λ i other is passes.
-      let lives = lives_from a i other _ is passes in
-      let there = falls_from word other.base other.extent (both _ _ passes).1 in
-      let here = falls_from word object.base object.extent f in
-      lives_once a placed i birth other object lives h word there.0 there.1 here.0 here.1)
 
 -- an object of a view, as a live object of a state that the view shows
 pub record IsShown (a : State) (held : FlatObject) : Type 0 where
@@ -75,7 +45,7 @@ module _ (view : FlatView) (a : State) (placed : IsPlaced a.settings.max (live_p
           record {
             birth = place.place;
             object = object;
-            lives = lives_from a place.place object _ place.is place.passes;
+            lives = lives_where a place.place object _ place.is place.passes;
             is = cc;
           }
 
@@ -83,7 +53,7 @@ module _ (view : FlatView) (a : State) (placed : IsPlaced a.settings.max (live_p
   pub flat_at-lives : (birth : ℕ) (object : Object) → Lives a birth object
       → flat_at view.objects object.base ≡ Some (flat_object a object)
   flat_at-lives birth object h =
-      shows.objects object.base ∙ ap (option_map (flat_object a)) (find-lives a placed birth object h)
+      shows.objects object.base ∙ ap (option_map (flat_object a)) (find-lives_at a placed birth object h)
 
   -- the word falls in it, so the view finds it
   pub flat_resolved-lives : (birth : ℕ) (object : Object) (word : ℕ) → Lives a birth object
@@ -129,70 +99,9 @@ module _ (view : FlatView) (a : State) (placed : IsPlaced a.settings.max (live_p
       split None e = flat_resolved-none word e
       split (Some birth) e =
           let place = position_from-Some (falls_in word) a.objects birth e in
-          let lives = lives_from a birth place.0 _ place.1 place.2 in
+          let lives = lives_where a birth place.0 _ place.1 place.2 in
           flat_resolved-lives birth place.0 word lives (both _ _ place.2).1
           ∙ ap (option_map (flat_object a)) (sym place.1)
-
--- What a stack cell means lives, and its word falls in it.
-pub record IsMeant (a : State) (i birth : ℕ) (object : Object) : Type 0 where
-  pub value : Value
-  pub cell : slice_get a.stack i ≡ Some value
-  pub meant_is : meant_at a i ≡ Some birth
-  pub lives : Lives a birth object
-  pub falls_there : falls value.word object.base object.extent ≡ true
-
-module _ (a : State) (good : IsGood a) where
-  meant_lives : (value : Value) → IsReferring a value → (birth : ℕ) → meant a value ≡ Some birth
-      → (object : Object) × Lives a birth object × (falls value.word object.base object.extent ≡ true)
-  meant_lives value refers birth e = split value.origin refl refers e
-    where
-      split : (origin : Option ℕ) → value.origin ≡ origin
-          → IfSome origin (λ birth. (o : Object) × Lives a birth o × IsTrue (falls value.word o.base o.extent))
-          → option_or origin (resolved a value.word) ≡ Some birth
-          → (object : Object) × Lives a birth object × (falls value.word object.base object.extent ≡ true)
-      split None p h q =
-          let place = position_from-Some (falls_in value.word) a.objects birth q in
-          (place.0, lives_from a birth place.0 _ place.1 place.2, (both _ _ place.2).1)
-      split (Some origin) p h q =
-          let same : origin ≡ birth = cc in
-          (h.0, subst (λ n. Lives a n h.0) same h.1, h.2)
-
-  pub is_meant : (i : ℕ) (object : Object) → object_meant a i ≡ Some object → (birth : ℕ) × IsMeant a i birth object
-  is_meant i object e = split (slice_get a.stack i) refl e
-    where
-      second : (value : Value) → slice_get a.stack i ≡ Some value → (found : Option ℕ) → meant a value ≡ found
-          → option_and_then (slice_get a.objects) found ≡ Some object → (birth : ℕ) × IsMeant a i birth object
-      second value cell None p q = cc
-      second value cell (Some birth) p q =
-          let refers = each_get (IsReferring a) a.stack i value good.referred.stack cell in
-          let one = meant_lives value refers birth p in
-          let is = one.1.is in
-          let same : one.0 ≡ object = cc in (
-            birth,
-            record {
-              value = value;
-              cell = cell;
-              meant_is = ap (option_and_then (meant a)) cell ∙ p;
-              lives = subst (λ o. Lives a birth o) same one.1;
-              falls_there = subst (λ (o : Object). falls value.word o.base o.extent ≡ true) same one.2;
-            },
-          )
-
-      split : (cell : Option Value) → slice_get a.stack i ≡ cell
-          → option_and_then (slice_get a.objects) (option_and_then (meant a) cell) ≡ Some object
-          → (birth : ℕ) × IsMeant a i birth object
-      split None p q = cc
-      split (Some value) p q = second value p (meant a value) refl q
-
-  -- the word alone resolves to what a reference means
-  pub meant-resolved : (value : Value) → IsReferring a value → meant a value ≡ resolved a value.word
-  meant-resolved value refers = split value.origin refers
-    where
-      split : (origin : Option ℕ)
-          → IfSome origin (λ birth. (o : Object) × Lives a birth o × IsTrue (falls value.word o.base o.extent))
-          → option_or origin (resolved a value.word) ≡ resolved a value.word
-      split None h = refl
-      split (Some birth) h = sym (resolved-lives a good.placed birth h.0 value.word h.1 h.2)
 
 -- A stack cell means in a view what it means in each good state that the view shows.
 pub meant-shown : (view : FlatView) (a : State) → IsGood a → FlatShows view a → (i : ℕ)

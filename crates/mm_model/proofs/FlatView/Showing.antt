@@ -2,6 +2,7 @@
 use Rattle.std.proofs.Common.{◌≡◌, ℕ, zero, suc, ◌+◌, ◌-◌, ◌<◌, ◌≤◌, Bool, true, false, cond, eqb-true, ◌&&◌, ◌||◌, List, [], ◌∷◌, ◌++◌, map, length, replicate, Option, Some, None, refl, sym, ap, ◌∙◌, ⊎_elim, arith}
 use Rattle.std.proofs.lemmas.List.{length_push, get_or_append_left, get_or_push}
 use Rattle.std.proofs.lemmas.List.Elements.{filter-append}
+use Rattle.std.proofs.lemmas.List.Folds.{list_any-append}
 use Rattle.std.specs.Prelude.{IfSome, slice_get, slice_index_or, nat_eq}
 use Rattle.std.specs.List.{find, position_from, list_any, AllByRecursion, IsDistinct}
 use Rattle.std.specs.Option.{option_map, option_and_then, option_or}
@@ -21,56 +22,9 @@ use Rattle.mm_model.specs.SizeClass.{extent_of, object_bytes}
 use Rattle.mm_model.proofs.Places.Placing.{some_with, each_both, both}
 use Rattle.mm_model.proofs.Lists.Keyed.{at, IsKeyed, seen_alike, refuted, found_key, any_from_at, any-map, keyed-push}
 use Rattle.mm_model.proofs.Good.Living.{each_after, all_apart-after, some_extent}
+use Rattle.mm_model.proofs.Good.LiveLists.{find-live, any-live, keyed-lives}
 use Rattle.mm_model.proofs.Lists.Growing.{Found, find-Some, find-push, position_from-push, position_from-below, get-front}
 use Rattle.mm_model.proofs.Places.SeenAlike.{AreSeenAlike}
-
--- the live object at a base, found among all or among the live ones
-find-live : (objects : List Object) (base : ℕ)
-    → find (lives_at base) objects ≡ find (λ o. nat_eq o.base base) (live_objects objects)
-find-live [] base = refl
-find-live (o ∷ os) base =
-    let split : (b : Bool) → cond (b && nat_eq o.base base) (Some o) (find (lives_at base) os) ≡
-    find (λ (o : Object). nat_eq o.base base) (cond b (o ∷ live_objects os) (live_objects os)) =
-    elim [ true ↦ ap (cond (nat_eq o.base base) (Some o)) (find-live os base) | false ↦ find-live os base ] in
-    split (is_live o)
-
-distinct_bases : (limit : ℕ) (p q : Piece) → IsInside limit p → IsInside limit q → AreApart p q
-    → nat_eq p.base q.base ≡ false
-distinct_bases limit p q i j a =
-    let x = some_extent limit p i in
-    let y = some_extent limit q j in
-    let other : p.base ≡ q.base → ⊥ = λ same.
-    ⊎_elim (λ (l : p.base + p.extent ≤ q.base). omega arith)
-    (λ (l : q.base + q.extent ≤ p.base). omega arith) a.disjoint in
-    refuted (nat_eq p.base q.base) (λ e. other (eqb-true _ _ e))
-
--- Two that live begin at different bases.
-keyed-live : (limit : ℕ) (objects : List Object) → AllByRecursion (IsInside limit) (map object_piece objects)
-    → AreAllApart (map object_piece objects) → IsKeyed (λ o. o.base) objects
-unfolding IsDistinct
-keyed-live limit [] i a = tt
-keyed-live limit (o ∷ os) i a = (others os i.1 a.0, keyed-live limit os i.1 a.1)
-  where
-    others : (qs : List Object) → AllByRecursion (IsInside limit) (map object_piece qs)
-        → AllByRecursion (AreApart (object_piece o)) (map object_piece qs)
-        → AllByRecursion (λ base. nat_eq o.base base ≡ false) (map (λ o. o.base) qs)
-    others [] j b = tt
-    others (q ∷ qs) j b = (distinct_bases limit (object_piece o) (object_piece q) i.0 j.0 b.0, others qs j.1 b.1)
-
--- the live objects of a good state stand under their bases
-pub keyed_good : (a : State) → IsGood a → IsKeyed (λ o. o.base) (live_objects a.objects)
-keyed_good a good =
-    keyed-live a.settings.max (live_objects a.objects)
-    (each_after _ (map area_piece a.areas) _ good.placed.inside)
-    (all_apart-after (map area_piece a.areas) _ good.placed.apart)
-
-any-append : {X : Type 0} (test : X → Bool) (xs ys : List X)
-    → list_any test (xs ++ ys) ≡ (list_any test xs || list_any test ys)
-any-append test [] ys = refl
-any-append test (x ∷ xs) ys =
-    let split : (b : Bool) → (b || list_any test (xs ++ ys)) ≡ ((b || list_any test xs) || list_any test ys) =
-    elim [ true ↦ refl | false ↦ any-append test xs ys ] in
-    split (test x)
 
 area_pieces-held : (areas : List Area) → map flat_area_piece (map flat_area areas) ≡ map area_piece areas
 area_pieces-held [] = refl
@@ -89,21 +43,12 @@ pieces_alike view a good shows test =
     λ k. ap (option_map flat_piece) (shows.objects k) ∙ piece-held a (find (lives_at k) a.objects)
     ∙ ap (option_map object_piece) (find-live a.objects k) in
     let objects = seen_alike (λ o. o.base) (λ o. o.base) flat_piece object_piece view.objects
-    (live_objects a.objects) shows.distinct (keyed_good a good) alike test in
-    any-append test (map flat_area_piece view.areas) (map flat_piece view.objects)
+    (live_objects a.objects) shows.distinct (keyed-lives a good.placed) alike test in
+    list_any-append test (map flat_area_piece view.areas) (map flat_piece view.objects)
     ∙ ap (λ areas. list_any test (map flat_area_piece areas) || list_any test (map flat_piece view.objects)) shows.areas
     ∙ ap (λ ps. list_any test ps || list_any test (map flat_piece view.objects)) (area_pieces-held a.areas)
     ∙ ap (λ b. list_any test (map area_piece a.areas) || b) objects
-    ∙ sym (any-append test (map area_piece a.areas) (map object_piece (live_objects a.objects)))
-
-any-live : (test : Object → Bool) (objects : List Object)
-    → list_any test (live_objects objects) ≡ list_any (λ o. is_live o && test o) objects
-any-live test [] = refl
-any-live test (o ∷ os) =
-    let split : (b : Bool) → list_any test (cond b (o ∷ live_objects os) (live_objects os))
-    ≡ ((b && test o) || list_any (λ o. is_live o && test o) os) =
-    elim [ true ↦ ap (λ b. test o || b) (any-live test os) | false ↦ any-live test os ] in
-    split (is_live o)
+    ∙ sym (list_any-append test (map area_piece a.areas) (map object_piece (live_objects a.objects)))
 
 map-itself : {X : Type 0} (xs : List X) → map (λ x. x) xs ≡ xs
 map-itself [] = refl
@@ -125,7 +70,7 @@ pub any-shown : (view : FlatView) (a : State) → IsGood a → FlatShows view a 
 any-shown view a good shows test =
     ap (list_any test) (sym (map-itself view.objects))
     ∙ seen_alike (λ o. o.base) (λ o. o.base) (λ x. x) (flat_object a) view.objects (live_objects a.objects) shows.distinct
-    (keyed_good a good) (objects_alike view a shows) test
+    (keyed-lives a good.placed) (objects_alike view a shows) test
     ∙ any-map (flat_object a) test (live_objects a.objects) ∙ any-live (λ o. test (flat_object a o)) a.objects
 
 words_of-zeros : (n : ℕ) → words_of (replicate n (integer 0)) ≡ replicate n 0

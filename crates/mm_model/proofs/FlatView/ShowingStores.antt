@@ -22,8 +22,10 @@ use Rattle.mm_model.specs.FlatView.{FlatView, FlatObject, FlatColour, FlatCycle,
 use Rattle.mm_model.specs.FlatEffect.{flat_resolved, flat_slot_kind, with_flat_word, flat_grayed, with_flat_grayed, is_black_at, is_done_at, is_flat_passed, flat_put}
 use Rattle.mm_model.proofs.Lists.Keyed.{refuted}
 use Rattle.mm_model.proofs.Lists.Growing.{find-Some, position_from-Some, position_from-get}
-use Rattle.mm_model.proofs.Good.Living.{lives_same, lives_once_at}
-use Rattle.mm_model.proofs.FlatView.Resolving.{lives_from, find-lives, resolved-shown, resolved-lives}
+use Rattle.mm_model.proofs.Good.Living.{lives_same, lives_once_at, lives_where}
+use Rattle.mm_model.proofs.Good.LiveLists.{find-lives_at}
+use Rattle.mm_model.proofs.Good.Meanings.{resolved-lives}
+use Rattle.mm_model.proofs.FlatView.Resolving.{resolved-shown}
 use Rattle.mm_model.proofs.Lists.Replaced.{get-set_same, get-set_other, map-set, map_live-set, position_from-set_alike, option_get-set_alike, find-set_None, find-map_alike, map-map_alike}
 use Rattle.mm_model.proofs.Good.Stores.{with_store, keeps-store, store_is_good}
 use Rattle.mm_model.proofs.Good.Shading.{shade, colour-grayed, barrier_cycle, put-is}
@@ -87,7 +89,7 @@ module _ (view : FlatView) (a : State) (good : IsGood a) (shows : FlatShows view
   shown-store x (Some o) e =
       let place = find-Some (lives_at x) a.objects o e in
       let n = place.place in
-      let there = lives_from a n o _ place.is place.passes in
+      let there = lives_where a n o _ place.is place.passes in
       let base : o.base ≡ x = eqb-true _ _ (both _ _ place.passes).1 in
       let split : (b : Bool) → (n == birth) ≡ b → Some (step (flat_object a o)) ≡ shown_at store x =
       elim [
@@ -96,7 +98,7 @@ module _ (view : FlatView) (a : State) (good : IsGood a) (shows : FlatShows view
             let same : o ≡ object = lives_same a birth o object (subst (λ m. Lives a m o) here there) lives in
             let at_x : object.base ≡ x = ap (λ (y : Object). y.base) (sym same) ∙ base in
             let found : find (lives_at x) store.objects ≡ Some changed =
-            ap (λ y. find (lives_at y) store.objects) (sym at_x) ∙ find-lives store store_placed birth changed changed_lives in
+            ap (λ y. find (lives_at y) store.objects) (sym at_x) ∙ find-lives_at store store_placed birth changed changed_lives in
             let stepped : step (flat_object a o) ≡ record own { words = slice_set own.words s value.word } =
             ap (λ (y : Object). step (flat_object a y)) same
             ∙ ap (λ b. if b then record own { words = slice_set own.words s value.word } else own)
@@ -107,7 +109,7 @@ module _ (view : FlatView) (a : State) (good : IsGood a) (shows : FlatShows view
             let lives_on : Lives store n o =
             record { is = get-set_other a.objects birth n changed apart ∙ there.is; live = there.live } in
             let found : find (lives_at x) store.objects ≡ Some o =
-            ap (λ y. find (lives_at y) store.objects) (sym base) ∙ find-lives store store_placed n o lives_on in
+            ap (λ y. find (lives_at y) store.objects) (sym base) ∙ find-lives_at store store_placed n o lives_on in
             let other : (o.base == object.base) ≡ false =
             refuted _ (λ q. apart (lives_once_at a good.placed n birth o object there lives (eqb-true _ _ q))) in
             let stepped : step (flat_object a o) ≡ flat_object a o =
@@ -173,7 +175,7 @@ module _ (view : FlatView) (a : State) (good : IsGood a) (shows : FlatShows view
       position_from-get (lives_at o.base) a.objects n o h.is
       (ap (λ b. b && nat_eq o.base o.base) h.live ∙ eq-eqb o.base o.base refl)
       (λ j other is passes.
-      lives_once_at a good.placed j n other o (lives_from a j other _ is passes) h
+      lives_once_at a good.placed j n other o (lives_where a j other _ is passes) h
       (eqb-true _ _ (both _ _ passes).1))
 
   module _ (h : FlatCycle) (cycle : Cycle) (coloured : IsColoured a cycle) (shown : FlatShowsCycle h a cycle) where
@@ -366,7 +368,7 @@ module _ (view : FlatView) (a : State) (good : IsGood a) (shows : FlatShows view
         split (Some k) e =
             let place = position_from-Some (falls_in value.word) store.objects k e in
             let t = place.0 in
-            let here = lives_from store k t _ place.1 place.2 in
+            let here = lives_where store k t _ place.1 place.2 in
             let test = names_by_base n o there k t here (both _ _ place.2).1 in
             ap (λ found. view_shade (option_map (flat_object store) found) entry) place.1
             ∙ shade-colour (flat_object store t) entry
@@ -383,7 +385,7 @@ module _ (view : FlatView) (a : State) (good : IsGood a) (shows : FlatShows view
         entry n p None q r = cc
         entry n p (Some e) q r =
             let place = position_from-Some (lives_at x) a.objects n p in
-            let there = lives_from a n place.0 _ place.1 place.2 in
+            let there = lives_where a n place.0 _ place.1 place.2 in
             let on = keeps-store a good birth object lives s value refers uncounted n place.0 there in
             let at_x : place.0.base ≡ x = eqb-true _ _ (both _ _ place.2).1 in
             let own_base : e.base ≡ x =

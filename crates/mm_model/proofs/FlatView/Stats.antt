@@ -19,51 +19,11 @@ use Rattle.mm_model.specs.FlatView.{FlatView, FlatObject, FlatShows, flat_object
 use Rattle.mm_model.specs.FlatEffect.{flat_pieces, flat_region_pages, flat_counted_slots, flat_counted_cells, flat_refs, is_flat_zero_count, flat_zero_count, flat_free_pages, flat_plain_effect}
 use Rattle.mm_model.proofs.FlatView.Creating.{Refines}
 use Rattle.mm_model.proofs.Lists.KeyedSums.{sums_alike, count-flat_map}
-use Rattle.mm_model.proofs.Places.SeenAlike.{AreSeenAlike, is_vacant-alike}
-use Rattle.mm_model.proofs.FlatView.Showing.{keyed_good, objects_alike, pieces_alike}
-use Rattle.mm_model.proofs.Lists.Tests.{same_tests}
+use Rattle.mm_model.proofs.Places.SeenAlike.{is_vacant-alike}
+use Rattle.mm_model.proofs.FlatView.Showing.{objects_alike, pieces_alike}
+use Rattle.mm_model.proofs.Good.LiveLists.{count-live, keyed-lives}
+use Rattle.mm_model.proofs.Places.Ends.{fold-alike}
 use mathlib.Core.Path.{fun_ext}
-
--- the greatest end of pieces, as tests see it
-unfoldable pub ends : ℕ → Piece → Bool
-ends n piece = nat_lt n ((piece.base + piece.extent + 4095) / 4096)
-
-pub fold-ends : (least n : ℕ) (pieces : List Piece)
-    → nat_lt n (fold page_end least pieces) ≡ (nat_lt n least || list_any (ends n) pieces)
-unfolding ends
-fold-ends least n [] = or_false (nat_lt n least)
-  where
-    or_false : (b : Bool) → b ≡ (b || false)
-    or_false true = refl
-    or_false false = refl
-fold-ends least n (p ∷ ps) =
-    fold-ends (page_end least p) n ps
-    ∙ ap (λ b. b || list_any (ends n) ps) (past_max n least ((p.base + p.extent + 4095) / 4096))
-    ∙ regroup (nat_lt n least) (ends n p) (list_any (ends n) ps)
-  where
-    past_max : (n k m : ℕ) → nat_lt n (max k m) ≡ (nat_lt n k || nat_lt n m)
-    past_max n k m =
-        same_tests (nat_lt n (max k m)) (nat_lt n k || nat_lt n m) (λ e. grind (arith, nat_tests))
-        (λ e. grind (arith, nat_tests))
-
-    regroup : (b c d : Bool) → ((b || c) || d) ≡ (b || (c || d))
-    regroup true c d = refl
-    regroup false c d = refl
-
-same_bounds : (m n : ℕ) → ((k : ℕ) → nat_lt k m ≡ nat_lt k n) → m ≡ n
-same_bounds m n same =
-    let below : (k : ℕ) → nat_lt k m ≡ nat_lt k n → k < m → k < n = λ k e l. grind (arith, nat_tests) in
-    let above : (k : ℕ) → nat_lt k m ≡ nat_lt k n → k < n → k < m = λ k e l. grind (arith, nat_tests) in
-    let one : n < m → ⊥ = λ l. let more = below n (same n) l in omega arith in
-    let other : m < n → ⊥ = λ l. let more = above m (same m) l in omega arith in
-    equal m n one other
-  where
-    equal : (m n : ℕ) → (n < m → ⊥) → (m < n → ⊥) → m ≡ n
-    equal m n f g = omega arith
-
-fold-alike : (least : ℕ) (ps qs : List Piece) → AreSeenAlike ps qs → fold page_end least ps ≡ fold page_end least qs
-fold-alike least ps qs alike =
-    same_bounds _ _ (λ k. fold-ends least k ps ∙ ap (λ b. nat_lt k least || b) (alike (ends k)) ∙ sym (fold-ends least k qs))
 
 module _ (view : FlatView) (a : State) (good : IsGood a) (shows : FlatShows view a) where
   region_pages-shown : flat_region_pages view ≡ region_pages a
@@ -83,7 +43,7 @@ module _ (view : FlatView) (a : State) (good : IsGood a) (shows : FlatShows view
   sum-shown : (f : FlatObject → ℕ) → sum_by f view.objects ≡ sum_by (λ o. f (flat_object a o)) (live_objects a.objects)
   sum-shown f =
       sums_alike (λ o. o.base) (λ o. o.base) (λ x. x) (flat_object a) view.objects (live_objects a.objects) shows.distinct
-      (keyed_good a good) (objects_alike view a shows) f
+      (keyed-lives a good.placed) (objects_alike view a shows) f
 
   counted_slots-held : (o : Object) → flat_counted_slots (flat_object a o) ≡ counted_slots o
   counted_slots-held o = split (is_scanned o.kind)
@@ -125,20 +85,6 @@ module _ (view : FlatView) (a : State) (good : IsGood a) (shows : FlatShows view
       sums_same objects =
           ap (λ f. sum_by f objects)
           (fun_ext (λ o. ap (count_by (λ word. word == base)) (counted_slots-held o)))
-
-  -- a count over the live objects is one over all
-  count-live : (test : Object → Bool) (objects : List Object)
-      → count_by test (live_objects objects) ≡ count_by (λ o. is_live o && test o) objects
-  count-live test [] = refl
-  count-live test (o ∷ os) =
-      let rest = count-live test os in
-      let split : (b : Bool) → count_by test (cond b (o ∷ live_objects os) (live_objects os))
-      ≡ cond (b && test o) 1 0 + count_by (λ o. is_live o && test o) os =
-      elim [
-        | true ↦ sum_by-cons (λ o. cond (test o) 1 0) o (live_objects os) ∙ ap (λ n. cond (test o) 1 0 + n) rest
-        | false ↦ rest ∙ sym (zero-add _)
-      ] in
-      split (is_live o) ∙ sym (sum_by-cons (λ o. cond (is_live o && test o) 1 0) o os)
 
   zero_count-shown : flat_zero_count view ≡ zero_count a
   zero_count-shown =

@@ -1,15 +1,12 @@
 -- A good state stays good with another stack, cycle, threshold and number of commands, where these fit its objects.
-use Rattle.std.proofs.Common.{◌≡◌, ℕ, ◌+◌, List, Option, Some, None, take, refl, ap}
+use Rattle.std.proofs.Common.{◌≡◌, ℕ, ◌+◌, List, Option, Some, None, take, refl}
 use Rattle.std.specs.Prelude.{IfSome}
 use Rattle.std.specs.List.{AllByRecursion}
-use Rattle.mm_model.specs.declared.line.Totals.{Totals}
-use Rattle.mm_model.specs.Value.{Value, words_of}
+use Rattle.mm_model.specs.Value.{Value}
 use Rattle.mm_model.specs.Object.{Object}
 use Rattle.mm_model.specs.State.{State, Cycle, Lives, one_more_command}
 use Rattle.mm_model.specs.Words.{slot_kind, cell_kind, scanned_slots}
 use Rattle.mm_model.specs.Good.{IsReferring, IsPaired, NamesNoWhite, IsPartlyScanned, IsColoured, IsGood}
-use Rattle.mm_model.specs.FlatView.{FlatView, FlatCycle, FlatShows, FlatShowsCycles}
-use Rattle.mm_model.specs.FlatEffect.{one_more_carried_out}
 use Rattle.mm_model.proofs.Good.References.{Keeps, is_stored-kept, each_referring-kept}
 
 pub if_some-weaker : {X : Type 0} (P Q : X → Type 0) → ((x : X) → P x → Q x) → (o : Option X) → IfSome o P → IfSome o Q
@@ -94,40 +91,3 @@ good-stack a stack good refers = good-around a stack a.cycle a.threshold a.comma
 pub carried_out_is_good : (a : State) → IsGood a → IsGood (one_more_command a)
 carried_out_is_good a good =
     good-around a a.stack a.cycle a.threshold (a.commands + 1) good good.referred.stack good.coloured
-
--- what a view shows of a cycle, it shows of it beside any stack and number of commands
-cycles-around : (a : State) (stack : List Value) (commands : ℕ) (entries : Option FlatCycle) (cycle : Option Cycle)
-    → FlatShowsCycles entries a cycle → FlatShowsCycles entries (record a { stack = stack; commands = commands }) cycle
-cycles-around a stack commands None None shows = tt
-cycles-around a stack commands None (Some cycle) shows = shows
-cycles-around a stack commands (Some entries) None shows = shows
-cycles-around a stack commands (Some entries) (Some cycle) shows =
-    record { colours = shows.colours; gone_before = shows.gone_before; partly_scanned = shows.partly_scanned }
-
-pub shows-stack : (view : FlatView) (a : State) (stack : List Value) (words : List ℕ) → FlatShows view a
-    → words ≡ words_of stack → FlatShows (record view { stack = words }) (with_stack stack a)
-shows-stack view a stack words shows e =
-    record {
-      objects = shows.objects;
-      distinct = shows.distinct;
-      stack = e;
-      areas = shows.areas;
-      cycle = cycles-around a stack a.commands view.cycle a.cycle shows.cycle;
-      threshold = shows.threshold;
-      totals = shows.totals;
-      settings = shows.settings;
-    }
-
-pub shows-carried_out : (view : FlatView) (a : State) → FlatShows view a
-    → FlatShows (one_more_carried_out view) (one_more_command a)
-shows-carried_out view a shows =
-    record {
-      objects = shows.objects;
-      distinct = shows.distinct;
-      stack = shows.stack;
-      areas = shows.areas;
-      cycle = cycles-around a a.stack (a.commands + 1) view.cycle a.cycle shows.cycle;
-      threshold = shows.threshold;
-      totals = ap (λ (totals : Totals). record totals { commands = totals.commands + 1 }) shows.totals;
-      settings = shows.settings;
-    }

@@ -1,11 +1,12 @@
 -- Live objects of a good state lie in the region and apart from one another.
 use Rattle.std.proofs.Common.{◌≡◌, ℕ, zero, suc, ◌+◌, ◌<◌, ◌≤◌, Bool, true, false, cond, List, [], ◌∷◌, ◌++◌, map, Some, refl, sym, ap, ◌∙◌, subst, ⊎_elim, arith}
-use Rattle.std.specs.Prelude.{slice_get}
+use Rattle.std.specs.Prelude.{slice_get, ◌&&◌}
 use Rattle.std.specs.List.{AllByRecursion}
 use Rattle.mm_model.specs.Object.{Object, is_live, live_objects}
 use Rattle.mm_model.specs.State.{State, Lives}
 use Rattle.mm_model.specs.Place.{Piece, object_piece, area_piece, live_pieces}
 use Rattle.mm_model.specs.Good.{IsCell, IsPages, IsInside, AreApart, AreAllApart, IsPlaced}
+use Rattle.mm_model.proofs.Places.Placing.{both}
 use Rattle.mm_model.proofs.Places.SizeClasses.{class_bounds}
 
 pub each_after : {X : Type 0} (P : X → Type 0) (xs ys : List X) → AllByRecursion P (xs ++ ys) → AllByRecursion P ys
@@ -79,6 +80,11 @@ some_extent limit p h =
 -- the object with a birth number is one alone
 pub lives_same : (a : State) (birth : ℕ) (x y : Object) → Lives a birth x → Lives a birth y → x ≡ y
 lives_same a birth x y h k = let f = h.is in let g = k.is in cc
+
+-- what passes a test of live objects lives
+pub lives_where : (a : State) (birth : ℕ) (object : Object) (b : Bool) → slice_get a.objects birth ≡ Some object
+    → (is_live object && b) ≡ true → Lives a birth object
+lives_where a birth object b is e = record { is = is; live = (both _ _ e).0 }
 
 module _ (a : State) (placed : IsPlaced a.settings.max (live_pieces a)) where
   pub lives_inside : (birth : ℕ) (object : Object) → Lives a birth object

@@ -23,8 +23,9 @@ use Rattle.mm_model.proofs.Good.CountedStores.{any_put_is_good}
 use Rattle.mm_model.proofs.Places.Falling.{falls_at_base}
 use Rattle.mm_model.proofs.Good.Living.{lives_extent}
 use Rattle.mm_model.proofs.Good.OtherAreas.{dropped_is_good}
-use Rattle.mm_model.proofs.FlatView.Resolving.{is_meant}
-use Rattle.mm_model.proofs.FlatView.StackEffects.{each_drop, all_allowed, word_at-value, refers_at, inner_refers}
+use Rattle.mm_model.proofs.Good.Meanings.{is_meant, refers_at}
+use Rattle.mm_model.proofs.Good.Allowed.{all_allowed, word_at-value, inner_refers}
+use Rattle.mm_model.proofs.Lists.Parts.{each_drop}
 
 -- a test that doesn't hold of what was found
 fails_of : {X : Type 0} (test : X → Bool) (found : Option X) (x : X) → option_map_or test found false ≡ false

@@ -16,7 +16,7 @@ use Rattle.mm_model.proofs.Good.Closing.{Spares, closed_from}
 use Rattle.mm_model.proofs.Good.Phases.{reap-spares, collection-spares, reaped_is_good, collected_is_good}
 use Rattle.mm_model.proofs.Places.Placing.{some_with}
 use Rattle.mm_model.proofs.Good.Releases.{stays_lives}
-use Rattle.mm_model.proofs.FlatView.Stats.{ends, fold-ends}
+use Rattle.mm_model.proofs.Places.Ends.{ends, fold-ends}
 
 -- the region has at most its greatest number of pages
 pub region_pages-most : (a : State) → IsPlaced a.settings.max (live_pieces a) → a.settings.pages ≤ a.settings.max

@@ -28,11 +28,11 @@ use Rattle.mm_model.proofs.Good.Births.{made_is_good}
 use Rattle.mm_model.proofs.Lists.Growing.{any_from_get}
 use Rattle.mm_model.proofs.Good.Phases.{reaped_is_good, collected_is_good, finished_is_good}
 use Rattle.mm_model.proofs.Good.PlainGood.{plain_is_good}
-use Rattle.mm_model.proofs.FlatView.Resolving.{IsMeant, is_meant}
+use Rattle.mm_model.proofs.Good.Meanings.{IsMeant, is_meant}
 use Rattle.mm_model.proofs.Good.Scanning.{scanned_is_good}
 use Rattle.mm_model.proofs.Good.Shapes.{shaped-newborn, shaped-area}
 use Rattle.mm_model.proofs.Good.Searching.{IsFound, searched_is_found}
-use Rattle.mm_model.proofs.FlatView.StackEffects.{first_refusal-None, all_allowed}
+use Rattle.mm_model.proofs.Good.Allowed.{first_refusal-None, all_allowed}
 use Rattle.mm_model.proofs.Good.WeakReferences.{weak_made_is_good, kept_weak_is_good}
 
 -- `new` isn't refused

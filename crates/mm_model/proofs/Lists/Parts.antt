@@ -1,5 +1,5 @@
 -- Lists of which some elements are left out.
-use Rattle.std.proofs.Common.{◌≡◌, ℕ, zero, suc, ◌≤◌, Bool, true, false, cond, List, [], ◌∷◌, ◌++◌, map, Some, refl, sym, ap, ◌∙◌, subst, arith}
+use Rattle.std.proofs.Common.{◌≡◌, ℕ, zero, suc, ◌≤◌, Bool, true, false, cond, List, [], ◌∷◌, ◌++◌, drop, map, Some, refl, sym, ap, ◌∙◌, subst, arith}
 use Rattle.std.proofs.lemmas.List.Sums.{sum_by-append}
 use Rattle.std.specs.Prelude.{slice_get}
 use Rattle.std.specs.List.{flat_map, count_by, AllByRecursion}
@@ -7,6 +7,11 @@ use Rattle.mm_model.specs.Object.{Object, is_live, live_objects}
 use Rattle.mm_model.specs.Place.{Piece}
 use Rattle.mm_model.specs.Good.{AreApart, AreAllApart}
 use Rattle.mm_model.proofs.Good.Living.{each_before, each_after, each_append}
+
+pub each_drop : {X : Type 0} (P : X → Type 0) (k : ℕ) (xs : List X) → AllByRecursion P xs → AllByRecursion P (drop k xs)
+each_drop P zero xs h = h
+each_drop P (suc k) [] h = tt
+each_drop P (suc k) (x ∷ xs) h = each_drop P k xs h.1
 
 -- the first list is the second one with elements left out
 pub data IsPart {X : Type 0} : List X → List X → Type 0 where

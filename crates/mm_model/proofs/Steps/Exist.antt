@@ -23,8 +23,8 @@ use Rattle.mm_model.specs.Effect.{Effect, new_effect, weak_effect, area_effect, 
 use Rattle.mm_model.specs.Refusing.{refusal, no_cell, means_nothing, means_weak, is_stack_full}
 use Rattle.mm_model.specs.Step.{IsPlain, Makes, MakesWeak, Reaps, Collects, Finishes, Carries, Ends, Refused_as_full, Below_threshold, At_threshold, is_full, IsStepUnless, IsStep}
 use Rattle.mm_model.specs.Good.{IsGood}
-use Rattle.mm_model.proofs.FlatView.Resolving.{is_meant}
-use Rattle.mm_model.proofs.FlatView.StackEffects.{all_allowed, found_some}
+use Rattle.mm_model.proofs.Good.Meanings.{is_meant}
+use Rattle.mm_model.proofs.Good.Allowed.{all_allowed, found_some}
 use Rattle.mm_model.proofs.Decided.Bases.{bases_of_decided}
 use Rattle.mm_model.proofs.Decided.Sets.{reached_or_not, reapable_or_not, freed_at_finish_or_not}
 use Rattle.mm_model.proofs.Steps.Scans.{scans_exist}

@@ -20,25 +20,16 @@ use Rattle.mm_model.proofs.Places.Falling.{falls_from}
 use Rattle.mm_model.proofs.Places.Placing.{both}
 use Rattle.mm_model.proofs.Lists.Growing.{position_from-get, position_from-Some}
 use Rattle.mm_model.proofs.Lists.Truth.{together}
-use Rattle.mm_model.proofs.Good.Living.{each_get, lives_once}
-use Rattle.mm_model.proofs.View.Seen.{seen_based, lives_where, one_birth, birth_at-lives, find-seen, find-seen-none}
+use Rattle.mm_model.proofs.Good.Living.{lives_once, lives_where}
+use Rattle.mm_model.proofs.Good.LiveLists.{one_birth, birth_at-lives}
+use Rattle.mm_model.proofs.Good.Meanings.{resolved-lives, refers_at, meant-resolved}
+use Rattle.mm_model.proofs.View.Seen.{seen_based, find-seen, find-seen-none}
 
 -- the object with a birth number, as it stands in the view if it lives
 abbrev pub based_birth : State → ℕ → Option (Based ObjectView)
 based_birth a birth = option_map (seen_based a birth) (slice_get a.objects birth)
 
 module _ (a : State) (placed : IsPlaced a.settings.max (live_pieces a)) where
-  -- the live object in which a word falls
-  pub resolved-lives : (birth : ℕ) (object : Object) (word : ℕ) → Lives a birth object
-      → falls word object.base object.extent ≡ true → resolved a word ≡ Some birth
-  resolved-lives birth object word h f =
-      position_from-get (falls_in word) a.objects birth object h.is (together _ _ h.live f)
-      (λ i other is passes.
-      let lives = lives_where a i other _ is passes in
-      let there = falls_from word other.base other.extent (both _ _ passes).1 in
-      let here = falls_from word object.base object.extent f in
-      lives_once a placed i birth other object lives h word there.0 there.1 here.0 here.1)
-
   resolved_in-lives : (birth : ℕ) (object : Object) (word : ℕ) → Lives a birth object
       → falls word object.base object.extent ≡ true
       → resolved_in (seen_objects a) word ≡ Some (seen_based a birth object)
@@ -57,7 +48,7 @@ module _ (a : State) (placed : IsPlaced a.settings.max (live_pieces a)) where
           → resolved_in (seen_objects a) word ≡ option_and_then (based_birth a) found
       split None e =
           find-seen-none a placed (λ o. falls word o.base o.value.extent)
-          (λ birth object lives passes. let some = resolved-lives birth object word lives passes in cc)
+          (λ birth object lives passes. let some = resolved-lives a placed birth object word lives passes in cc)
       split (Some birth) e =
           let place = position_from-Some (falls_in word) a.objects birth e in
           let lives = lives_where a birth place.0 _ place.1 place.2 in
@@ -91,67 +82,7 @@ module _ (a : State) (placed : IsPlaced a.settings.max (live_pieces a)) where
           ap (object_at (seen_objects a)) (sym own) ∙ object_at-lives birth place.0 lives
           ∙ sym (ap (option_map (seen_based a birth)) place.1)
 
--- What a stack cell means lives, and its word falls in it.
-pub record IsMeant (a : State) (i birth : ℕ) (object : Object) : Type 0 where
-  pub value : Value
-  pub cell : slice_get a.stack i ≡ Some value
-  pub meant_is : meant_at a i ≡ Some birth
-  pub lives : Lives a birth object
-  pub falls_there : falls value.word object.base object.extent ≡ true
-
 module _ (a : State) (good : IsGood a) where
-  pub meant_lives : (value : Value) → IsReferring a value → (birth : ℕ) → meant a value ≡ Some birth
-      → (object : Object) × Lives a birth object × (falls value.word object.base object.extent ≡ true)
-  meant_lives value refers birth e = split value.origin refl refers e
-    where
-      split : (origin : Option ℕ) → value.origin ≡ origin
-          → IfSome origin (λ birth. (o : Object) × Lives a birth o × IsTrue (falls value.word o.base o.extent))
-          → option_or origin (resolved a value.word) ≡ Some birth
-          → (object : Object) × Lives a birth object × (falls value.word object.base object.extent ≡ true)
-      split None p h q =
-          let place = position_from-Some (falls_in value.word) a.objects birth q in
-          (place.0, lives_where a birth place.0 _ place.1 place.2, (both _ _ place.2).1)
-      split (Some origin) p h q =
-          let same : origin ≡ birth = cc in
-          (h.0, subst (λ n. Lives a n h.0) same h.1, h.2)
-
-  pub refers_at : (i : ℕ) (value : Value) → slice_get a.stack i ≡ Some value → IsReferring a value
-  refers_at i value e = each_get (IsReferring a) a.stack i value good.referred.stack e
-
-  pub is_meant_at : (i birth : ℕ) → meant_at a i ≡ Some birth → (object : Object) × IsMeant a i birth object
-  is_meant_at i birth e = split (slice_get a.stack i) refl e
-    where
-      split : (cell : Option Value) → slice_get a.stack i ≡ cell → option_and_then (meant a) cell ≡ Some birth
-          → (object : Object) × IsMeant a i birth object
-      split None p q = cc
-      split (Some value) p q =
-          let one = meant_lives value (refers_at i value p) birth q in (
-            one.0,
-            record { value = value; cell = p; meant_is = e; lives = one.1; falls_there = one.2 },
-          )
-
-  pub is_meant : (i : ℕ) (object : Object) → object_meant a i ≡ Some object → (birth : ℕ) × IsMeant a i birth object
-  is_meant i object e = split (meant_at a i) refl e
-    where
-      split : (found : Option ℕ) → meant_at a i ≡ found
-          → option_and_then (slice_get a.objects) found ≡ Some object → (birth : ℕ) × IsMeant a i birth object
-      split None p q = cc
-      split (Some birth) p q =
-          let one = is_meant_at i birth p in
-          let is = one.1.lives.is in
-          let same : one.0 ≡ object = cc in
-          (birth, subst (λ o. IsMeant a i birth o) same one.1)
-
-  -- the word alone resolves to what a reference means
-  pub meant-resolved : (value : Value) → IsReferring a value → meant a value ≡ resolved a value.word
-  meant-resolved value refers = split value.origin refers
-    where
-      split : (origin : Option ℕ)
-          → IfSome origin (λ birth. (o : Object) × Lives a birth o × IsTrue (falls value.word o.base o.extent))
-          → option_or origin (resolved a value.word) ≡ resolved a value.word
-      split None h = refl
-      split (Some birth) h = sym (resolved-lives a good.placed birth h.0 value.word h.1 h.2)
-
   -- a stack cell means in the view what it means in the state
   pub view_meant-seen : (i : ℕ) → view_meant (view_of a) i ≡ option_and_then (based_birth a) (meant_at a i)
   view_meant-seen i =
@@ -164,7 +95,7 @@ module _ (a : State) (good : IsGood a) where
       split None e = refl
       split (Some value) e =
           resolved_in-seen a good.placed value.word
-          ∙ ap (option_and_then (based_birth a)) (sym (meant-resolved value (refers_at i value e)))
+          ∙ ap (option_and_then (based_birth a)) (sym (meant-resolved a good value (refers_at a good i value e)))
 
   -- what is asked of the object that a cell means
   pub asked_of-meant : {X : Type 0} (f : Based ObjectView → X) (own : Object → X) (none : X)

@@ -27,7 +27,8 @@ use Rattle.mm_model.proofs.View.Bases.{reaps-seen, collects-seen, finishes-seen}
 use Rattle.mm_model.proofs.View.Changes.{seen_at-changed}
 use Rattle.mm_model.proofs.View.Meaning.{object_at-lives}
 use Rattle.mm_model.proofs.View.Releases.{objects-released, cycle-released}
-use Rattle.mm_model.proofs.View.Seen.{find-lives_at, seen_objects-changed}
+use Rattle.mm_model.proofs.View.Seen.{seen_objects-changed}
+use Rattle.mm_model.proofs.Good.LiveLists.{find-lives_at}
 use Rattle.mm_model.proofs.View.Totals.{totals-released}
 use Rattle.mm_model.proofs.View.Words.{view_zero_count-seen}
 

@@ -21,7 +21,8 @@ use Rattle.mm_model.specs.ViewEffect.{ViewEffect, with_found, view_look_effect, 
 use Rattle.mm_model.proofs.View.Seen.{seen_based}
 use Rattle.mm_model.proofs.View.Words.{view_zero_count-seen}
 use Rattle.mm_model.proofs.View.Room.{view_free_pages-seen}
-use Rattle.mm_model.proofs.View.Meaning.{based_birth, IsMeant, is_meant_at, view_meant-seen}
+use Rattle.mm_model.proofs.View.Meaning.{based_birth, view_meant-seen}
+use Rattle.mm_model.proofs.Good.Meanings.{IsMeant, is_meant_at}
 use Rattle.mm_model.proofs.View.SameEffects.{SameEffect, nothing-same, found-same}
 
 module _ (a : State) where

@@ -18,7 +18,8 @@ use Rattle.mm_model.specs.ViewStep.{view_place_now, view_place_grown}
 use Rattle.mm_model.proofs.Lists.Keyed.{any-map}
 use Rattle.mm_model.proofs.Places.Ends.{fold-alike}
 use Rattle.mm_model.proofs.Places.SeenAlike.{AreSeenAlike, is_vacant-alike, place_among-alike}
-use Rattle.mm_model.proofs.View.Seen.{any-live, any-seen}
+use Rattle.mm_model.proofs.View.Seen.{any-seen}
+use Rattle.mm_model.proofs.Good.LiveLists.{any-live}
 
 any-append : {X : Type 0} (test : X → Bool) (xs ys : List X)
     → list_any test (xs ++ ys) ≡ (list_any test xs || list_any test ys)

@@ -17,7 +17,7 @@ use Rattle.mm_model.specs.Good.{IsGood}
 use Rattle.mm_model.specs.View.{view_of}
 use Rattle.mm_model.specs.ViewEffect.{ViewEffect, view_new_effect, view_area_effect}
 use Rattle.mm_model.specs.ViewStep.{ViewIsPlain, ViewMakes, ViewCarries, ViewRowUnless, IsViewRow}
-use Rattle.mm_model.proofs.FlatView.StackEffects.{first_refusal-None}
+use Rattle.mm_model.proofs.Good.Allowed.{first_refusal-None}
 use Rattle.mm_model.proofs.View.Areas.{drop_area-seen, area_get-seen, area_effect-seen}
 use Rattle.mm_model.proofs.View.AreaStores.{area_put-seen}
 use Rattle.mm_model.proofs.View.Graying.{begin-seen}

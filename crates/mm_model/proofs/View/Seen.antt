@@ -23,16 +23,13 @@ use Rattle.mm_model.proofs.Lists.KeyedSums.{sums_alike}
 use Rattle.mm_model.proofs.Lists.Truth.{together}
 use Rattle.mm_model.proofs.Places.Placing.{both}
 use Rattle.mm_model.proofs.Places.SizeClasses.{class_bounds}
-use Rattle.mm_model.proofs.Good.Living.{each_after, all_apart-after, some_extent, lives_same, lives_inside, lives_once_at}
+use Rattle.mm_model.proofs.Good.Living.{each_after, all_apart-after, some_extent, lives_same, lives_inside, lives_once_at, lives_where}
+use Rattle.mm_model.proofs.Good.LiveLists.{find-live, any-live, count-live, keyed-lives, one_birth, birth_at-lives, find-lives_at}
 use Rattle.mm_model.proofs.View.Entries.{get-changed, length-changed, get-with_entry, same_entries, based_at, begins_at, keyed-based}
 
 -- a live object as it stands in the view
 abbrev pub seen_based : State → ℕ → Object → Based ObjectView
 seen_based a birth object = record { base = object.base; value = seen a birth object }
-
-pub lives_where : (a : State) (birth : ℕ) (object : Object) (b : Bool) → slice_get a.objects birth ≡ Some object
-    → (is_live object && b) ≡ true → Lives a birth object
-lives_where a birth object b is e = record { is = is; live = (both _ _ e).0 }
 
 -- a live object that the view has at a base
 pub record IsSeen (a : State) (base : ℕ) (o : ObjectView) : Type 0 where
@@ -123,33 +120,11 @@ based_path {b = b} {y = y} p q =
     ap (λ c. record { base = c; value = y }) (sym p) ∙ ap (λ z. record { base = b; value = z }) q
 
 module _ (a : State) (placed : IsPlaced a.settings.max (live_pieces a)) where
-  -- one object alone begins at a base
-  pub one_birth : (i j : ℕ) (o p : Object) → Lives a i o → Lives a j p → o.base ≡ p.base → i ≡ j
-  one_birth i j o p h k same = lives_once_at a placed i j o p h k same
-
-  pub birth_at-lives : (birth : ℕ) (object : Object) → Lives a birth object → birth_at a object.base ≡ Some birth
-  birth_at-lives birth object h =
-      position_from-get (lives_at object.base) a.objects birth object h.is
-      (together _ _ h.live (eq-eqb object.base object.base refl))
-      (λ i other is passes.
-      let lives = lives_where a i other _ is passes in
-      one_birth i birth other object lives h (eqb-true _ _ (both _ _ passes).1))
-
-  pub find-lives_at : (birth : ℕ) (object : Object) → Lives a birth object
-      → find (lives_at object.base) a.objects ≡ Some object
-  find-lives_at birth object h =
-      find-only (lives_at object.base) a.objects birth object h.is
-      (together _ _ h.live (eq-eqb object.base object.base refl))
-      (λ i other is passes.
-      let lives = lives_where a i other _ is passes in
-      let same = one_birth i birth other object lives h (eqb-true _ _ (both _ _ passes).1) in
-      lives_same a birth other object (subst (λ n. Lives a n other) same lives) h)
-
   pub seen_at-lives : (birth : ℕ) (object : Object) → Lives a birth object
       → seen_at a object.base ≡ Some (seen a birth object)
   seen_at-lives birth object h =
       ap (option_and_then (λ birth. option_map (seen a birth) (slice_get a.objects birth)))
-      (birth_at-lives birth object h)
+      (birth_at-lives a placed birth object h)
       ∙ ap (option_map (seen a birth)) h.is
 
   pub begins-seen : (birth : ℕ) (object : Object) → Lives a birth object
@@ -171,67 +146,7 @@ module _ (a : State) (placed : IsPlaced a.settings.max (live_pieces a)) where
       let one = seen-begins a o.base o.value (begins_at (seen_objects a) n o e) in
       (one.birth, one.object, one.lives, based_path one.at one.is)
 
--- the live object at a base, found among all or among the live ones
-find-live : (objects : List Object) (base : ℕ)
-    → find (lives_at base) objects ≡ find (λ o. nat_eq o.base base) (live_objects objects)
-find-live [] base = refl
-find-live (o ∷ os) base =
-    let split : (b : Bool) → cond (b && nat_eq o.base base) (Some o) (find (lives_at base) os) ≡
-    find (λ (o : Object). nat_eq o.base base) (cond b (o ∷ live_objects os) (live_objects os)) =
-    elim [ true ↦ ap (cond (nat_eq o.base base) (Some o)) (find-live os base) | false ↦ find-live os base ] in
-    split (is_live o)
-
-distinct_bases : (limit : ℕ) (p q : Piece) → IsInside limit p → IsInside limit q → AreApart p q
-    → nat_eq p.base q.base ≡ false
-distinct_bases limit p q i j a =
-    let x = some_extent limit p i in
-    let y = some_extent limit q j in
-    let other : p.base ≡ q.base → ⊥ = λ same.
-    ⊎_elim (λ (l : p.base + p.extent ≤ q.base). omega arith)
-    (λ (l : q.base + q.extent ≤ p.base). omega arith) a.disjoint in
-    refuted (nat_eq p.base q.base) (λ e. other (eqb-true _ _ e))
-
--- two that live begin at different bases
-keyed-live : (limit : ℕ) (objects : List Object) → AllByRecursion (IsInside limit) (map object_piece objects)
-    → AreAllApart (map object_piece objects) → IsKeyed (λ o. o.base) objects
-unfolding IsDistinct
-keyed-live limit [] i a = tt
-keyed-live limit (o ∷ os) i a = (others os i.1 a.0, keyed-live limit os i.1 a.1)
-  where
-    others : (qs : List Object) → AllByRecursion (IsInside limit) (map object_piece qs)
-        → AllByRecursion (AreApart (object_piece o)) (map object_piece qs)
-        → AllByRecursion (λ base. nat_eq o.base base ≡ false) (map (λ o. o.base) qs)
-    others [] j b = tt
-    others (q ∷ qs) j b = (distinct_bases limit (object_piece o) (object_piece q) i.0 j.0 b.0, others qs j.1 b.1)
-
-pub any-live : (test : Object → Bool) (objects : List Object)
-    → list_any test (live_objects objects) ≡ list_any (λ o. is_live o && test o) objects
-any-live test [] = refl
-any-live test (o ∷ os) =
-    let split : (b : Bool) → list_any test (cond b (o ∷ live_objects os) (live_objects os))
-    ≡ ((b && test o) || list_any (λ o. is_live o && test o) os) =
-    elim [ true ↦ ap (λ b. test o || b) (any-live test os) | false ↦ any-live test os ] in
-    split (is_live o)
-
-pub count-live : (test : Object → Bool) (objects : List Object)
-    → count_by test (live_objects objects) ≡ count_by (λ o. is_live o && test o) objects
-count-live test [] = refl
-count-live test (o ∷ os) =
-    let rest = count-live test os in
-    let split : (b : Bool) → count_by test (cond b (o ∷ live_objects os) (live_objects os))
-    ≡ cond (b && test o) 1 0 + count_by (λ o. is_live o && test o) os =
-    elim [
-      | true ↦ sum_by-cons (λ o. cond (test o) 1 0) o (live_objects os) ∙ ap (λ n. cond (test o) 1 0 + n) rest
-      | false ↦ rest ∙ sym (zero-add _)
-    ] in
-    split (is_live o) ∙ sym (sum_by-cons (λ o. cond (is_live o && test o) 1 0) o os)
-
 module _ (a : State) (placed : IsPlaced a.settings.max (live_pieces a)) where
-  keyed-lives : IsKeyed (λ o. o.base) (live_objects a.objects)
-  keyed-lives =
-      keyed-live a.settings.max (live_objects a.objects) (each_after _ (map area_piece a.areas) _ placed.inside)
-      (all_apart-after (map area_piece a.areas) _ placed.apart)
-
   -- what tells the same of each live object and of what the view has of it tells the same under each base
   same_under : {P : Type 0} (f : Based ObjectView → P) (own : Object → P)
       → ((birth : ℕ) (object : Object) → Lives a birth object → f (seen_based a birth object) ≡ own object)
@@ -271,7 +186,7 @@ module _ (a : State) (placed : IsPlaced a.settings.max (live_pieces a)) where
   any-seen test own same =
       sym (any-map test (λ b. b) (based (seen_objects a)))
       ∙ seen_alike (λ o. o.base) (λ o. o.base) test own (based (seen_objects a)) (live_objects a.objects)
-      (keyed-based (seen_objects a)) keyed-lives (same_under test own same) (λ b. b)
+      (keyed-based (seen_objects a)) (keyed-lives a placed) (same_under test own same) (λ b. b)
       ∙ any-map own (λ b. b) (live_objects a.objects) ∙ any-live own a.objects
 
   pub sum-seen : (f : Based ObjectView → ℕ) (own : Object → ℕ)
@@ -279,7 +194,7 @@ module _ (a : State) (placed : IsPlaced a.settings.max (live_pieces a)) where
       → sum_by f (based (seen_objects a)) ≡ sum_by own (live_objects a.objects)
   sum-seen f own same =
       sums_alike (λ o. o.base) (λ o. o.base) f own (based (seen_objects a)) (live_objects a.objects)
-      (keyed-based (seen_objects a)) keyed-lives (same_under f own same) (λ n. n)
+      (keyed-based (seen_objects a)) (keyed-lives a placed) (same_under f own same) (λ n. n)
 
   pub count-seen : (test : Based ObjectView → Bool) (own : Object → Bool)
       → ((birth : ℕ) (object : Object) → Lives a birth object → test (seen_based a birth object) ≡ own object)

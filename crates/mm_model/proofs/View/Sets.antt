@@ -11,7 +11,8 @@ use Rattle.mm_model.specs.ObjectView.{ObjectView, names_at, scanned_words_of}
 use Rattle.mm_model.specs.SetsByBase.{IsReachedAt, IsUnreachedAt}
 use Rattle.mm_model.specs.View.{seen, seen_objects}
 use Rattle.mm_model.proofs.Good.Living.{lives_same}
-use Rattle.mm_model.proofs.View.Seen.{begins-seen, seen-begins, one_birth}
+use Rattle.mm_model.proofs.View.Seen.{begins-seen, seen-begins}
+use Rattle.mm_model.proofs.Good.LiveLists.{one_birth}
 
 -- A live object's base is in the one set exactly where its birth number is in the other.
 pub record IsSameSet (a : State) (ByBirth AtBase : ℕ → Type 0) : Type 0 where

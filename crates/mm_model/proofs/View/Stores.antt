@@ -22,7 +22,8 @@ use Rattle.mm_model.proofs.Good.Living.{lives_inside}
 use Rattle.mm_model.proofs.Places.Placing.{both}
 use Rattle.mm_model.proofs.View.Alike.{cycle-alike, totals-alike}
 use Rattle.mm_model.proofs.View.Changes.{seen_at-same}
-use Rattle.mm_model.proofs.View.Seen.{seen_based, piece_grain, birth_at-lives, seen_objects-with_entry}
+use Rattle.mm_model.proofs.Good.LiveLists.{birth_at-lives}
+use Rattle.mm_model.proofs.View.Seen.{seen_based, piece_grain, seen_objects-with_entry}
 
 module _ (a : State) (placed : IsPlaced a.settings.max (live_pieces a)) (birth : ℕ) (object : Object)
     (lives : Lives a birth object) (s : ℕ) (value : Value) where

@@ -15,7 +15,8 @@ use Rattle.mm_model.specs.ViewPhase.{so_many_freed}
 use Rattle.mm_model.proofs.Lists.Counts.{count-none_passes, count-one_passes, sum_by-split}
 use Rattle.mm_model.proofs.Lists.Keyed.{refuted}
 use Rattle.mm_model.proofs.Places.Placing.{both}
-use Rattle.mm_model.proofs.View.Seen.{one_birth, lives_where}
+use Rattle.mm_model.proofs.Good.Living.{lives_where}
+use Rattle.mm_model.proofs.Good.LiveLists.{one_birth}
 
 -- a number below all of a list isn't listed
 unlisted_below : (base : ℕ) (bases : List ℕ) → AllByRecursion (λ next. base < next) bases → lists bases base ≡ false

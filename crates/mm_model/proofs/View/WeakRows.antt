@@ -21,7 +21,8 @@ use Rattle.mm_model.specs.ViewEffect.{ViewEffect, view_pushes, view_weak_effect}
 use Rattle.mm_model.specs.ViewStep.{ViewIsPlain, ViewMakesWeak, ViewMakesWeakOf}
 use Rattle.mm_model.proofs.Lists.Growing.{any_from_get}
 use Rattle.mm_model.proofs.View.Makes.{RowShown, same-is, makes-shown}
-use Rattle.mm_model.proofs.View.Meaning.{IsMeant, based_birth, is_meant_at, view_meant-seen}
+use Rattle.mm_model.proofs.View.Meaning.{based_birth, view_meant-seen}
+use Rattle.mm_model.proofs.Good.Meanings.{IsMeant, is_meant_at}
 use Rattle.mm_model.proofs.View.SameEffects.{SameEffect}
 use Rattle.mm_model.proofs.View.Scanning.{base_of-lives}
 use Rattle.mm_model.proofs.View.Seen.{seen_based}
