@@ -1,5 +1,5 @@
 -- What a heap shows, in words alone: no origins, no birth numbers, no gone objects.
-use Rattle.std.specs.Prelude.{◌≡◌, ℕ, Bool, nat_eq, List, map, Option, Some, None, slice_get, slice_index_or, ⊤}
+use Rattle.std.specs.Prelude.{◌≡◌, ℕ, Bool, nat_eq, List, map, Option, Some, None, slice_index_or, ⊤}
 use Rattle.std.specs.List.{find, position_from, IsDistinct}
 use Rattle.std.specs.Option.{option_map, option_and_then}
 use Rattle.mm_model.specs.declared.object.Kind.{Kind}
@@ -10,6 +10,7 @@ use Rattle.mm_model.specs.declared.settings.Settings.{Settings}
 use Rattle.mm_model.specs.Value.{words_of}
 use Rattle.mm_model.specs.Object.{Object}
 use Rattle.mm_model.specs.State.{State, Area, Cycle, PartlyScanned, lives_at, totals_of}
+use Rattle.mm_model.specs.View.{base_of}
 
 -- a live object as the heap holds it
 pub record FlatObject : Type 0 where
@@ -60,10 +61,6 @@ pub record FlatView : Type 0 where
 abbrev pub flat_at : List FlatObject → ℕ → Option FlatObject
 flat_at objects base = find (λ object. nat_eq object.base base) objects
 
--- the base of the object with a birth number
-abbrev pub base_of : State → ℕ → Option ℕ
-base_of a birth = option_map (λ object. object.base) (slice_get a.objects birth)
-
 -- an object as the heap holds it
 abbrev pub flat_object : State → Object → FlatObject
 flat_object a object =
@@ -99,7 +96,8 @@ colour_at a cycle base =
     option_map (λ birth. slice_index_or cycle.colours birth White) (position_from (lives_at base) 0 a.objects)
 
 abbrev pub flat_partly_scanned : State → PartlyScanned → Option FlatPartlyScanned
-flat_partly_scanned a partly_scanned = option_map (λ base. record { base = base; slots_done = partly_scanned.slots_done }) (base_of a partly_scanned.object)
+flat_partly_scanned a partly_scanned =
+    option_map (λ base. record { base = base; slots_done = partly_scanned.slots_done }) (base_of a partly_scanned.object)
 
 pub record FlatShowsCycle (held : FlatCycle) (a : State) (cycle : Cycle) : Type 0 where
   pub colours : (base : ℕ) →

@@ -14,7 +14,8 @@ use Rattle.mm_model.specs.declared.object.Colour.TheVariants.{White, Black}
 use Rattle.mm_model.specs.State.{State, Area, Cycle, PartlyScanned, lives_at, totals_of, live_count, with_black_birth}
 use Rattle.mm_model.specs.Place.{Piece, object_piece, area_piece, live_pieces}
 use Rattle.mm_model.specs.Good.{AreApart, AreAllApart, IsInside, IsPaired, IsPartlyScanned, IsColoured, IsGood}
-use Rattle.mm_model.specs.FlatView.{FlatView, FlatObject, FlatColour, FlatCycle, FlatShows, FlatShowsCycles, colour_at, flat_partly_scanned, flat_at, flat_object, flat_area, shown_at, base_of}
+use Rattle.mm_model.specs.FlatView.{FlatView, FlatObject, FlatColour, FlatCycle, FlatShows, FlatShowsCycles, colour_at, flat_partly_scanned, flat_at, flat_object, flat_area, shown_at}
+use Rattle.mm_model.specs.View.{base_of}
 use Rattle.mm_model.specs.FlatEffect.{flat_piece, flat_area_piece, flat_pieces, flat_newborn, flat_black_birth, one_more_birth, flat_made}
 use Rattle.mm_model.specs.Effect.{made_at}
 use Rattle.std.proofs.lemmas.Bool.{eq-eqb}

@@ -18,7 +18,8 @@ use Rattle.mm_model.specs.Marking.{is_white, is_black, is_raw, colour_of, done_i
 use Rattle.mm_model.specs.Place.{live_pieces}
 use Rattle.mm_model.specs.Store.{is_counted_slot, with_slot, put_in_slot}
 use Rattle.mm_model.specs.Good.{IsPlaced, IsReferring, IsPartlyScanned, IsColoured, IsGood}
-use Rattle.mm_model.specs.FlatView.{FlatView, FlatObject, FlatColour, FlatCycle, FlatShows, FlatShowsCycle, FlatShowsCycles, flat_object, flat_at, shown_at, base_of, colour_at, flat_partly_scanned}
+use Rattle.mm_model.specs.FlatView.{FlatView, FlatObject, FlatColour, FlatCycle, FlatShows, FlatShowsCycle, FlatShowsCycles, flat_object, flat_at, shown_at, colour_at, flat_partly_scanned}
+use Rattle.mm_model.specs.View.{base_of}
 use Rattle.mm_model.specs.FlatEffect.{flat_resolved, flat_slot_kind, with_flat_word, flat_grayed, with_flat_grayed, is_black_at, is_done_at, is_flat_passed, flat_put}
 use Rattle.mm_model.proofs.Lists.Keyed.{refuted}
 use Rattle.mm_model.proofs.Lists.Growing.{find-Some, position_from-Some, position_from-get}
