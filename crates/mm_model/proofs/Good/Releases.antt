@@ -47,6 +47,55 @@ pub record IsClosed (a : State) (bases : List ℕ) : Type 0 where
       → AllByRecursion (HoldsOn a bases) (counted_slots object)
   pub counted_cells : AllByRecursion (HoldsOn a bases) (counted_cell_words a)
 
+module _ (a : State) (bases : List ℕ) where
+  -- what lives afterwards, as it was: it isn't listed
+  pub record Stayed (birth : ℕ) (object : Object) : Type 0 where
+    pub before : Object
+    pub lived : Lives a birth before
+    pub unlisted : lists bases before.base ≡ false
+    pub is : record before { partner = unless_freed a bases before.partner } ≡ object
+
+  pub stayed : (birth : ℕ) (object : Object) → Lives (released bases a) birth object → Stayed birth object
+  stayed birth object h = by_birth (slice_get a.objects birth) refl
+    where
+      by_freed : (o : Object) → slice_get a.objects birth ≡ Some o → (freed : Bool) → is_freed bases o ≡ freed
+          → (if freed then record o { gone = true } else record o { partner = unless_freed a bases o.partner })
+          ≡ object → Stayed birth object
+      by_freed o e true f same = let live = ap is_live same ∙ h.live in cc
+      by_freed o e false f same =
+          let live : is_live o ≡ true = ap is_live same ∙ h.live in
+          record {
+            before = o;
+            lived = record { is = e; live = live };
+            unlisted = sym (ap (λ c. c && lists bases o.base) live) ∙ f;
+            is = same;
+          }
+
+      by_birth : (found : Option Object) → slice_get a.objects birth ≡ found → Stayed birth object
+      by_birth None e =
+          let none = ap (option_map (after_release a bases)) (sym e)
+          ∙ sym (slice_get-map (after_release a bases) a.objects birth) ∙ h.is in
+          cc
+      by_birth (Some o) e =
+          let is : Some (after_release a bases o) ≡ Some object =
+          ap (option_map (after_release a bases)) (sym e)
+          ∙ sym (slice_get-map (after_release a bases) a.objects birth) ∙ h.is in
+          let same : after_release a bases o ≡ object = cc in
+          by_freed o e (is_freed bases o) refl same
+
+  -- and what isn't listed goes on to live
+  pub stays_lives : (birth : ℕ) (object : Object) → Lives a birth object → lists bases object.base ≡ false
+      → Lives (released bases a) birth (record object { partner = unless_freed a bases object.partner })
+  stays_lives birth object h e =
+      let free : is_freed bases object ≡ false = ap (λ c. c && lists bases object.base) h.live ∙ e in
+      record {
+        is = slice_get-map (after_release a bases) a.objects birth
+            ∙ ap (option_map (after_release a bases)) h.is
+            ∙ ap (λ c. Some (if c then record object { gone = true }
+            else record object { partner = unless_freed a bases object.partner })) free;
+        live = h.live;
+      }
+
 module _ (a : State) (good : IsGood a) (bases : List ℕ) (closed : IsClosed a bases) where
   abbrev b : State
   b = released bases a
@@ -68,51 +117,6 @@ module _ (a : State) (good : IsGood a) (bases : List ℕ) (closed : IsClosed a b
       → change o ≡ record o { partner = unless_freed a bases o.partner }
   change-stays o e =
       ap (λ c. if c then record o { gone = true } else record o { partner = unless_freed a bases o.partner }) e
-
-  -- what lives afterwards lived before and isn't listed
-  pub record Stayed (birth : ℕ) (object : Object) : Type 0 where
-    pub before : Object
-    pub lived : Lives a birth before
-    pub unlisted : lists bases before.base ≡ false
-    pub is : record before { partner = unless_freed a bases before.partner } ≡ object
-
-  pub stayed : (birth : ℕ) (object : Object) → Lives b birth object → Stayed birth object
-  stayed birth object h = split (slice_get a.objects birth) refl
-    where
-      unlisted : (o : Object) → is_live o ≡ true → is_freed bases o ≡ false → lists bases o.base ≡ false
-      unlisted o l f = sym (ap (λ c. c && lists bases o.base) l) ∙ f
-
-      split : (found : Option Object) → slice_get a.objects birth ≡ found → Stayed birth object
-      split None e =
-          let is = sym (slice_get-map change a.objects birth) ∙ h.is in
-          let none = ap (option_map change) e in
-          cc
-      split (Some o) e =
-          let is : Some (change o) ≡ Some object =
-          ap (option_map change) (sym e) ∙ sym (slice_get-map change a.objects birth) ∙ h.is in
-          let same : change o ≡ object = cc in
-          let parts = change-lives o (ap is_live same ∙ h.live) in
-          record {
-            before = o;
-            lived = record { is = e; live = parts.0 };
-            unlisted = unlisted o parts.0 parts.1;
-            is = sym (change-stays o parts.1) ∙ same;
-          }
-
-  -- and what isn't listed goes on to live
-  pub stays_lives : (birth : ℕ) (object : Object) → Lives a birth object → lists bases object.base ≡ false
-      → Lives b birth (record object { partner = unless_freed a bases object.partner })
-  stays_lives birth object h e =
-      let free : is_freed bases object ≡ false = ap (λ c. is_live object && c) e ∙ none (is_live object) in
-      record {
-        is = slice_get-map change a.objects birth ∙ ap (option_map change) h.is
-            ∙ ap (λ (o : Object). Some o) (change-stays object free);
-        live = h.live;
-      }
-    where
-      none : (c : Bool) → (c && false) ≡ false
-      none true = refl
-      none false = refl
 
   change-kind : (o : Object) → (change o).kind ≡ o.kind
   change-kind o = split (is_freed bases o)
@@ -150,7 +154,7 @@ module _ (a : State) (good : IsGood a) (bases : List ℕ) (closed : IsClosed a b
           → IfSome origin (λ birth. (o : Object) × Lives b birth o × IsTrue (falls value.word o.base o.extent))
       split None on h = tt
       split (Some birth) on h =
-          (record h.0 { partner = unless_freed a bases h.0.partner }, stays_lives birth h.0 h.1 (on h.0 h.1), h.2)
+          (record h.0 { partner = unless_freed a bases h.0.partner }, stays_lives a bases birth h.0 h.1 (on h.0 h.1), h.2)
 
   is_stored : (kind : SlotKind) (value : Value) → RefersOn a bases value → IsStored a kind value → IsStored b kind value
   is_stored kind value on h =
@@ -166,7 +170,7 @@ module _ (a : State) (good : IsGood a) (bases : List ℕ) (closed : IsClosed a b
       record {
         stack = each_referring a.stack closed.stack good.referred.stack;
         slots = λ birth object h s value e.
-            let w = stayed birth object h in
+            let w = stayed a bases birth object h in
             let here : slice_get w.before.slots s ≡ Some value =
             ap (λ (o : Object). slice_get o.slots s) w.is ∙ e in
             subst (λ (o : Object). IsStored b (slot_kind o s) value) w.is
@@ -189,7 +193,7 @@ module _ (a : State) (good : IsGood a) (bases : List ℕ) (closed : IsClosed a b
           let parts = both _ _ hit.3 in
           let live = both _ _ parts.0 in
           let lives : Lives a hit.0 hit.1 = record { is = hit.2; live = live.0 } in
-          let there = stays_lives hit.0 hit.1 lives (on hit.0 hit.1 lives live.1 (eqb-true _ _ parts.1)) in
+          let there = stays_lives a bases hit.0 hit.1 lives (on hit.0 hit.1 lives live.1 (eqb-true _ _ parts.1)) in
           any_from_get (begins_counted word) b.objects hit.0 _ there.is hit.3
 
   each_both_words : (P Q R : ℕ → Type 0) → ((w : ℕ) → P w → Q w → R w) → (ws : List ℕ) → AllByRecursion P ws
@@ -205,7 +209,7 @@ module _ (a : State) (good : IsGood a) (bases : List ℕ) (closed : IsClosed a b
       each_append After (flat_map counted_slots (live_objects b.objects)) (counted_cell_words a)
       (each_live-of After counted_slots b.objects
       (λ i o e l.
-      let w = stayed i o (record { is = e; live = l }) in
+      let w = stayed a bases i o (record { is = e; live = l }) in
       let words = each_of-live Before counted_slots a.objects
       (each_before Before slots (counted_cell_words a) good.tight) i w.before w.lived.is w.lived.live in
       subst (λ (x : Object). AllByRecursion After (counted_slots x)) w.is
@@ -235,7 +239,7 @@ module _ (a : State) (good : IsGood a) (bases : List ℕ) (closed : IsClosed a b
   counted : (birth : ℕ) (object : Object) → Lives b birth object → IsTrue (is_counted object.kind)
       → object.sticky ≡ false → refs b object.base ≤ 254
   counted birth object h is free =
-      let w = stayed birth object h in
+      let w = stayed a bases birth object h in
       let most = good.counted birth w.before w.lived (ap (λ (o : Object). is_counted o.kind) w.is ∙ is)
       (ap (λ (o : Object). o.sticky) w.is ∙ free) in
       let fewer = refs-released object.base in
@@ -244,7 +248,7 @@ module _ (a : State) (good : IsGood a) (bases : List ℕ) (closed : IsClosed a b
 
   shaped : (birth : ℕ) (object : Object) → Lives b birth object → IsShaped object
   shaped birth object h =
-      let w = stayed birth object h in
+      let w = stayed a bases birth object h in
       subst IsShaped w.is
       (shaped-alike w.before (record w.before { partner = unless_freed a bases w.before.partner })
       (record { extent = refl; kind = refl; finalize = refl; counted = refl; slots = refl })
@@ -269,7 +273,7 @@ module _ (a : State) (good : IsGood a) (bases : List ℕ) (closed : IsClosed a b
 
   paired : (birth : ℕ) (object : Object) → Lives b birth object → IfSome object.partner (IsPaired b birth object)
   paired birth object h =
-      let w = stayed birth object h in
+      let w = stayed a bases birth object h in
       subst (λ (o : Object). IfSome o.partner (IsPaired b birth o)) w.is
       (split w.before.partner w.before w.lived w.unlisted (good.paired birth w.before w.lived))
     where
@@ -285,7 +289,7 @@ module _ (a : State) (good : IsGood a) (bases : List ℕ) (closed : IsClosed a b
           ∙ ap (λ c. if c then None else Some birth) (freed_birth-lives birth before lived ∙ unlisted) in
           record {
             partner = record p.partner { partner = unless_freed a bases p.partner.partner };
-            lives = stays_lives other p.partner p.lives there;
+            lives = stays_lives a bases other p.partner p.lives there;
             back = back;
             one_weak = p.one_weak;
           }
@@ -301,7 +305,7 @@ module _ (a : State) (good : IsGood a) (bases : List ℕ) (closed : IsClosed a b
   module _ (cycle : Cycle) (coloured : IsColoured a cycle) where
     no_white : (words : List ℕ) → NamesNoWhite a cycle words → NamesNoWhite b (cycle_left a bases cycle) words
     no_white words f birth object h white named =
-        let w = stayed birth object h in
+        let w = stayed a bases birth object h in
         f birth w.before w.lived white (ap (λ (o : Object). names words o) w.is ∙ named)
 
     partly_scanned : (found : Option PartlyScanned) → IfSome found (IsPartlyScanned a cycle)
@@ -315,7 +319,7 @@ module _ (a : State) (good : IsGood a) (bases : List ℕ) (closed : IsClosed a b
         split false e =
             record {
               object = record h.object { partner = unless_freed a bases h.object.partner };
-              lives = stays_lives p.object h.object h.lives
+              lives = stays_lives a bases p.object h.object h.lives
                   (sym (freed_birth-lives p.object h.object h.lives) ∙ e);
               gray = h.gray;
               some_done = h.some_done;
@@ -328,7 +332,7 @@ module _ (a : State) (good : IsGood a) (bases : List ℕ) (closed : IsClosed a b
         record {
           each = coloured.each ∙ sym (length-map a.objects change);
           black = λ birth object h black.
-              let w = stayed birth object h in
+              let w = stayed a bases birth object h in
               subst (λ (o : Object). NamesNoWhite b (cycle_left a bases cycle) (scanned_slots o)) w.is
               (no_white (scanned_slots w.before) (coloured.black birth w.before w.lived black));
           partly_scanned = partly_scanned cycle.partly_scanned coloured.partly_scanned;

@@ -12,7 +12,7 @@ use Rattle.mm_model.specs.Place.{Family, live_pieces, place_of, region_pages}
 use Rattle.mm_model.specs.Phase.{unless_freed, released, reaped, collected, AreReaped, AreCollected}
 use Rattle.mm_model.specs.Search.{place_grown, Searches, At_once, After_reap, After_collection}
 use Rattle.mm_model.specs.Good.{IsInside, IsPlaced, IsGood}
-use Rattle.mm_model.proofs.Good.Closing.{Spares, closed_from}
+use Rattle.mm_model.proofs.Good.Closing.{Spares}
 use Rattle.mm_model.proofs.Good.Phases.{reap-spares, collection-spares, reaped_is_good, collected_is_good}
 use Rattle.mm_model.proofs.Places.Placing.{some_with}
 use Rattle.mm_model.proofs.Good.Releases.{stays_lives}
@@ -65,12 +65,11 @@ pub record IsFound (a : State) (family : Family) (bytes : ℕ) (b : State) (foun
   pub place : IfSome found
       (λ base. (limit : ℕ) × (limit ≤ b.settings.max) × (place_of b limit family bytes ≡ Some base))
 
-released-spares : (a : State) (good : IsGood a) (bases : List ℕ) (spares : Spares a bases) → SparesStack a (released bases a)
-released-spares a good bases spares birth object lives named =
+released-spares : (a : State) (bases : List ℕ) → Spares a bases → SparesStack a (released bases a)
+released-spares a bases spares birth object lives named =
     record {
       after = record object { partner = unless_freed a bases object.partner };
-      lives = stays_lives a good bases (closed_from a good bases spares) birth object lives
-          (spares.stack birth object lives named);
+      lives = stays_lives a bases birth object lives (spares.stack birth object lives named);
       base = refl;
       extent = refl;
       kind = refl;
@@ -79,7 +78,7 @@ released-spares a good bases spares birth object lives named =
 
 spares-reaped : (a : State) (good : IsGood a) (bases : List ℕ) → AreReaped a bases → SparesStack a (reaped bases a)
 spares-reaped a good bases are birth object lives named =
-    let one = released-spares a good bases (reap-spares a bases good are) birth object lives named in
+    let one = released-spares a bases (reap-spares a bases good are) birth object lives named in
     record {
       after = one.after;
       lives = record { is = one.lives.is; live = one.lives.live };
@@ -92,7 +91,7 @@ spares-reaped a good bases are birth object lives named =
 spares-collected : (a : State) (good : IsGood a) (bases : List ℕ) → AreCollected a bases
     → SparesStack a (collected bases a)
 spares-collected a good bases are birth object lives named =
-    let one = released-spares a good bases (collection-spares a bases good are) birth object lives named in
+    let one = released-spares a bases (collection-spares a bases good are) birth object lives named in
     record {
       after = one.after;
       lives = record { is = one.lives.is; live = one.lives.live };

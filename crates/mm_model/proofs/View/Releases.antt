@@ -13,6 +13,7 @@ use Rattle.mm_model.specs.ByBase.{changed}
 use Rattle.mm_model.specs.ObjectView.{ObjectView}
 use Rattle.mm_model.specs.View.{PartlyScannedView, base_of, seen, seen_at, seen_objects, seen_partly, seen_cycle}
 use Rattle.mm_model.specs.ViewPhase.{unless_listed, view_after_release, view_partly_left, view_cycle_left}
+use Rattle.mm_model.proofs.Good.Releases.{stayed, stays_lives}
 use Rattle.mm_model.proofs.View.Seen.{IsSeen, seen_at-some, seen_at-lives, seen_objects-changed}
 
 -- the object with a birth number begins where it began
@@ -64,54 +65,6 @@ partner-released a bases birth object (Some other) h =
     split true e = refl
     split false e = e
 
--- what lives afterwards, as it was: it isn't listed
-record IsLeft (a : State) (bases : List ℕ) (birth : ℕ) (object : Object) : Type 0 where
-  before : Object
-  lived : Lives a birth before
-  unlisted : lists bases before.base ≡ false
-  is : record before { partner = unless_freed a bases before.partner } ≡ object
-
-module _ (a : State) (bases : List ℕ) where
-  lives_before : (birth : ℕ) (object : Object) → Lives (released bases a) birth object → IsLeft a bases birth object
-  lives_before birth object h = by_birth (slice_get a.objects birth) refl
-    where
-      by_freed : (o : Object) → slice_get a.objects birth ≡ Some o → (freed : Bool) → is_freed bases o ≡ freed
-          → (if freed then record o { gone = true } else record o { partner = unless_freed a bases o.partner })
-          ≡ object → IsLeft a bases birth object
-      by_freed o e true f same = let live = ap is_live same ∙ h.live in cc
-      by_freed o e false f same =
-          let live : is_live o ≡ true = ap is_live same ∙ h.live in
-          record {
-            before = o;
-            lived = record { is = e; live = live };
-            unlisted = sym (ap (λ c. c && lists bases o.base) live) ∙ f;
-            is = same;
-          }
-
-      by_birth : (found : Option Object) → slice_get a.objects birth ≡ found → IsLeft a bases birth object
-      by_birth None e =
-          let none = ap (option_map (after_release a bases)) (sym e)
-          ∙ sym (slice_get-map (after_release a bases) a.objects birth) ∙ h.is in
-          cc
-      by_birth (Some o) e =
-          let is : Some (after_release a bases o) ≡ Some object =
-          ap (option_map (after_release a bases)) (sym e)
-          ∙ sym (slice_get-map (after_release a bases) a.objects birth) ∙ h.is in
-          let same : after_release a bases o ≡ object = cc in
-          by_freed o e (is_freed bases o) refl same
-
-  lives_after : (birth : ℕ) (object : Object) → Lives a birth object → lists bases object.base ≡ false
-      → Lives (released bases a) birth (record object { partner = unless_freed a bases object.partner })
-  lives_after birth object h e =
-      let free : is_freed bases object ≡ false = ap (λ c. c && lists bases object.base) h.live ∙ e in
-      record {
-        is = slice_get-map (after_release a bases) a.objects birth
-            ∙ ap (option_map (after_release a bases)) h.is
-            ∙ ap (λ c. Some (if c then record object { gone = true }
-            else record object { partner = unless_freed a bases object.partner })) free;
-        live = h.live;
-      }
-
 module _ (a : State) (good : IsGood a) (bases : List ℕ)
     (after : IsPlaced (released bases a).settings.max (live_pieces (released bases a))) where
   abbrev b : State
@@ -135,7 +88,7 @@ module _ (a : State) (good : IsGood a) (bases : List ℕ)
           × (object.base ≡ base) × (lists bases base ≡ false)
       before o e =
           let s = seen_at-some b base o e in
-          let w = lives_before a bases s.birth s.object s.lives in
+          let w = stayed a bases s.birth s.object s.lives in
           let at : w.before.base ≡ base = ap (λ (x : Object). x.base) w.is ∙ s.at in
           (s.birth, w.before, w.lived, at, ap (lists bases) (sym at) ∙ w.unlisted)
 
@@ -159,7 +112,7 @@ module _ (a : State) (good : IsGood a) (bases : List ℕ)
       left : (o : ObjectView) → IsSeen a base o → lists bases base ≡ false
           → seen_at b base ≡ Some (record o { partner = unless_listed bases o.partner })
       left o s e =
-          let lives = lives_after a bases s.birth s.object s.lives (ap (lists bases) s.at ∙ e) in
+          let lives = stays_lives a bases s.birth s.object s.lives (ap (lists bases) s.at ∙ e) in
           ap (seen_at b) (sym s.at)
           ∙ seen_at-lives b after s.birth
           (record s.object { partner = unless_freed a bases s.object.partner }) lives
