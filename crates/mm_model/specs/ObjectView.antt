@@ -1,5 +1,5 @@
 -- What words can tell of the live objects of a heap, without origins, birth numbers and gone objects.
-use Rattle.std.specs.Prelude.{ℕ, ◌==◌, Bool, if◌then◌else◌, List, [], ◌++◌, map, take, drop, Option, Some, None}
+use Rattle.std.specs.Prelude.{ℕ, ◌==◌, Bool, if◌then◌else◌, List, [], map, take, drop, Option}
 use Rattle.std.specs.List.{list_any, flat_map, count_by}
 use Rattle.mm_model.specs.declared.object.Kind.{Kind}
 use Rattle.mm_model.specs.declared.object.Colour.{Colour}

@@ -1,11 +1,11 @@
 -- Which objects are protected, reached, reapable and marked, by their bases, for heaps that know words alone.
-use Rattle.std.specs.Prelude.{◌≡◌, ℕ, ◌+◌, ◌==◌, ◌&&◌, Bool, not, if◌then◌else◌, IsTrue, List, ◌++◌, Option, Some}
+use Rattle.std.specs.Prelude.{◌≡◌, ℕ, ◌+◌, ◌==◌, ◌&&◌, Bool, not, if◌then◌else◌, IsTrue, List, Option, Some}
 use Rattle.std.specs.List.{count_by, AllByRecursion}
 use Rattle.mm_model.specs.declared.object.Colour.TheVariants.{White, Gray}
 use Rattle.mm_model.specs.Object.{is_counted}
 use Rattle.mm_model.specs.Marking.{is_white}
 use Rattle.mm_model.specs.Phase.{IsAscending, lists}
-use Rattle.mm_model.specs.ByBase.{Begins, Based, based, changed}
+use Rattle.mm_model.specs.ByBase.{Begins, based, changed}
 use Rattle.mm_model.specs.ObjectView.{ObjectView, ObjectsByBase, counted_words_of, word_words_of, scanned_words_of, names_at, holds_base, references_in}
 
 -- the words outside of objects that may keep one: those of the stack, of scanned areas, and of counted cells

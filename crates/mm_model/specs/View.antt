@@ -1,14 +1,14 @@
 -- What a heap shows: all of its state that words can tell. It has no origins, no birth numbers and no gone objects, so a
 -- heap can show several states. Of each state it shows this view and no other.
 use Rattle.std.specs.Prelude.{◌≡◌, ℕ, ◌*◌, Bool, List, map, Option}
-use Rattle.std.specs.List.{range_with_len, find, flat_map}
+use Rattle.std.specs.List.{range_with_len}
 use Rattle.std.specs.Option.{option_map, option_and_then}
 use Rattle.std.specs.Prelude.{slice_get}
 use Rattle.mm_model.specs.declared.line.Totals.{Totals}
 use Rattle.mm_model.specs.declared.settings.Settings.{Settings}
 use Rattle.mm_model.specs.Value.{words_of}
 use Rattle.mm_model.specs.Object.{Object}
-use Rattle.mm_model.specs.State.{State, Area, Cycle, PartlyScanned, lives_at, totals_of}
+use Rattle.mm_model.specs.State.{State, Area, Cycle, PartlyScanned, totals_of}
 use Rattle.mm_model.specs.Marking.{colour_in}
 use Rattle.mm_model.specs.After.{birth_at}
 use Rattle.mm_model.specs.ObjectView.{ObjectView, ObjectsByBase}

@@ -1,5 +1,5 @@
 -- What commands do to a view that are not refused and that free nothing.
-use Rattle.std.specs.Prelude.{ℕ, ◌+◌, ◌-◌, ◌*◌, ◌==◌, Bool, false, not, if◌then◌else◌, nat_lt, List, [], ◌∷◌, map, drop, length, replicate, Option, Some, None, is_some, unwrap_or, slice_get}
+use Rattle.std.specs.Prelude.{ℕ, ◌+◌, ◌-◌, ◌*◌, ◌==◌, Bool, false, not, if◌then◌else◌, nat_lt, List, [], ◌∷◌, drop, length, replicate, Option, Some, None, is_some, unwrap_or, slice_get}
 use Rattle.std.specs.List.{count_by, range_with_len, filter}
 use Rattle.std.specs.Option.{option_map_or}
 use Rattle.mm_model.specs.declared.object.Colour.{Colour}

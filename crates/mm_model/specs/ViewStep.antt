@@ -5,12 +5,10 @@ use Rattle.mm_model.specs.declared.object.Colour.TheVariants.{Gray, Black}
 use Rattle.mm_model.specs.declared.command.Command.{Command}
 use Rattle.mm_model.specs.declared.command.Command.TheVariants as commands
 use Rattle.mm_model.specs.declared.refusal.Refusal.{Refusal}
-use Rattle.mm_model.specs.declared.reply.Reply.{Reply}
 use Rattle.mm_model.specs.declared.reply.Reply.TheVariants as replies
 use Rattle.mm_model.specs.declared.line.Line.{Line}
 use Rattle.mm_model.specs.declared.line.Line.TheVariants as lines
 use Rattle.mm_model.specs.declared.line.Phase.TheVariants.{Reap, Collect}
-use Rattle.mm_model.specs.declared.line.Totals.{Totals}
 use Rattle.mm_model.specs.SizeClass.{size_of, object_bytes, area_bytes}
 use Rattle.mm_model.specs.Place.{Family, Objects, Areas, place_among}
 use Rattle.mm_model.specs.Scan.{costs}

@@ -1,22 +1,21 @@
 -- What a word or a stack cell means, in a view and in each state that it shows.
-use Rattle.std.proofs.Common.{◌≡◌, ℕ, Bool, true, false, eqb-true, Option, Some, None, refl, sym, ap, ◌∙◌, subst, arith}
-use Rattle.std.proofs.lemmas.Bool.{eq-eqb}
+use Rattle.std.proofs.Common.{◌≡◌, ℕ, true, Option, Some, None, refl, sym, ap, ◌∙◌, subst, arith}
 use Rattle.std.proofs.lemmas.Option.{slice_get-map}
-use Rattle.std.specs.Prelude.{IsTrue, IfSome, slice_get, nat_eq, ◌&&◌}
+use Rattle.std.specs.Prelude.{slice_get, nat_eq}
 use Rattle.std.specs.List.{find}
-use Rattle.std.specs.Option.{option_map, option_and_then, option_or}
+use Rattle.std.specs.Option.{option_map, option_and_then}
 use Rattle.mm_model.specs.Value.{Value}
-use Rattle.mm_model.specs.Object.{Object, is_live}
+use Rattle.mm_model.specs.Object.{Object}
 use Rattle.mm_model.specs.State.{State, Lives, lives_at}
 use Rattle.mm_model.specs.Words.{falls}
-use Rattle.mm_model.specs.Meaning.{falls_in, resolved, meant, meant_at, object_meant}
+use Rattle.mm_model.specs.Meaning.{falls_in, resolved, meant, object_meant}
 use Rattle.mm_model.specs.Place.{live_pieces}
 use Rattle.mm_model.specs.Good.{IsPlaced, IsReferring, IsGood}
 use Rattle.mm_model.specs.FlatView.{FlatView, FlatObject, FlatShows, flat_object, flat_at}
 use Rattle.mm_model.specs.FlatEffect.{flat_resolved, flat_meant}
 use Rattle.mm_model.proofs.Places.Falling.{falls_from}
 use Rattle.mm_model.proofs.Lists.Keyed.{keyed-get}
-use Rattle.mm_model.proofs.Lists.Growing.{find-Some, find-only, position_from-get, position_from-Some}
+use Rattle.mm_model.proofs.Lists.Growing.{find-Some, find-only, position_from-Some}
 use Rattle.mm_model.proofs.Good.Living.{each_get, lives_once, lives_same, lives_where}
 use Rattle.mm_model.proofs.Good.LiveLists.{find-lives_at}
 use Rattle.mm_model.proofs.Good.Meanings.{resolved-lives, meant-resolved}

@@ -4,7 +4,7 @@ use Rattle.std.proofs.lemmas.List.{length_push, get_or_append_left, get_or_push}
 use Rattle.std.proofs.lemmas.List.Elements.{filter-append}
 use Rattle.std.proofs.lemmas.List.Folds.{list_any-append}
 use Rattle.std.specs.Prelude.{IfSome, slice_get, slice_index_or, nat_eq}
-use Rattle.std.specs.List.{find, position_from, list_any, AllByRecursion, IsDistinct}
+use Rattle.std.specs.List.{find, position_from, list_any, AllByRecursion}
 use Rattle.std.specs.Option.{option_map, option_and_then, option_or}
 use Rattle.mm_model.specs.declared.object.Shape.{Shape}
 use Rattle.mm_model.specs.Value.{integer, words_of}
@@ -13,7 +13,7 @@ use Rattle.mm_model.specs.declared.line.Totals.{Totals}
 use Rattle.mm_model.specs.declared.object.Colour.TheVariants.{White, Black}
 use Rattle.mm_model.specs.State.{State, Area, Cycle, PartlyScanned, lives_at, totals_of, live_count, with_black_birth}
 use Rattle.mm_model.specs.Place.{Piece, object_piece, area_piece, live_pieces}
-use Rattle.mm_model.specs.Good.{AreApart, AreAllApart, IsInside, IsPaired, IsPartlyScanned, IsColoured, IsGood}
+use Rattle.mm_model.specs.Good.{AreApart, IsInside, IsPaired, IsPartlyScanned, IsColoured, IsGood}
 use Rattle.mm_model.specs.FlatView.{FlatView, FlatObject, FlatColour, FlatCycle, FlatShows, FlatShowsCycles, colour_at, flat_partly_scanned, flat_at, flat_object, flat_area, shown_at}
 use Rattle.mm_model.specs.View.{base_of}
 use Rattle.mm_model.specs.FlatEffect.{flat_piece, flat_area_piece, flat_pieces, flat_newborn, flat_black_birth, one_more_birth, flat_made}
@@ -21,8 +21,8 @@ use Rattle.mm_model.specs.Effect.{made_at}
 use Rattle.std.proofs.lemmas.Bool.{eq-eqb}
 use Rattle.mm_model.specs.SizeClass.{extent_of, object_bytes}
 use Rattle.mm_model.proofs.Places.Placing.{some_with, each_both, both}
-use Rattle.mm_model.proofs.Lists.Keyed.{at, IsKeyed, seen_alike, refuted, found_key, any_from_at, any-map, keyed-push}
-use Rattle.mm_model.proofs.Good.Living.{each_after, all_apart-after, some_extent}
+use Rattle.mm_model.proofs.Lists.Keyed.{at, seen_alike, found_key, any_from_at, any-map, keyed-push}
+use Rattle.mm_model.proofs.Good.Living.{each_after, some_extent}
 use Rattle.mm_model.proofs.Good.LiveLists.{find-live, any-live, keyed-lives}
 use Rattle.mm_model.proofs.Lists.Growing.{Found, find-Some, find-push, position_from-push, position_from-below, get-front}
 use Rattle.mm_model.proofs.Places.SeenAlike.{AreSeenAlike}

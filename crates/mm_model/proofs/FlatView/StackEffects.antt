@@ -1,18 +1,15 @@
 -- What the commands that push, pop and read do to a view is what they do to each good state that the view shows.
-use Rattle.std.proofs.Common.{◌≡◌, ℕ, zero, suc, ◌+◌, Bool, true, false, not, List, [], ◌∷◌, drop, Option, Some, None, refl, sym, ap, ◌∙◌, subst}
-use Rattle.std.proofs.lemmas.Option.{slice_get-map, get_or_from_slice_get}
-use Rattle.std.specs.Prelude.{IsTrue, IfSome, is_some, slice_get}
-use Rattle.std.specs.List.{AllByRecursion, drop-map}
-use Rattle.std.specs.Option.{option_map, option_map_or, option_and_then, option_or}
+use Rattle.std.proofs.Common.{◌≡◌, ℕ, ◌+◌, ◌∷◌, drop, Option, Some, None, refl, sym, ap, ◌∙◌, subst}
+use Rattle.std.proofs.lemmas.Option.{slice_get-map}
+use Rattle.std.specs.Prelude.{slice_get}
+use Rattle.std.specs.List.{drop-map}
+use Rattle.std.specs.Option.{option_map}
 use Rattle.mm_model.specs.declared.command.Command.TheVariants as commands
-use Rattle.mm_model.specs.declared.refusal.Refusal.{Refusal}
-use Rattle.mm_model.specs.declared.refusal.Refusal.TheVariants as refusals
-use Rattle.mm_model.specs.Value.{Value, integer, words_of}
+use Rattle.mm_model.specs.Value.{Value, integer}
 use Rattle.mm_model.specs.Object.{Object}
-use Rattle.mm_model.specs.State.{State, Lives}
-use Rattle.mm_model.specs.Words.{falls}
-use Rattle.mm_model.specs.Meaning.{resolved, meant, meant_at, object_meant}
-use Rattle.mm_model.specs.Refusing.{first_refusal, refusal, no_cell, is_outside, is_stack_full, means_nothing, word_at}
+use Rattle.mm_model.specs.State.{State}
+use Rattle.mm_model.specs.Meaning.{object_meant}
+use Rattle.mm_model.specs.Refusing.{refusal}
 use Rattle.mm_model.specs.Effect.{Effect, nothing_done, pushes, with_some, map_reply, plain_effect}
 use Rattle.mm_model.specs.Good.{IsReferring, IsGood}
 use Rattle.mm_model.specs.FlatView.{FlatView, FlatObject, FlatShows, flat_object}
@@ -20,7 +17,6 @@ use Rattle.mm_model.specs.FlatEffect.{FlatEffect, flat_meant, flat_nothing_done,
 use Rattle.mm_model.proofs.Good.Around.{good-stack}
 use Rattle.mm_model.proofs.FlatView.Around.{shows-stack}
 use Rattle.mm_model.proofs.FlatView.Creating.{Refines}
-use Rattle.mm_model.proofs.Good.Living.{each_get}
 use Rattle.mm_model.proofs.Good.Allowed.{inner_refers}
 use Rattle.mm_model.proofs.Good.Meanings.{IsMeant, is_meant, refers_at}
 use Rattle.mm_model.proofs.Lists.Parts.{each_drop}

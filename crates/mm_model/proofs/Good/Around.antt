@@ -1,5 +1,5 @@
 -- A good state stays good with another stack, cycle, threshold and number of commands, where these fit its objects.
-use Rattle.std.proofs.Common.{◌≡◌, ℕ, ◌+◌, List, Option, Some, None, take, refl}
+use Rattle.std.proofs.Common.{ℕ, ◌+◌, List, Option, Some, None, take, refl}
 use Rattle.std.specs.Prelude.{IfSome}
 use Rattle.std.specs.List.{AllByRecursion}
 use Rattle.mm_model.specs.Value.{Value}

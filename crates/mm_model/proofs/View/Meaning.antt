@@ -1,9 +1,9 @@
 -- What a word or a stack cell means, in a state and in its view.
-use Rattle.std.proofs.Common.{◌≡◌, ℕ, true, eqb-true, Option, Some, None, refl, sym, ap, ◌∙◌, subst}
+use Rattle.std.proofs.Common.{◌≡◌, ℕ, true, eqb-true, Option, Some, None, refl, sym, ap, ◌∙◌}
 use Rattle.std.proofs.lemmas.Bool.{eq-eqb}
 use Rattle.std.proofs.lemmas.Option.{slice_get-map}
-use Rattle.std.specs.Prelude.{IsTrue, IfSome, slice_get, ◌==◌}
-use Rattle.std.specs.Option.{option_map, option_map_or, option_and_then, option_or}
+use Rattle.std.specs.Prelude.{slice_get, ◌==◌}
+use Rattle.std.specs.Option.{option_map, option_map_or, option_and_then}
 use Rattle.mm_model.specs.Value.{Value}
 use Rattle.mm_model.specs.Object.{Object}
 use Rattle.mm_model.specs.State.{State, Lives, lives_at}
@@ -11,15 +11,14 @@ use Rattle.mm_model.specs.After.{birth_at}
 use Rattle.mm_model.specs.Words.{falls}
 use Rattle.mm_model.specs.Meaning.{falls_in, resolved, meant, meant_at, object_meant}
 use Rattle.mm_model.specs.Place.{live_pieces}
-use Rattle.mm_model.specs.Good.{IsPlaced, IsReferring, IsGood}
+use Rattle.mm_model.specs.Good.{IsPlaced, IsGood}
 use Rattle.mm_model.specs.ByBase.{Based}
 use Rattle.mm_model.specs.ObjectView.{ObjectView}
 use Rattle.mm_model.specs.View.{seen_objects, view_of}
 use Rattle.mm_model.specs.ViewWords.{resolved_in, object_at, view_meant}
 use Rattle.mm_model.proofs.Places.Falling.{falls_from}
 use Rattle.mm_model.proofs.Places.Placing.{both}
-use Rattle.mm_model.proofs.Lists.Growing.{position_from-get, position_from-Some}
-use Rattle.mm_model.proofs.Lists.Truth.{together}
+use Rattle.mm_model.proofs.Lists.Growing.{position_from-Some}
 use Rattle.mm_model.proofs.Good.Living.{lives_once, lives_where}
 use Rattle.mm_model.proofs.Good.LiveLists.{one_birth, birth_at-lives}
 use Rattle.mm_model.proofs.Good.Meanings.{resolved-lives, refers_at, meant-resolved}

@@ -1,30 +1,28 @@
 -- The objects of a state's view: each live object at its base, and nothing else.
-use Rattle.std.proofs.Common.{◌≡◌, ℕ, ◌+◌, ◌*◌, ◌/◌, ◌%◌, ◌<◌, ◌≤◌, Bool, true, false, cond, eqb-true, List, [], ◌∷◌, map, length, Option, Some, None, refl, sym, ap, ◌∙◌, subst, ⊎_elim, arith, zero-add}
+use Rattle.std.proofs.Common.{◌≡◌, ℕ, ◌*◌, ◌/◌, ◌%◌, ◌<◌, ◌≤◌, Bool, true, false, cond, eqb-true, map, length, Option, Some, None, refl, sym, ap, ◌∙◌, subst, ⊎_elim, arith, zero-add}
 use Rattle.std.proofs.lemmas.Bool.{cases_lt, eq-eqb}
 use Rattle.std.proofs.lemmas.List.{length-map, length-set}
 use Rattle.std.proofs.lemmas.List.FromFn.{length-range_with_len, get_or-range_with_len}
-use Rattle.std.proofs.lemmas.List.Sums.{sum_by-cons}
 use Rattle.std.proofs.lemmas.Nat.Gcd.{dvd_of_mod-eq-zero, mod-eq-zero_of_dvd, dvd_trans}
 use Rattle.std.proofs.lemmas.Option.{slice_get-map, slice_get-get_or, slice_get_past, slice_get_within}
-use Rattle.std.specs.Prelude.{◌&&◌, ◌||◌, slice_get, nat_eq}
-use Rattle.std.specs.List.{list_any, find, sum_by, count_by, range_with_len, AllByRecursion, IsDistinct}
+use Rattle.std.specs.Prelude.{◌&&◌, slice_get, nat_eq}
+use Rattle.std.specs.List.{list_any, find, sum_by, count_by, range_with_len}
 use Rattle.std.specs.Option.{option_map, option_and_then}
 use Rattle.mm_model.specs.Object.{Object, is_live, live_objects}
 use Rattle.mm_model.specs.State.{State, Lives, lives_at}
 use Rattle.mm_model.specs.After.{birth_at}
-use Rattle.mm_model.specs.Place.{Piece, object_piece, area_piece, live_pieces}
-use Rattle.mm_model.specs.Good.{IsCell, IsPages, IsInside, AreApart, AreAllApart, IsPlaced}
+use Rattle.mm_model.specs.Place.{Piece, object_piece, live_pieces}
+use Rattle.mm_model.specs.Good.{IsCell, IsPages, IsInside, IsPlaced}
 use Rattle.mm_model.specs.ByBase.{Begins, Based, with_entry, based, changed}
 use Rattle.mm_model.specs.ObjectView.{ObjectView, ObjectsByBase}
 use Rattle.mm_model.specs.View.{seen, seen_at, seen_objects}
-use Rattle.mm_model.proofs.Lists.Growing.{find-Some, find-only, position_from-get, position_from-Some}
-use Rattle.mm_model.proofs.Lists.Keyed.{at, IsKeyed, refuted, keyed-get, any-map, seen_alike}
+use Rattle.mm_model.proofs.Lists.Growing.{find-Some, find-only, position_from-Some}
+use Rattle.mm_model.proofs.Lists.Keyed.{at, keyed-get, any-map, seen_alike}
 use Rattle.mm_model.proofs.Lists.KeyedSums.{sums_alike}
-use Rattle.mm_model.proofs.Lists.Truth.{together}
 use Rattle.mm_model.proofs.Places.Placing.{both}
 use Rattle.mm_model.proofs.Places.SizeClasses.{class_bounds}
-use Rattle.mm_model.proofs.Good.Living.{each_after, all_apart-after, some_extent, lives_same, lives_inside, lives_once_at, lives_where}
-use Rattle.mm_model.proofs.Good.LiveLists.{find-live, any-live, count-live, keyed-lives, one_birth, birth_at-lives, find-lives_at}
+use Rattle.mm_model.proofs.Good.Living.{some_extent, lives_same, lives_inside, lives_where}
+use Rattle.mm_model.proofs.Good.LiveLists.{find-live, any-live, count-live, keyed-lives, birth_at-lives, find-lives_at}
 use Rattle.mm_model.proofs.View.Entries.{get-changed, length-changed, get-with_entry, same_entries, based_at, begins_at, keyed-based}
 
 -- a live object as it stands in the view
