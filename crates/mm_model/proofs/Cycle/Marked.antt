@@ -17,6 +17,7 @@ use Rattle.mm_model.specs.Words.{root_words, scanned_slots, falls, names}
 use Rattle.mm_model.specs.Reached.{IsReached}
 use Rattle.mm_model.specs.Marking.{is_white, colour_of, colour_in, done_of, grayed_cycle, with_grayed, begun, advanced, part_slots, part_done, MayScan, IsKeptAtFinish, IsFreedAtFinish, IsMarked}
 use Rattle.mm_model.specs.Good.{IsColoured, IsGood}
+use Rattle.mm_model.proofs.Lists.Truth.{or_true}
 use Rattle.mm_model.proofs.Good.Graying.{not_white-before, white-before, black-before, names_no_white-grayed}
 
 -- the cycle that begins, before the roots are gray
@@ -202,10 +203,6 @@ unmarked_is_not_reached a birth good runs unmarked own =
     with_cycle a ⊥ good runs
     (λ cycle is coloured.
     unmarked_is_not_kept a cycle is coloured birth unmarked (reached-kept a cycle is coloured birth own))
-
-or_true : (b c : Bool) → c ≡ true → (b || c) ≡ true
-or_true true c e = refl
-or_true false c e = e
 
 -- what a part of the words names, they name
 names-take : (n : ℕ) (words : List ℕ) (o : Object) → names (take n words) o ≡ true → names words o ≡ true

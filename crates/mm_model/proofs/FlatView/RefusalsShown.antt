@@ -18,6 +18,7 @@ use Rattle.mm_model.specs.Refusing.{first_refusal, is_bad_shape, is_stack_full, 
 use Rattle.mm_model.specs.Good.{IsGood}
 use Rattle.mm_model.specs.FlatView.{FlatView, FlatObject, FlatShows, flat_object}
 use Rattle.mm_model.specs.FlatEffect.{begins_flat_counted, flat_refuses_word, flat_slot_kind, is_flat_stack_full, no_flat_cell, means_no_flat, is_flat_outside, has_no_flat_slot, flat_refuses_in_slot, flat_refusal}
+use Rattle.mm_model.proofs.View.Tests.{is_some-map}
 use Rattle.mm_model.proofs.FlatView.Showing.{any-shown}
 use Rattle.mm_model.proofs.FlatView.Resolving.{meant-shown}
 
@@ -33,10 +34,6 @@ is_told (commands.Put i s j) = true
 is_told (commands.Map i) = true
 is_told commands.Stat = true
 is_told command = false
-
-is_some-map : {X Y : Type 0} (f : X → Y) (found : Option X) → is_some (option_map f found) ≡ is_some found
-is_some-map f None = refl
-is_some-map f (Some x) = refl
 
 -- a test of what was found, through a function
 option_map_or-map : {X Y : Type 0} (f : X → Y) (test : Y → Bool) (own : X → Bool) → ((x : X) → test (f x) ≡ own x)

@@ -1,5 +1,5 @@
 -- A view that shows a state goes on to show it.
-use Rattle.std.proofs.Common.{◌≡◌, ℕ, zero, suc, ◌+◌, ◌-◌, ◌<◌, ◌≤◌, Bool, true, false, cond, eqb-true, ◌&&◌, ◌||◌, List, [], ◌∷◌, ◌++◌, map, length, replicate, Option, Some, None, refl, sym, ap, ◌∙◌, ⊎_elim, arith}
+use Rattle.std.proofs.Common.{◌≡◌, ℕ, ◌+◌, ◌-◌, ◌<◌, ◌≤◌, Bool, true, false, cond, eqb-true, ◌&&◌, ◌||◌, List, [], ◌∷◌, ◌++◌, map, length, Option, Some, None, refl, sym, ap, ◌∙◌, ⊎_elim, arith}
 use Rattle.std.proofs.lemmas.List.{length_push, get_or_append_left, get_or_push}
 use Rattle.std.proofs.lemmas.List.Elements.{filter-append}
 use Rattle.std.proofs.lemmas.List.Folds.{list_any-append}
@@ -7,7 +7,7 @@ use Rattle.std.specs.Prelude.{IfSome, slice_get, slice_index_or, nat_eq}
 use Rattle.std.specs.List.{find, position_from, list_any, AllByRecursion}
 use Rattle.std.specs.Option.{option_map, option_and_then, option_or}
 use Rattle.mm_model.specs.declared.object.Shape.{Shape}
-use Rattle.mm_model.specs.Value.{integer, words_of}
+use Rattle.mm_model.specs.Value.{words_of}
 use Rattle.mm_model.specs.Object.{Object, newborn, is_live, live_objects}
 use Rattle.mm_model.specs.declared.line.Totals.{Totals}
 use Rattle.mm_model.specs.declared.object.Colour.TheVariants.{White, Black}
@@ -20,6 +20,7 @@ use Rattle.mm_model.specs.FlatEffect.{flat_piece, flat_area_piece, flat_pieces, 
 use Rattle.mm_model.specs.Effect.{made_at}
 use Rattle.std.proofs.lemmas.Bool.{eq-eqb}
 use Rattle.mm_model.specs.SizeClass.{extent_of, object_bytes}
+use Rattle.mm_model.proofs.View.Areas.{words_of-zeros}
 use Rattle.mm_model.proofs.Places.Placing.{some_with, each_both, both}
 use Rattle.mm_model.proofs.Lists.Keyed.{at, seen_alike, found_key, any_from_at, any-map, keyed-push}
 use Rattle.mm_model.proofs.Good.Living.{each_after, some_extent}
@@ -73,10 +74,6 @@ any-shown view a good shows test =
     ∙ seen_alike (λ o. o.base) (λ o. o.base) (λ x. x) (flat_object a) view.objects (live_objects a.objects) shows.distinct
     (keyed-lives a good.placed) (objects_alike view a shows) test
     ∙ any-map (flat_object a) test (live_objects a.objects) ∙ any-live (λ o. test (flat_object a o)) a.objects
-
-words_of-zeros : (n : ℕ) → words_of (replicate n (integer 0)) ≡ replicate n 0
-words_of-zeros zero = refl
-words_of-zeros (suc n) = ap (λ ws. 0 ∷ ws) (words_of-zeros n)
 
 -- where a piece goes, no live object begins
 pub nothing_at : (a : State) (q : Piece) → IsGood a → 0 < q.extent

@@ -13,6 +13,7 @@ use Rattle.mm_model.specs.Words.{falls}
 use Rattle.mm_model.specs.Meaning.{resolved, meant, meant_at, object_meant}
 use Rattle.mm_model.specs.Refusing.{first_refusal, refusal, no_cell, is_outside, is_stack_full, means_nothing, word_at}
 use Rattle.mm_model.specs.Good.{IsReferring, IsGood}
+use Rattle.mm_model.proofs.Lists.Truth.{holds-not}
 use Rattle.mm_model.proofs.Good.Meanings.{IsMeant, is_meant, refers_at}
 
 pub first_refusal-None : (test : Bool) (because : Refusal) (rows : List (Bool × Refusal))
@@ -36,10 +37,6 @@ all_allowed a b c d r s t u e =
     let fourth = first_refusal-None d u [] third.1 in
     record { first_is = first.0; second_is = second.0; third_is = third.0; fourth_is = fourth.0 }
 
-not_true : (b : Bool) → not b ≡ false → b ≡ true
-not_true true e = refl
-not_true false e = cc
-
 pub found_some : {X : Type 0} (found : Option X) → not (is_some found) ≡ false → (x : X) × (found ≡ Some x)
 found_some None e = cc
 found_some (Some x) e = (x, refl)
@@ -48,6 +45,11 @@ pub word_at-value : (a : State) (i : ℕ) (value : Value) → slice_get a.stack 
 word_at-value a i value e =
     get_or_from_slice_get (words_of a.stack) i value.word 0
     (slice_get-map (λ (v : Value). v.word) a.stack i ∙ ap (option_map (λ (v : Value). v.word)) e)
+
+-- a cycle runs where it may be finished
+pub cycle_runs : (a : State) → refusal a commands.Finish ≡ None → is_some a.cycle ≡ true
+cycle_runs a allowed =
+    holds-not (is_some a.cycle) (first_refusal-None (not (is_some a.cycle)) refusals.Idle [] allowed).0
 
 module _ (a : State) (good : IsGood a) where
   -- the sum of a word and a number of bytes stays in the object that the cell means
@@ -60,7 +62,7 @@ module _ (a : State) (good : IsGood a) where
       let one = is_meant a good i found.0 found.1 in
       let word = word_at-value a i value e in
       let here : falls (value.word + bytes) found.0.base found.0.extent ≡ true =
-      not_true _ (ap (λ w. not (falls (w + bytes) found.0.base found.0.extent)) (sym word)
+      holds-not _ (ap (λ w. not (falls (w + bytes) found.0.base found.0.extent)) (sym word)
       ∙ sym (ap (λ o. option_map_or (λ (o : Object). not (falls (word_at a i + bytes) o.base o.extent)) o false)
       found.1)
       ∙ row.third_is) in

@@ -11,7 +11,7 @@ use Rattle.mm_model.specs.Good.{IsColoured, IsGood}
 use Rattle.mm_model.proofs.Good.Around.{good-around}
 use Rattle.mm_model.proofs.Good.Shading.{length-grayed, colour-grayed, shade-black}
 
-all_white : (count birth : ℕ) → slice_index_or (replicate count White) birth White ≡ White
+pub all_white : (count birth : ℕ) → slice_index_or (replicate count White) birth White ≡ White
 all_white zero birth = refl
 all_white (suc count) zero = refl
 all_white (suc count) (suc birth) = all_white count birth

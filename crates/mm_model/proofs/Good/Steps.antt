@@ -1,5 +1,5 @@
 -- Every step keeps a state good.
-use Rattle.std.proofs.Common.{◌≡◌, ℕ, Bool, true, false, not, List, [], ◌∷◌, Option, Some, None, refl, sym, ap, ◌∙◌, subst}
+use Rattle.std.proofs.Common.{◌≡◌, ℕ, Bool, true, false, List, [], ◌∷◌, Option, Some, None, refl, sym, ap, ◌∙◌, subst}
 use Rattle.std.proofs.lemmas.Option.{slice_get-map}
 use Rattle.std.specs.Prelude.{IfSome, is_some}
 use Rattle.std.specs.Option.{option_map, option_map_or}
@@ -32,7 +32,7 @@ use Rattle.mm_model.proofs.Good.Meanings.{IsMeant, is_meant}
 use Rattle.mm_model.proofs.Good.Scanning.{scanned_is_good}
 use Rattle.mm_model.proofs.Good.Shapes.{shaped-newborn, shaped-area}
 use Rattle.mm_model.proofs.Good.Searching.{IsFound, searched_is_found}
-use Rattle.mm_model.proofs.Good.Allowed.{first_refusal-None, all_allowed}
+use Rattle.mm_model.proofs.Good.Allowed.{first_refusal-None, all_allowed, cycle_runs}
 use Rattle.mm_model.proofs.Good.WeakReferences.{weak_made_is_good, kept_weak_is_good}
 
 -- `new` isn't refused
@@ -142,14 +142,6 @@ module _ (a : State) (good : IsGood a) where
       ((are_areas_full a, refusals.AreasFull) ∷ []) allowed in
       record { shape = first.0; room = (first_refusal-None (are_areas_full a) refusals.AreasFull [] first.1).0 }
 
-  cycle_runs : refusal a commands.Finish ≡ None → is_some a.cycle ≡ true
-  cycle_runs allowed =
-      not_true (is_some a.cycle) (first_refusal-None (not (is_some a.cycle)) refusals.Idle [] allowed).0
-    where
-      not_true : (b : Bool) → not b ≡ false → b ≡ true
-      not_true true e = refl
-      not_true false e = cc
-
   pub carries_stays : (command : Command) (log : List Line) (effect : Effect) → refusal a command ≡ None
       → Carries a command log effect → IsGood effect.state
   carries_stays (commands.New shape) log effect allowed m =
@@ -166,7 +158,7 @@ module _ (a : State) (good : IsGood a) where
   carries_stays commands.Collect log effect allowed m = collects_stay log effect.state m.0
   carries_stays (commands.Step k) log effect allowed m =
       scanned_is_good a m.0.births log effect.state good m.0.scanned
-  carries_stays commands.Finish log effect allowed m = finishes_stay log effect.state (cycle_runs allowed) m.0
+  carries_stays commands.Finish log effect allowed m = finishes_stay log effect.state (cycle_runs a allowed) m.0
   carries_stays (commands.Push word) log effect allowed m = plain_stays (commands.Push word) log effect allowed m
   carries_stays (commands.Dup i) log effect allowed m = plain_stays (commands.Dup i) log effect allowed m
   carries_stays (commands.Pop k) log effect allowed m = plain_stays (commands.Pop k) log effect allowed m

@@ -16,6 +16,7 @@ use Rattle.mm_model.specs.Marking.{is_raw, is_black, colour_of, done_in}
 use Rattle.mm_model.specs.Place.{object_piece, area_piece}
 use Rattle.mm_model.specs.Store.{is_counted_slot, refuses_word, with_slot}
 use Rattle.mm_model.specs.Good.{IsPlaced, IsReferring, IsStored, IsReferred, is_tight, IsPaired, IsPartlyScanned, IsColoured, IsShaped, IsGood}
+use Rattle.mm_model.proofs.Lists.Truth.{or_true}
 use Rattle.mm_model.proofs.Good.Around.{if_some-weaker}
 use Rattle.mm_model.proofs.Good.CountedWords.{count_in, adds, uncounted_place, count_in-set, each_counted-set, each_counted_slot, each_counted_cell, each_counted_word, refs-set_object}
 use Rattle.mm_model.proofs.Good.Living.{lives_same}
@@ -345,10 +346,6 @@ module _ (a : State) (good : IsGood a) (birth : ℕ) (object : Object) (lives : 
         partly_scanned = partly_scanned after.partly_scanned shades.partly_scanned;
       }
     where
-      or_true : (b c : Bool) → c ≡ true → (b || c) ≡ true
-      or_true true c e = refl
-      or_true false c e = e
-
       some : (p : PartlyScanned) → before.partly_scanned ≡ Some p → IsPartlyScanned a before p → IsPartlyScanned any_store after p
       some p is q =
           let done : (j : ℕ) → p.object ≡ j → done_in before.partly_scanned j ≡ p.slots_done =

@@ -4,6 +4,7 @@ use Rattle.std.proofs.lemmas.List.Sums.{sum_by-cons}
 use Rattle.std.specs.Prelude.{slice_get, ◌==◌}
 use Rattle.std.specs.List.{find, position_from, list_any, count_by, AllByRecursion}
 use Rattle.std.specs.Option.{option_or}
+use Rattle.mm_model.proofs.Lists.Keyed.{refuted}
 
 -- what a test finds stands at some place
 pub record Found {X : Type 0} (test : X → Bool) (xs : List X) (x : X) : Type 0 where
@@ -95,10 +96,6 @@ count-none x (w ∷ ws) h =
     let other : (w == x) ≡ false = refuted (w == x) (λ e. h.0 (eqb-true _ _ e)) in
     sum_by-cons (λ w. cond (w == x) 1 0) w ws
     ∙ ap (λ b. cond b 1 0 + count_by (λ w. w == x) ws) other ∙ zero-add _ ∙ count-none x ws h.1
-  where
-    refuted : (b : Bool) → (b ≡ true → ⊥) → b ≡ false
-    refuted true f = absurd (f refl)
-    refuted false f = refl
 
 pub each_push : {X : Type 0} (P : X → Type 0) (xs : List X) (y : X) → AllByRecursion P xs → P y
     → AllByRecursion P (xs ++ y ∷ [])

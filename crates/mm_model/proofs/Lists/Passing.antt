@@ -6,11 +6,8 @@ use Rattle.std.proofs.lemmas.List.Folds.{list_any-append}
 use Rattle.std.proofs.lemmas.List.Sums.{length-filter}
 use Rattle.mm_model.specs.Value.{Value}
 use Rattle.mm_model.specs.Words.{if_scanned}
+use Rattle.mm_model.proofs.Lists.Truth.{or_true}
 use Rattle.mm_model.proofs.Lists.Keyed.{any-map}
-
-or_true : (a b : Bool) → b ≡ true → (a || b) ≡ true
-or_true true b e = refl
-or_true false b e = e
 
 module _ {X : Type 0} (test : X → Bool) where
   pub any-front : (xs ys : List X) → list_any test xs ≡ true → list_any test (xs ++ ys) ≡ true

@@ -10,6 +10,7 @@ use Rattle.mm_model.specs.declared.object.Size.TheVariants.{Small, Pages}
 use Rattle.mm_model.specs.SizeClass.{class_sizes, extent_of_size}
 use Rattle.mm_model.specs.Place.{Family, Objects, Areas, same_family, Piece, overlaps, first_from, is_vacant, is_page_of, free_cell, has_room, fresh_page, cell_place, place_among}
 use Rattle.mm_model.specs.Good.{IsInside, AreApart, AreAllApart}
+use Rattle.mm_model.proofs.Lists.Truth.{no_other}
 use Rattle.mm_model.proofs.Lists.Tests.{first_from-Some, none_passes}
 use Rattle.mm_model.proofs.Places.SizeClasses.{class_bounds}
 
@@ -189,14 +190,11 @@ page_alike family extent page (p ∷ ps) a e =
     ] in
     split (of_page family extent page p) refl e
 
-true_false : {b : Bool} → b ≡ false → b ≡ true → ⊥
-true_false e f = cc
-
 -- nothing reaches into a page in which nothing lies
 vacant_alike : (family : Family) (extent page : ℕ) (pieces : List Piece) → is_vacant pieces (4096 * page) 4096 ≡ true
     → AllByRecursion (IsAlike page extent family) pieces
 vacant_alike family extent page pieces e =
-    each_weaker _ _ (λ p none here. absurd (true_false none here)) pieces (vacant_none pieces (4096 * page) 4096 e)
+    each_weaker _ _ (λ p none here. absurd (no_other none here)) pieces (vacant_none pieces (4096 * page) 4096 e)
 
 -- what was found through a function, if anything was
 pub record Mapped (f : ℕ → ℕ) (found : Option ℕ) (y : ℕ) : Type 0 where

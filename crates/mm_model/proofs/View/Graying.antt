@@ -1,7 +1,7 @@
 -- Graying what some words name, and beginning a cycle, do to a view what they do to its state.
-use Rattle.std.proofs.Common.{◌≡◌, ℕ, zero, suc, ◌*◌, Bool, true, false, eqb-true, List, length, replicate, Option, Some, None, refl, sym, ap, ◌∙◌}
+use Rattle.std.proofs.Common.{◌≡◌, ℕ, ◌*◌, Bool, true, false, eqb-true, List, length, replicate, Option, Some, None, refl, sym, ap, ◌∙◌}
 use Rattle.std.proofs.lemmas.List.{length-replicate}
-use Rattle.std.specs.Prelude.{IsTrue, IfSome, is_some, slice_index_or, ◌&&◌, if◌then◌else◌}
+use Rattle.std.specs.Prelude.{IsTrue, IfSome, is_some, ◌&&◌, if◌then◌else◌}
 use Rattle.std.specs.List.{list_any}
 use Rattle.std.specs.Option.{option_map}
 use Rattle.mm_model.specs.declared.object.Colour.TheVariants.{White, Gray}
@@ -17,6 +17,7 @@ use Rattle.mm_model.specs.SetsByBase.{with_grayed_objects, grayed_at}
 use Rattle.mm_model.specs.View.{seen, seen_objects, view_of}
 use Rattle.mm_model.specs.ViewStore.{view_with_grayed}
 use Rattle.mm_model.specs.ViewEffect.{with_colour, view_begun, view_plain_effect}
+use Rattle.mm_model.proofs.Good.Beginning.{all_white}
 use Rattle.mm_model.proofs.Good.Shading.{shade, colour-grayed}
 use Rattle.mm_model.proofs.Places.Placing.{both}
 use Rattle.mm_model.proofs.View.Changes.{seen_at-changed}
@@ -91,11 +92,6 @@ view_with_grayed-seen a words running each = split a.cycle running each
     split (Some cycle) t h =
         ap (λ objects. record (view_of (record a { cycle = Some cycle })) { objects = objects })
         (sym (grayed-seen a words cycle h))
-
-all_white : (count birth : ℕ) → slice_index_or (replicate count White) birth White ≡ White
-all_white zero birth = refl
-all_white (suc count) zero = refl
-all_white (suc count) (suc birth) = all_white count birth
 
 module _ (a : State) where
   -- the cycle in which every object is white

@@ -1,11 +1,9 @@
 -- The row of each command on a view is one on its state.
-use Rattle.std.proofs.Common.{◌≡◌, ℕ, Bool, true, false, not, List, [], Option, Some, None, refl, subst}
-use Rattle.std.specs.Prelude.{is_some}
+use Rattle.std.proofs.Common.{◌≡◌, ℕ, Bool, true, false, List, Option, Some, None, refl, subst}
 use Rattle.mm_model.specs.declared.command.Command.{Command}
 use Rattle.mm_model.specs.declared.command.Command.TheVariants as commands
 use Rattle.mm_model.specs.declared.line.Line.{Line}
 use Rattle.mm_model.specs.declared.refusal.Refusal.{Refusal}
-use Rattle.mm_model.specs.declared.refusal.Refusal.TheVariants as refusals
 use Rattle.mm_model.specs.declared.reply.Reply.TheVariants as replies
 use Rattle.mm_model.specs.SizeClass.{object_bytes, area_bytes}
 use Rattle.mm_model.specs.State.{State}
@@ -17,7 +15,7 @@ use Rattle.mm_model.specs.Good.{IsGood}
 use Rattle.mm_model.specs.View.{view_of}
 use Rattle.mm_model.specs.ViewEffect.{ViewEffect, view_new_effect, view_area_effect}
 use Rattle.mm_model.specs.ViewStep.{ViewIsPlain, ViewMakes, ViewCarries, ViewRowUnless, IsViewRow}
-use Rattle.mm_model.proofs.Good.Allowed.{first_refusal-None}
+use Rattle.mm_model.proofs.Good.Allowed.{cycle_runs}
 use Rattle.mm_model.proofs.View.Areas.{drop_area-seen, area_get-seen, area_effect-seen}
 use Rattle.mm_model.proofs.View.AreaStores.{area_put-seen}
 use Rattle.mm_model.proofs.View.Graying.{begin-seen}
@@ -30,15 +28,6 @@ use Rattle.mm_model.proofs.View.Reads.{push-seen, dup-seen, pop-seen, inner-seen
 use Rattle.mm_model.proofs.View.SameEffects.{SameEffect}
 use Rattle.mm_model.proofs.View.Tests.{view_refusal-seen}
 use Rattle.mm_model.proofs.View.WeakRows.{makes_weak_of-shown}
-
--- a cycle runs where it may be finished
-cycle_runs : (a : State) → refusal a commands.Finish ≡ None → is_some a.cycle ≡ true
-cycle_runs a allowed =
-    not_true (is_some a.cycle) (first_refusal-None (not (is_some a.cycle)) refusals.Idle [] allowed).0
-  where
-    not_true : (b : Bool) → not b ≡ false → b ≡ true
-    not_true true e = refl
-    not_true false e = cc
 
 module _ (a : State) (good : IsGood a) where
   area-shown : (scanned : Bool) (counted cells : ℕ) (log : List Line) (v : ViewEffect)

@@ -21,7 +21,7 @@ use Rattle.mm_model.specs.ViewTests.{tests_of_view, view_is_outside, view_has_no
 use Rattle.mm_model.proofs.View.Words.{area_in-seen, view_refuses_word-seen}
 use Rattle.mm_model.proofs.View.Meaning.{asked_of-meant}
 
-is_some-map : {X Y : Type 0} (f : X → Y) (found : Option X) → is_some (option_map f found) ≡ is_some found
+pub is_some-map : {X Y : Type 0} (f : X → Y) (found : Option X) → is_some (option_map f found) ≡ is_some found
 is_some-map f None = refl
 is_some-map f (Some x) = refl
 
