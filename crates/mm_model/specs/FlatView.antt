@@ -97,7 +97,8 @@ colour_at a cycle base =
 
 abbrev pub flat_partly_scanned : State → PartlyScanned → Option FlatPartlyScanned
 flat_partly_scanned a partly_scanned =
-    option_map (λ base. record { base = base; slots_done = partly_scanned.slots_done }) (base_of a partly_scanned.object)
+    option_map (λ base. record { base = base; slots_done = partly_scanned.slots_done })
+    (base_of a partly_scanned.object)
 
 pub record FlatShowsCycle (held : FlatCycle) (a : State) (cycle : Cycle) : Type 0 where
   pub colours : (base : ℕ) →

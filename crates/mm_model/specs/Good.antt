@@ -85,8 +85,8 @@ NamesNoWhite a cycle words =
     (birth : ℕ) (object : Object) → Lives a birth object → colour_of cycle birth ≡ White
     → IsTrue (names words object) → ⊥
 
--- The partly scanned object lives and is gray, some of its slots are done and some aren't, and no word of those that are
--- falls in a white object.
+-- The partly scanned object lives and is gray, some of its slots are done and some aren't, and no word of those that
+-- are falls in a white object.
 pub record IsPartlyScanned (a : State) (cycle : Cycle) (partly_scanned : PartlyScanned) : Type 0 where
   pub object : Object
   pub lives : Lives a partly_scanned.object object

@@ -42,8 +42,8 @@ abbrev pub HoldTight : ObjectsByBase → Type 0
 HoldTight objects =
     (base : ℕ) (holder : ObjectView) → Begins objects base holder → AreTight objects (counted_words_of holder)
 
--- The counts are right: each counted object that isn't sticky has as its count how many counted slots hold its base, and
--- as many more as the number for the base says. Of one that is sticky a count says nothing.
+-- The counts are right: each counted object that isn't sticky has as its count how many counted slots hold its base,
+-- and as many more as the number for the base says. Of one that is sticky a count says nothing.
 pub record AreCounts (objects : ObjectsByBase) (counts outside : ℕ → ℕ) : Type 0 where
   pub exact : (base : ℕ) (object : ObjectView) → Begins objects base object → IsTrue (is_counted object.kind)
       → object.sticky ≡ false → counts base ≡ count_at objects outside base
@@ -68,8 +68,8 @@ NamesNoWhiteAt objects words =
     (base : ℕ) (object : ObjectView) → Begins objects base object → object.colour ≡ White
     → IsTrue (names_at words base object) → ⊥
 
--- The partly scanned object is gray, some of its slots are done and some aren't, and no word of those that are falls in a
--- white object.
+-- The partly scanned object is gray, some of its slots are done and some aren't, and no word of those that are falls in
+-- a white object.
 pub record IsPartlyScannedAt (objects : ObjectsByBase) (partly_scanned : PartlyScannedView) : Type 0 where
   pub object : ObjectView
   pub begins : Begins objects partly_scanned.base object

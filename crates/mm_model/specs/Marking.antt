@@ -115,7 +115,8 @@ barrier kind birth s word a =
 -- what `finish` marks: the least set that holds the gray objects and each white one in which the word of a scanned slot
 -- of a member falls
 pub data IsKeptAtFinish (a : State) : ℕ → Type 0 where
-  Already : (birth : ℕ) (object : Object) → Lives a birth object → colour_in a.cycle birth ≡ Gray → IsKeptAtFinish a birth
+  Already : (birth : ℕ) (object : Object) → Lives a birth object → colour_in a.cycle birth ≡ Gray
+      → IsKeptAtFinish a birth
   By_slot : (birth : ℕ) (object : Object) (by : ℕ) (holder : Object) → Lives a birth object
       → colour_in a.cycle birth ≡ White → Lives a by holder → IsTrue (names (scanned_slots holder) object)
       → IsKeptAtFinish a by → IsKeptAtFinish a birth

@@ -60,7 +60,8 @@ after_release a bases object =
 
 abbrev pub partly_scanned_left : State → List ℕ → Option PartlyScanned → Option PartlyScanned
 partly_scanned_left a bases None = None
-partly_scanned_left a bases (Some partly_scanned) = if is_freed_birth a bases partly_scanned.object then None else Some partly_scanned
+partly_scanned_left a bases (Some partly_scanned) =
+    if is_freed_birth a bases partly_scanned.object then None else Some partly_scanned
 
 -- a freed object isn't partly scanned any more
 abbrev pub cycle_left : State → List ℕ → Cycle → Cycle

@@ -5,8 +5,8 @@ use Rattle.mm_model.specs.State.{State, Lives}
 use Rattle.mm_model.specs.Words.{stack_words, area_words, counted_cell_words, counted_slots, word_slots, names, holds}
 
 -- The least set of live objects with these rules. Each is protected by the stack words that fall in it. Beside these, a
--- counted object is protected by counted cells, and by counted slots of protected objects, that hold its base; any other
--- one by words of scanned areas, and of word slots of protected objects, that fall in it.
+-- counted object is protected by counted cells, and by counted slots of protected objects, that hold its base; any
+-- other one by words of scanned areas, and of word slots of protected objects, that fall in it.
 pub data IsProtected (a : State) : ℕ → Type 0 where
   -- a stack word falls in it
   By_stack : (birth : ℕ) (object : Object) → Lives a birth object → IsTrue (names (stack_words a) object)

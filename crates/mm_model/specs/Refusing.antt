@@ -1,4 +1,5 @@
--- When a command is refused, before anything is tried. `Full` alone is answered later, where a search ends without a place.
+-- When a command is refused, before anything is tried. `Full` alone is answered later, where a search ends without a
+-- place.
 use Rattle.std.specs.Prelude.{ℕ, ◌+◌, Bool, true, false, not, ◌&&◌, ◌||◌, ◌==◌, nat_lt, nat_le, List, [], ◌∷◌, length, Option, Some, None, is_some, slice_index}
 use Rattle.std.specs.Option.{option_map_or}
 use Rattle.mm_model.specs.declared.object.Shape.{Shape}
@@ -61,7 +62,8 @@ abbrev pub has_no_slot : State → ℕ → ℕ → Bool
 has_no_slot a i s = option_map_or (λ object. nat_le (length object.slots) s) (object_meant a i) false
 
 abbrev pub refuses_in_slot : State → ℕ → ℕ → ℕ → Bool
-refuses_in_slot a i s j = option_map_or (λ object. refuses_word a (slot_kind object s) (word_at a j)) (object_meant a i) false
+refuses_in_slot a i s j =
+    option_map_or (λ object. refuses_word a (slot_kind object s) (word_at a j)) (object_meant a i) false
 
 abbrev pub means_weak : State → ℕ → Bool
 means_weak a i = option_map_or (λ object. is_weak object.kind) (object_meant a i) false

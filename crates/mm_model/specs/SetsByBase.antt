@@ -78,8 +78,8 @@ grayed_at words base object =
 abbrev pub with_grayed_objects : List ℕ → ObjectsByBase → ObjectsByBase
 with_grayed_objects words objects = changed (grayed_at words) objects
 
--- What `finish` keeps of what is white: the least set that holds the gray objects and each white one in which the word of
--- a scanned slot of a member falls.
+-- What `finish` keeps of what is white: the least set that holds the gray objects and each white one in which the word
+-- of a scanned slot of a member falls.
 pub data IsKeptAtFinishAt (objects : ObjectsByBase) : ℕ → Type 0 where
   Already : (base : ℕ) (object : ObjectView) → Begins objects base object → object.colour ≡ Gray
       → IsKeptAtFinishAt objects base

@@ -49,8 +49,8 @@ put_in_cell a area s value =
     recounted (cell_kind area s) (slice_index (words_of area.cells) s) value.word
     (with_changed_area (with_cell a area s value) a)
 
--- A word that falls in a live counted object and is stored where no counted slot is. Marking still reaches the object by
--- it, if the place is scanned. A reap may free it.
+-- A word that falls in a live counted object and is stored where no counted slot is. Marking still reaches the object
+-- by it, if the place is scanned. A reap may free it.
 abbrev pub is_loose : State → SlotKind → ℕ → Bool
 is_loose a kind word =
     not (is_counted_slot kind) && list_any (λ object. is_counted object.kind && falls_in word object) a.objects

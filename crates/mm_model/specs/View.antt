@@ -1,5 +1,5 @@
--- What a heap shows: all of its state that words can tell. It has no origins, no birth numbers and no gone objects, so a
--- heap can show several states. Of each state it shows this view and no other.
+-- What a heap shows: all of its state that words can tell. It has no origins, no birth numbers and no gone objects, so
+-- a heap can show several states. Of each state it shows this view and no other.
 use Rattle.std.specs.Prelude.{◌≡◌, ℕ, ◌*◌, Bool, List, map, Option}
 use Rattle.std.specs.List.{range_with_len}
 use Rattle.std.specs.Option.{option_map, option_and_then}
@@ -86,7 +86,8 @@ seen_area area =
 
 abbrev pub seen_partly : State → PartlyScanned → Option PartlyScannedView
 seen_partly a partly_scanned =
-    option_map (λ base. record { base = base; slots_done = partly_scanned.slots_done }) (base_of a partly_scanned.object)
+    option_map (λ base. record { base = base; slots_done = partly_scanned.slots_done })
+    (base_of a partly_scanned.object)
 
 abbrev pub seen_cycle : State → Cycle → CycleView
 seen_cycle a cycle =

@@ -29,8 +29,8 @@ view_place_now view family bytes = place_among (view_pieces view) (view_region_p
 abbrev pub view_place_grown : View → Family → ℕ → Option ℕ
 view_place_grown view family bytes = place_among (view_pieces view) view.settings.max family (size_of bytes)
 
--- The lines that a search writes, the view that it leaves, and the place that it finds, at once, after a reap, or after a
--- full collection. Where it finds none in the end, the command is refused as full.
+-- The lines that a search writes, the view that it leaves, and the place that it finds, at once, after a reap, or after
+-- a full collection. Where it finds none in the end, the command is refused as full.
 pub data ViewSearches (view : View) (family : Family) (bytes : ℕ) (log : List Line) (left : View)
     (found : Option ℕ) : Type 0 where
   At_once : (base : ℕ) → view_place_now view family bytes ≡ Some base → log ≡ [] → left ≡ view
@@ -199,7 +199,8 @@ pub data ViewEnds (view : View) (full : Bool) (log : List Line) (left : View) : 
   At_threshold : full ≡ false → view.threshold ≤ view_zero_count view → ViewReapsOnce view log left
       → ViewEnds view full log left
 
--- What a command does and answers, with the lines before its reply: its row without the reap at its end. It isn't counted.
+-- What a command does and answers, with the lines before its reply: its row without the reap at its end. It isn't
+-- counted.
 abbrev pub ViewRowUnless : Option Refusal → View → Command → List Line → ViewEffect → Type 0
 ViewRowUnless (Some because) view command log effect =
     ViewIsPlain log effect (record { view = view; reply = replies.Refused because })

@@ -113,7 +113,8 @@ pub finish_frees : (a : State) (group : List Line) (b : State) → IsGood a → 
     → (IsMarked a birth → ⊥) → (IsReached a birth → ⊥) → IsGone b birth
 finish_frees a group b good runs step birth object lives unmarked unreached =
     let finished = finish_is_finished a group b runs step in
-    let dead : IsFreedAtFinish a birth = (unmarked_iff_neither a birth object good runs lives).1 (unmarked, unreached) in
+    let dead : IsFreedAtFinish a birth =
+    (unmarked_iff_neither a birth object good runs lives).1 (unmarked, unreached) in
     let listed = finished.all birth object lives dead in
     gone-thins (collected finished.lost a) b finished.thins birth (record object { gone = true })
     (listed_is_gone a finished.lost birth object lives listed) refl

@@ -109,7 +109,8 @@ module _ (a : State) (cycle : Cycle) (is : a.cycle ≡ Some cycle) (good : IsCol
       (black-before a (root_words a) cycle good.each by holder held (sym (colour_now-is by) ∙ black)) birth object lives
       (white-before a (root_words a) cycle good.each birth object lives (sym (colour_now-is birth) ∙ white)) named))
       (λ (own : IsKeptAtFinish looked by).
-      inr (IsKeptAtFinish.By_slot birth object by holder (lives_on birth object lives) white (lives_on by holder held) named
+      inr (IsKeptAtFinish.By_slot birth object by holder (lives_on birth object lives) white
+      (lives_on by holder held) named
       own)) kept)
 
   reached-kept : (birth : ℕ) → IsReached a birth → IsKept birth
@@ -242,7 +243,8 @@ module _ (a : State) (birth : ℕ) (object : Object) (good : IsGood a) (may : Ma
                 colours = slice_set (grayed_cycle words a cycle).colours birth Black;
                 partly_scanned = None;
               }
-              else record (grayed_cycle words a cycle) { partly_scanned = Some (record { object = birth; slots_done = done }) }) j))
+              else record (grayed_cycle words a cycle)
+              { partly_scanned = Some (record { object = birth; slots_done = done }) }) j))
               ≡ true
               → (not (is_white (colour_of cycle j)) ≡ true) ⊎ (names words o ≡ true)
           by_end false p = not_white-before a words cycle h.each j o lives p

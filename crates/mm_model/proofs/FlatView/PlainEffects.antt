@@ -49,7 +49,8 @@ module _ (view : FlatView) (a : State) (good : IsGood a) (shows : FlatShows view
   store_reply-shown kind word =
       ap (λ loose. if not (is_counted_slot kind) && loose then replies.Loose else replies.Done)
       (any-shown view a good shows (falls_in_flat_counted word)
-      ∙ any-same (λ o. is_live o && falls_in_flat_counted word (flat_object a o)) (λ o. is_counted o.kind && falls_in word o)
+      ∙ any-same (λ o. is_live o && falls_in_flat_counted word (flat_object a o))
+      (λ o. is_counted o.kind && falls_in word o)
       (λ o. swapped (is_live o) (is_counted o.kind) (falls word o.base o.extent)) a.objects)
     where
       swapped : (b c d : Bool) → (b && (c && d)) ≡ (c && (b && d))
@@ -79,7 +80,8 @@ module _ (view : FlatView) (a : State) (good : IsGood a) (shows : FlatShows view
       found_none (Some birth) e = ap (λ found. with_some found a (on_object birth)) e
 
       stores : (birth : ℕ) (object : Object) → IsMeant a i birth object
-          → is_counted_slot (slot_kind object s) ≡ false → Refines (on_held (flat_object a object)) (on_object birth object)
+          → is_counted_slot (slot_kind object s) ≡ false
+          → Refines (on_held (flat_object a object)) (on_object birth object)
       stores birth object one e =
           on_cell view a good shows j (flat_put_effect view (flat_object a object) s) (put_effect a birth object s)
           (λ value cell.

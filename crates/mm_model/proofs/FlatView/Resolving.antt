@@ -28,7 +28,8 @@ pub record IsShown (a : State) (held : FlatObject) : Type 0 where
   pub lives : Lives a birth object
   pub is : flat_object a object ≡ held
 
-module _ (view : FlatView) (a : State) (placed : IsPlaced a.settings.max (live_pieces a)) (shows : FlatShows view a) where
+module _ (view : FlatView) (a : State) (placed : IsPlaced a.settings.max (live_pieces a))
+    (shows : FlatShows view a) where
   pub shown : (i : ℕ) (h : FlatObject) → slice_get view.objects i ≡ Some h → IsShown a h
   shown i h e =
       let found : flat_at view.objects h.base ≡ Some h =
@@ -60,7 +61,8 @@ module _ (view : FlatView) (a : State) (placed : IsPlaced a.settings.max (live_p
   flat_resolved-lives birth object word h f =
       let place = find-Some (λ (o : FlatObject). nat_eq o.base object.base) view.objects (flat_object a object)
       (flat_at-lives birth object h) in
-      find-only (λ (o : FlatObject). falls word o.base o.extent) view.objects place.place (flat_object a object) place.is f
+      find-only (λ (o : FlatObject). falls word o.base o.extent) view.objects place.place
+      (flat_object a object) place.is f
       (λ i other is passes.
       let one = shown i other is in
       let lives = one.lives in

@@ -38,7 +38,8 @@ piece-held a None = refl
 piece-held a (Some o) = refl
 
 -- A view and the state that it shows take the same room.
-pub pieces_alike : (view : FlatView) (a : State) → IsGood a → FlatShows view a → AreSeenAlike (flat_pieces view) (live_pieces a)
+pub pieces_alike : (view : FlatView) (a : State) → IsGood a → FlatShows view a
+    → AreSeenAlike (flat_pieces view) (live_pieces a)
 pieces_alike view a good shows test =
     let alike : (k : ℕ) → option_map flat_piece (flat_at view.objects k)
     ≡ option_map object_piece (at (λ o. o.base) (live_objects a.objects) k) =
@@ -62,16 +63,19 @@ option_map-itself (Some x) = refl
 
 -- under each base the view has what the live objects are in words
 pub objects_alike : (view : FlatView) (a : State) → FlatShows view a → (k : ℕ)
-    → option_map (λ x. x) (flat_at view.objects k) ≡ option_map (flat_object a) (at (λ o. o.base) (live_objects a.objects) k)
+    → option_map (λ x. x) (flat_at view.objects k)
+    ≡ option_map (flat_object a) (at (λ o. o.base) (live_objects a.objects) k)
 objects_alike view a shows k =
-    option_map-itself (flat_at view.objects k) ∙ shows.objects k ∙ ap (option_map (flat_object a)) (find-live a.objects k)
+    option_map-itself (flat_at view.objects k) ∙ shows.objects k
+    ∙ ap (option_map (flat_object a)) (find-live a.objects k)
 
 -- a test of some object of a view is one of some live object
 pub any-shown : (view : FlatView) (a : State) → IsGood a → FlatShows view a → (test : FlatObject → Bool)
     → list_any test view.objects ≡ list_any (λ o. is_live o && test (flat_object a o)) a.objects
 any-shown view a good shows test =
     ap (list_any test) (sym (map-itself view.objects))
-    ∙ seen_alike (λ o. o.base) (λ o. o.base) (λ x. x) (flat_object a) view.objects (live_objects a.objects) shows.distinct
+    ∙ seen_alike (λ o. o.base) (λ o. o.base) (λ x. x) (flat_object a) view.objects
+    (live_objects a.objects) shows.distinct
     (keyed-lives a good.placed) (objects_alike view a shows) test
     ∙ any-map (flat_object a) test (live_objects a.objects) ∙ any-live (λ o. test (flat_object a o)) a.objects
 
@@ -209,8 +213,10 @@ module _ (a : State) (shape : Shape) (base : ℕ) (good : IsGood a) where
       last true = ap Some (sym (get_or_push cycle.colours Black White (0 + length a.objects) (omega arith)))
       last false = refl
 
-  partly_scanned-made : (cycle : Cycle) (partly_scanned : Option PartlyScanned) → IfSome partly_scanned (IsPartlyScanned a cycle) →
-      option_and_then (flat_partly_scanned a) partly_scanned ≡ option_and_then (flat_partly_scanned after) partly_scanned
+  partly_scanned-made : (cycle : Cycle) (partly_scanned : Option PartlyScanned)
+      → IfSome partly_scanned (IsPartlyScanned a cycle) →
+      option_and_then (flat_partly_scanned a) partly_scanned
+      ≡ option_and_then (flat_partly_scanned after) partly_scanned
   partly_scanned-made cycle None h = refl
   partly_scanned-made cycle (Some partly_scanned) h =
       ap (option_map (λ base. record { base = base; slots_done = partly_scanned.slots_done }))

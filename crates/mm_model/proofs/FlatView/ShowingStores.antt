@@ -99,12 +99,14 @@ module _ (view : FlatView) (a : State) (good : IsGood a) (shows : FlatShows view
             let same : o ≡ object = lives_same a birth o object (subst (λ m. Lives a m o) here there) lives in
             let at_x : object.base ≡ x = ap (λ (y : Object). y.base) (sym same) ∙ base in
             let found : find (lives_at x) store.objects ≡ Some changed =
-            ap (λ y. find (lives_at y) store.objects) (sym at_x) ∙ find-lives_at store store_placed birth changed changed_lives in
+            ap (λ y. find (lives_at y) store.objects) (sym at_x)
+            ∙ find-lives_at store store_placed birth changed changed_lives in
             let stepped : step (flat_object a o) ≡ record own { words = slice_set own.words s value.word } =
             ap (λ (y : Object). step (flat_object a y)) same
             ∙ ap (λ b. if b then record own { words = slice_set own.words s value.word } else own)
             (eq-eqb own.base own.base refl) in
-            ap (λ (h : FlatObject). Some h) (stepped ∙ sym held-changed) ∙ sym (ap (option_map (flat_object store)) found)
+            ap (λ (h : FlatObject). Some h) (stepped ∙ sym held-changed)
+            ∙ sym (ap (option_map (flat_object store)) found)
         | false ↦ λ p.
             let apart : n ≡ birth → ⊥ = λ q. true_false (sym (eq-eqb _ _ q) ∙ p) in
             let lives_on : Lives store n o =
@@ -115,7 +117,8 @@ module _ (view : FlatView) (a : State) (good : IsGood a) (shows : FlatShows view
             refuted _ (λ q. apart (lives_once_at a good.placed n birth o object there lives (eqb-true _ _ q))) in
             let stepped : step (flat_object a o) ≡ flat_object a o =
             ap (λ b. if b then record own { words = slice_set own.words s value.word } else flat_object a o) other in
-            ap (λ (h : FlatObject). Some h) (stepped ∙ sym (held-store o)) ∙ sym (ap (option_map (flat_object store)) found)
+            ap (λ (h : FlatObject). Some h) (stepped ∙ sym (held-store o))
+            ∙ sym (ap (option_map (flat_object store)) found)
       ] in
       split (n == birth) refl
 
@@ -168,7 +171,8 @@ module _ (view : FlatView) (a : State) (good : IsGood a) (shows : FlatShows view
       ≡ option_and_then (flat_partly_scanned store) cycle
   partly_scanned-store None = refl
   partly_scanned-store (Some partly_scanned) =
-      ap (option_map (λ base. record { base = base; slots_done = partly_scanned.slots_done })) (sym (base_of-store partly_scanned.object))
+      ap (option_map (λ base. record { base = base; slots_done = partly_scanned.slots_done }))
+      (sym (base_of-store partly_scanned.object))
 
   -- the birth number of the live object at a base
   position-lives : (n : ℕ) (o : Object) → Lives a n o → position_from (lives_at o.base) 0 a.objects ≡ Some n
@@ -215,7 +219,8 @@ module _ (view : FlatView) (a : State) (good : IsGood a) (shows : FlatShows view
               (eqb-true _ _ r))) ∙ q)) in
               ap (λ b. b && nat_lt s p.slots_done) other ∙ sym none_less
         ] in
-        ap (λ found. is_done_at (option_map (λ base. record { base = base; slots_done = p.slots_done }) found) own.base s) base
+        ap (λ found. is_done_at
+        (option_map (λ base. record { base = base; slots_done = p.slots_done }) found) own.base s) base
         ∙ split (p.object == birth) refl
 
     passed-shown : is_flat_passed (Some h) own.base s ≡ is_passed (Some cycle) birth s
@@ -275,7 +280,8 @@ module _ (view : FlatView) (a : State) (good : IsGood a) (shows : FlatShows view
         (λ e. ap (λ n. nat_eq n x) (shade-base t e)) h.colours)
         ∙ split (entry_at h.colours x)
       where
-        split : (found : Option FlatColour) → option_map (λ (e : FlatColour). e.colour) (option_map (flat_grayed t) found)
+        split : (found : Option FlatColour)
+            → option_map (λ (e : FlatColour). e.colour) (option_map (flat_grayed t) found)
             ≡ option_map (λ (e : FlatColour). (flat_grayed t e).colour) found
         split None = refl
         split (Some e) = refl
@@ -423,12 +429,14 @@ module _ (view : FlatView) (a : State) (good : IsGood a) (shows : FlatShows view
         }
       where
         gone : (found : Option FlatObject)
-            → (option_map_or (λ t. record h { colours = map (flat_grayed t) h.colours }) found h).gone_before ≡ cycle.gone_before
+            → (option_map_or (λ t. record h { colours = map (flat_grayed t) h.colours }) found h).gone_before
+            ≡ cycle.gone_before
         gone None = shown.gone_before
         gone (Some t) = shown.gone_before
 
         kept_partial : (found : Option FlatObject)
-            → (option_map_or (λ t. record h { colours = map (flat_grayed t) h.colours }) found h).partly_scanned ≡ h.partly_scanned
+            → (option_map_or (λ t. record h { colours = map (flat_grayed t) h.colours }) found h).partly_scanned
+            ≡ h.partly_scanned
         kept_partial None = refl
         kept_partial (Some t) = refl
 

@@ -57,7 +57,8 @@ module _ (view : FlatView) (a : State) (good : IsGood a) (shows : FlatShows view
 
   -- an effect on the object that a cell means, in words and with its birth number
   pub on_object : (i : ℕ) (on_held : FlatObject → FlatEffect) (on_own : Object → Effect)
-      → ((birth : ℕ) (object : Object) → IsMeant a i birth object → Refines (on_held (flat_object a object)) (on_own object))
+      → ((birth : ℕ) (object : Object) → IsMeant a i birth object
+      → Refines (on_held (flat_object a object)) (on_own object))
       → Refines (with_flat (flat_meant view i) view on_held) (with_some (object_meant a i) a on_own)
   on_object i on_held on_own each =
       let split : (found : Option Object) → object_meant a i ≡ found

@@ -41,7 +41,8 @@ module _ (view : FlatView) (a : State) (good : IsGood a) (shows : FlatShows view
   -- a sum over the objects of a view is one over the live objects
   sum-shown : (f : FlatObject → ℕ) → sum_by f view.objects ≡ sum_by (λ o. f (flat_object a o)) (live_objects a.objects)
   sum-shown f =
-      sums_alike (λ o. o.base) (λ o. o.base) (λ x. x) (flat_object a) view.objects (live_objects a.objects) shows.distinct
+      sums_alike (λ o. o.base) (λ o. o.base) (λ x. x) (flat_object a) view.objects
+      (live_objects a.objects) shows.distinct
       (keyed-lives a good.placed) (objects_alike view a shows) f
 
   counted_slots-held : (o : Object) → flat_counted_slots (flat_object a o) ≡ counted_slots o

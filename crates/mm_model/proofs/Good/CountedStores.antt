@@ -24,7 +24,8 @@ grayed-made_sticky : (a : State) (word : ℕ) (words : List ℕ) (objects : List
 grayed-made_sticky a word words [] colours = refl
 grayed-made_sticky a word words (o ∷ os) [] = refl
 grayed-made_sticky a word words (o ∷ os) (c ∷ cs) =
-    ap (λ rest. (if is_white c && is_live o && names words o then Gray else c) ∷ rest) (grayed-made_sticky a word words os cs)
+    ap (λ rest. (if is_white c && is_live o && names words o then Gray else c) ∷ rest)
+    (grayed-made_sticky a word words os cs)
 
 module _ (a : State) (good : IsGood a) (birth : ℕ) (object : Object) (lives : Lives a birth object) (s : ℕ)
     (value : Value) (refers : IsReferring a value) (within : s < length object.slots)
@@ -67,7 +68,8 @@ module _ (a : State) (good : IsGood a) (birth : ℕ) (object : Object) (lives : 
       })
   shaded_is_good true h =
       good-around (with_sticky value.word store) a.stack cycle a.threshold a.commands h h.referred.stack
-      (if_some-weaker (IsColoured store) (IsColoured (with_sticky value.word store)) (coloured-made_sticky store value.word)
+      (if_some-weaker (IsColoured store) (IsColoured (with_sticky value.word store))
+      (coloured-made_sticky store value.word)
       cycle (coloured-shaded a good birth object lives s value refers))
   shaded_is_good false h =
       good-around store a.stack cycle a.threshold a.commands h h.referred.stack

@@ -70,6 +70,7 @@ grayed_is_coloured a words cycle h =
             gray = gray-after a words cycle h.each partly_scanned.object p.object p.lives p.gray;
             some_done = p.some_done;
             some_left = p.some_left;
-            names = names_no_white-after a words cycle h.each (take partly_scanned.slots_done (scanned_slots p.object)) p.names;
+            names = names_no_white-after a words cycle h.each
+                (take partly_scanned.slots_done (scanned_slots p.object)) p.names;
           }) cycle.partly_scanned h.partly_scanned;
     }

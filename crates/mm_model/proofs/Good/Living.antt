@@ -39,7 +39,8 @@ pub live_piece : (P : Piece → Type 0) (objects : List Object) (i : ℕ) (o : O
 live_piece P [] i o h e l = cc
 live_piece P (x ∷ xs) zero o h e l =
     let same : x ≡ o = cc in
-    let split : (b : Bool) → b ≡ true → AllByRecursion P (map object_piece (cond b (x ∷ live_objects xs) (live_objects xs)))
+    let split : (b : Bool) → b ≡ true
+    → AllByRecursion P (map object_piece (cond b (x ∷ live_objects xs) (live_objects xs)))
     → P (object_piece x) =
     elim [ true ↦ λ p k. k.0 | false ↦ λ p k. cc ] in
     subst (λ y. P (object_piece y)) same (split (is_live x) (ap is_live same ∙ l) h)

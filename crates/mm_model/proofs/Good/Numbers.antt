@@ -24,10 +24,12 @@ pub record HasSameNumbers (a b : State) : Type 0 where
   pub settings : b.settings ≡ a.settings
 
 same_numbers-then : (a b c : State) → HasSameNumbers a b → HasSameNumbers b c → HasSameNumbers a c
-same_numbers-then a b c h k = record { born = k.born ∙ h.born; commands = k.commands ∙ h.commands; settings = k.settings ∙ h.settings }
+same_numbers-then a b c h k =
+    record { born = k.born ∙ h.born; commands = k.commands ∙ h.commands; settings = k.settings ∙ h.settings }
 
 same_numbers-made_sticky : (a : State) (base : ℕ) → HasSameNumbers a (with_sticky base a)
-same_numbers-made_sticky a base = record { born = length-map a.objects (made_sticky a base); commands = refl; settings = refl }
+same_numbers-made_sticky a base =
+    record { born = length-map a.objects (made_sticky a base); commands = refl; settings = refl }
 
 same_numbers-recounted : (kind : SlotKind) (old new : ℕ) (a : State) → HasSameNumbers a (recounted kind old new a)
 same_numbers-recounted kind old new a =
@@ -38,7 +40,10 @@ same_numbers-recounted kind old new a =
 same_numbers-barrier : (kind : SlotKind) (birth s word : ℕ) (a : State) → HasSameNumbers a (barrier kind birth s word a)
 same_numbers-barrier kind birth s word a =
     let split : (b : Bool) → HasSameNumbers a (if b then with_grayed (word ∷ []) a else a) =
-    elim [ true ↦ record { born = refl; commands = refl; settings = refl } | false ↦ record { born = refl; commands = refl; settings = refl } ] in
+    elim [
+      | true ↦ record { born = refl; commands = refl; settings = refl }
+      | false ↦ record { born = refl; commands = refl; settings = refl }
+    ] in
     split (not (is_raw kind) && is_passed a.cycle birth s)
 
 -- what a command leaves of them
@@ -50,7 +55,8 @@ pub record BearsFew (a : State) (effect : Effect) : Type 0 where
 few : (a : State) (effect : Effect) → HasSameNumbers a effect.state → BearsFew a effect
 few a effect h = let born = h.born in record { births = omega arith; commands = h.commands; settings = h.settings }
 
-bears_few-with_some : {X : Type 0} (found : Option X) (a : State) (effect : X → Effect) → ((x : X) → BearsFew a (effect x))
+bears_few-with_some : {X : Type 0} (found : Option X) (a : State) (effect : X → Effect)
+    → ((x : X) → BearsFew a (effect x))
     → BearsFew a (with_some found a effect)
 bears_few-with_some None a effect h = record { births = omega arith; commands = refl; settings = refl }
 bears_few-with_some (Some x) a effect h = h x
@@ -80,7 +86,8 @@ same_numbers-area_put a area s value =
     let kind = cell_kind area s in
     let stored = with_changed_area (with_cell a area s value) a in
     let old = slice_index (words_of area.cells) s in
-    same_numbers-then a stored (recounted kind old value.word stored) (record { born = refl; commands = refl; settings = refl })
+    same_numbers-then a stored (recounted kind old value.word stored)
+    (record { born = refl; commands = refl; settings = refl })
     (same_numbers-recounted kind old value.word stored)
 
 unchanged : (a : State) (effect : Effect) → effect.state.objects ≡ a.objects → effect.state.commands ≡ a.commands
@@ -98,7 +105,8 @@ bears_few-look a (Some target) = bears_few-object a target
 pub bears_few-plain : (a : State) (command : Command) → BearsFew a (plain_effect a command)
 bears_few-plain a (commands.New shape) = unchanged a _ refl refl refl
 bears_few-plain a (commands.Push word) = unchanged a _ refl refl refl
-bears_few-plain a (commands.Dup i) = bears_few-with_some (slice_get a.stack i) a _ (λ value. unchanged a _ refl refl refl)
+bears_few-plain a (commands.Dup i) =
+    bears_few-with_some (slice_get a.stack i) a _ (λ value. unchanged a _ refl refl refl)
 bears_few-plain a (commands.Pop k) = unchanged a _ refl refl refl
 bears_few-plain a (commands.Inner i bytes) =
     bears_few-with_some (slice_get a.stack i) a _ (λ value. unchanged a _ refl refl refl)

@@ -159,9 +159,11 @@ module _ (a : State) (objects : List Object) (alike : map alone objects ≡ map 
               lives = on.lives;
               gray = p.gray;
               some_done = p.some_done;
-              some_left = subst (λ ws. partly_scanned.slots_done < length ws) (sym (ap scanned_slots on.same)) p.some_left;
+              some_left =
+                  subst (λ ws. partly_scanned.slots_done < length ws) (sym (ap scanned_slots on.same)) p.some_left;
               names = no_white-partners cycle (take partly_scanned.slots_done (scanned_slots on.after))
-                  (subst (λ ws. NamesNoWhite a cycle (take partly_scanned.slots_done ws)) (sym (ap scanned_slots on.same)) p.names);
+                  (subst (λ ws. NamesNoWhite a cycle (take partly_scanned.slots_done ws))
+                  (sym (ap scanned_slots on.same)) p.names);
             }) cycle.partly_scanned h.partly_scanned;
       }
 

@@ -79,7 +79,8 @@ module _ (a b : State) (kept : Keeps a b) where
   each_referring-kept (v ∷ vs) h = (referring-kept v h.0, each_referring-kept vs h.1)
 
 -- storing a value once more changes nothing, and its word stays
-pub stored-stored : (a : State) (kind : SlotKind) (value : Value) → stored a kind (stored a kind value) ≡ stored a kind value
+pub stored-stored : (a : State) (kind : SlotKind) (value : Value)
+    → stored a kind (stored a kind value) ≡ stored a kind value
 stored-stored a kind value =
     let split : (origin : Option ℕ)
     → option_and_then (kept_origin a kind) (option_and_then (kept_origin a kind) origin)

@@ -108,7 +108,8 @@ module _ (a : State) (good : IsGood a) (bases : List ℕ) (closed : IsClosed a b
   change-lives o e = split (is_freed bases o) refl e
     where
       split : (c : Bool) → is_freed bases o ≡ c
-          → is_live (if c then record o { gone = true } else record o { partner = unless_freed a bases o.partner }) ≡ true
+          → is_live (if c then record o { gone = true } else record o { partner = unless_freed a bases o.partner })
+          ≡ true
           → (is_live o ≡ true) × (is_freed bases o ≡ false)
       split true p q = cc
       split false p q = (q, p)
@@ -122,7 +123,8 @@ module _ (a : State) (good : IsGood a) (bases : List ℕ) (closed : IsClosed a b
   change-kind o = split (is_freed bases o)
     where
       split : (c : Bool)
-          → (if c then record o { gone = true } else record o { partner = unless_freed a bases o.partner }).kind ≡ o.kind
+          → (if c then record o { gone = true } else record o { partner = unless_freed a bases o.partner }).kind
+          ≡ o.kind
       split true = refl
       split false = refl
 
@@ -154,7 +156,8 @@ module _ (a : State) (good : IsGood a) (bases : List ℕ) (closed : IsClosed a b
           → IfSome origin (λ birth. (o : Object) × Lives b birth o × IsTrue (falls value.word o.base o.extent))
       split None on h = tt
       split (Some birth) on h =
-          (record h.0 { partner = unless_freed a bases h.0.partner }, stays_lives a bases birth h.0 h.1 (on h.0 h.1), h.2)
+          let on_then = stays_lives a bases birth h.0 h.1 (on h.0 h.1) in
+          (record h.0 { partner = unless_freed a bases h.0.partner }, on_then, h.2)
 
   is_stored : (kind : SlotKind) (value : Value) → RefersOn a bases value → IsStored a kind value → IsStored b kind value
   is_stored kind value on h =

@@ -68,7 +68,8 @@ module _ (a : State) (cycle : Cycle) (h : IsColoured a cycle) (birth : ℕ) (obj
   is_done : IsDone done
   is_done = split cycle.partly_scanned h.partly_scanned turn
     where
-      split : (partly_scanned : Option PartlyScanned) → IfSome partly_scanned (IsPartlyScanned a cycle) → IsTrue (may_continue partly_scanned birth)
+      split : (partly_scanned : Option PartlyScanned) → IfSome partly_scanned (IsPartlyScanned a cycle)
+          → IsTrue (may_continue partly_scanned birth)
           → IsDone (done_in partly_scanned birth)
       split None p t = record { within = omega arith; names = λ j o l white named. cc }
       split (Some partly_scanned) p t =
@@ -78,7 +79,8 @@ module _ (a : State) (cycle : Cycle) (h : IsColoured a cycle) (birth : ℕ) (obj
           subst IsDone (sym (ap (λ b. if b then partly_scanned.slots_done else 0) t))
           (record {
             within = omega arith;
-            names = subst (λ (o : Object). NamesNoWhite a cycle (take partly_scanned.slots_done (scanned_slots o))) same p.names;
+            names = subst (λ (o : Object). NamesNoWhite a cycle (take partly_scanned.slots_done (scanned_slots o)))
+                same p.names;
           })
 
   abbrev graying : Cycle

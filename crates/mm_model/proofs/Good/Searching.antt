@@ -144,7 +144,8 @@ searched_is_found a family bytes log b found good (After_reap base dead none rea
       spared = spares-reaped a good dead reapable;
       place = (a.settings.max, omega arith, place);
     }))
-searched_is_found a family bytes log b found good (After_collection dead lost none reapable no_place unreached lines same is) =
+searched_is_found a family bytes log b found good
+    (After_collection dead lost none reapable no_place unreached lines same is) =
     let middle = reaped dead a in
     let good_middle = reaped_is_good a dead good reapable in
     let last = collected lost middle in

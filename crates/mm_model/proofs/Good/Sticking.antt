@@ -214,7 +214,8 @@ module _ (a : State) (word : ℕ) where
         neither true q e = cc
         neither false q e = (refl, e)
 
-        at : (o : Object) → Lives a birth o → is_counted o.kind ≡ true → (made_sticky a word o).sticky ≡ false → (here : Bool)
+        at : (o : Object) → Lives a birth o → is_counted o.kind ≡ true → (made_sticky a word o).sticky ≡ false
+            → (here : Bool)
             → (o.base == word) ≡ here → refs a o.base ≤ 254
         at o lives kind sticky true e =
             let parts = neither o.sticky (begins_counted word o && nat_le 255 (refs a word)) sticky in

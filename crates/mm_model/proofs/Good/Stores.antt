@@ -346,10 +346,12 @@ module _ (a : State) (good : IsGood a) (birth : ℕ) (object : Object) (lives : 
         partly_scanned = partly_scanned after.partly_scanned shades.partly_scanned;
       }
     where
-      some : (p : PartlyScanned) → before.partly_scanned ≡ Some p → IsPartlyScanned a before p → IsPartlyScanned any_store after p
+      some : (p : PartlyScanned) → before.partly_scanned ≡ Some p → IsPartlyScanned a before p
+          → IsPartlyScanned any_store after p
       some p is q =
           let done : (j : ℕ) → p.object ≡ j → done_in before.partly_scanned j ≡ p.slots_done =
-          λ j e. ap (λ partly_scanned. done_in partly_scanned j) is ∙ ap (λ b. if b then p.slots_done else 0) (eq-eqb _ _ e) in
+          λ j e. ap (λ partly_scanned. done_in partly_scanned j) is
+          ∙ ap (λ b. if b then p.slots_done else 0) (eq-eqb _ _ e) in
           let split : (b : Bool) → (p.object == birth) ≡ b → IsPartlyScanned any_store after p =
           elim [
             | true ↦ λ t.
@@ -418,10 +420,12 @@ module _ (a : State) (good : IsGood a) (birth : ℕ) (object : Object) (lives : 
                   ∙ sym (length-map object.slots (λ (v : Value). v.word))
               scanned_length false = refl
 
-      partly_scanned : (found : Option PartlyScanned) → found ≡ before.partly_scanned → IfSome found (IsPartlyScanned any_store after)
+      partly_scanned : (found : Option PartlyScanned) → found ≡ before.partly_scanned
+          → IfSome found (IsPartlyScanned any_store after)
       partly_scanned None e = tt
       partly_scanned (Some p) e =
-          some p (sym e) (subst (λ (found : Option PartlyScanned). IfSome found (IsPartlyScanned a before)) (sym e) h.partly_scanned)
+          some p (sym e) (subst (λ (found : Option PartlyScanned). IfSome found (IsPartlyScanned a before))
+          (sym e) h.partly_scanned)
 
 module _ (a : State) (good : IsGood a) (birth : ℕ) (object : Object) (lives : Lives a birth object) (s : ℕ)
     (value : Value) (refers : IsReferring a value) (uncounted : is_counted_slot (slot_kind object s) ≡ false) where

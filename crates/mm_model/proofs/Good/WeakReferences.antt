@@ -127,4 +127,5 @@ pub weak_made_is_good : (a : State) (target : ℕ) (object : Object) (limit base
     → object.partner ≡ None → is_weak object.kind ≡ false → limit ≤ a.settings.max
     → place_of a limit Objects (object_bytes 0) ≡ Some base → IsGood (weak_made a target object base)
 weak_made_is_good a target object limit base good lives free not_weak within e =
-    paired_is_good a target object base good lives free not_weak (made_is_good a weak_shape limit base good within e (shaped-weak base))
+    paired_is_good a target object base good lives free not_weak
+    (made_is_good a weak_shape limit base good within e (shaped-weak base))

@@ -19,14 +19,16 @@ pub data IsPart {X : Type 0} : List X → List X → Type 0 where
   kept : {xs ys : List X} → (x : X) → IsPart xs ys → IsPart (x ∷ xs) (x ∷ ys)
   left_out : {xs ys : List X} → (y : X) → IsPart xs ys → IsPart xs (y ∷ ys)
 
-pub each-part : {X : Type 0} (P : X → Type 0) (xs ys : List X) → IsPart xs ys → AllByRecursion P ys → AllByRecursion P xs
+pub each-part : {X : Type 0} (P : X → Type 0) (xs ys : List X) → IsPart xs ys → AllByRecursion P ys
+    → AllByRecursion P xs
 each-part P xs ys whole h = tt
 each-part P xs ys (kept {xs = zs} {ys = ws} x part) h = (h.0, each-part P zs ws part h.1)
 each-part P xs ys (left_out {xs = zs} {ys = ws} y part) h = each-part P zs ws part h.1
 
 pub all_apart-part : (ps qs : List Piece) → IsPart ps qs → AreAllApart qs → AreAllApart ps
 all_apart-part ps qs whole h = tt
-all_apart-part ps qs (kept {xs = zs} {ys = ws} p part) h = (each-part (AreApart p) zs ws part h.0, all_apart-part zs ws part h.1)
+all_apart-part ps qs (kept {xs = zs} {ys = ws} p part) h =
+    (each-part (AreApart p) zs ws part h.0, all_apart-part zs ws part h.1)
 all_apart-part ps qs (left_out {xs = zs} {ys = ws} q part) h = all_apart-part zs ws part h.1
 
 pub part-behind : {X : Type 0} (front xs ys : List X) → IsPart xs ys → IsPart (front ++ xs) (front ++ ys)

@@ -172,7 +172,8 @@ pub find-map_alike : {X : Type 0} (test : X → Bool) (f : X → X) → ((x : X)
     → find test (map f xs) ≡ option_map f (find test xs)
 find-map_alike test f same [] = refl
 find-map_alike {X} test f same (x ∷ xs) =
-    let split : (b : Bool) → cond b (Some (f x)) (find test (map f xs)) ≡ option_map f (cond b (Some x) (find test xs)) =
+    let split : (b : Bool)
+    → cond b (Some (f x)) (find test (map f xs)) ≡ option_map f (cond b (Some x) (find test xs)) =
     elim [ true ↦ refl | false ↦ find-map_alike test f same xs ] in
     ap (λ b. cond b (Some (f x)) (find test (map f xs))) (same x) ∙ split (test x)
 

@@ -250,7 +250,8 @@ abbrev pub tail_of : {a : State} {command : Command} {group : List Line} {b : St
     → List Line
 tail_of step = step.end_log ++ lines.Reply step.effect.reply ∷ []
 
-module _ (a : State) (command : Command) (group : List Line) (b : State) (placed : IsPlaced a.settings.max (live_pieces a))
+module _ (a : State) (command : Command) (group : List Line) (b : State)
+    (placed : IsPlaced a.settings.max (live_pieces a))
     (step : IsCarriedOut a command group b) where
   -- the row of a command that is carried out, as it is read back from the group
   pub row_after-carried : row_after a command group ≡ row_as step.effect (phases_in (tail_of step))

@@ -13,37 +13,38 @@ use Rattle.mm_model.specs.After.{freed_bases, phases_in, scanned_bases}
 
 -- a reading of logs that passes over the lines of finalizers
 module _ {X : Type 0} (read : List Line → X)
-    (over_final : (base slots words : ℕ) (rest : List Line) → read (lines.Final base slots words ∷ rest) ≡ read rest) where
-  read-final : (found : Option Object) (rest : List Line) → read (final_lines found ++ rest) ≡ read rest
-  read-final None rest = refl
-  read-final (Some object) rest =
-      let split : (b : Bool)
-      → read (cond b (lines.Final object.base (length object.slots) (sum (words_of object.slots) % 2 ^ 32) ∷ []) []
-      ++ rest) ≡ read rest =
-      elim [
-        | true ↦ over_final object.base (length object.slots) (sum (words_of object.slots) % 2 ^ 32) rest
-        | false ↦ refl
-      ] in
-      split object.finalize
+    (over_final : (base slots words : ℕ) (rest : List Line) → read (lines.Final base slots words ∷ rest) ≡ read rest)
+  where
+    read-final : (found : Option Object) (rest : List Line) → read (final_lines found ++ rest) ≡ read rest
+    read-final None rest = refl
+    read-final (Some object) rest =
+        let split : (b : Bool)
+        → read (cond b (lines.Final object.base (length object.slots) (sum (words_of object.slots) % 2 ^ 32) ∷ []) []
+        ++ rest) ≡ read rest =
+        elim [
+          | true ↦ over_final object.base (length object.slots) (sum (words_of object.slots) % 2 ^ 32) rest
+          | false ↦ refl
+        ] in
+        split object.finalize
 
-  read-finals : (a : State) (bases : List ℕ) (rest : List Line)
-      → read (flat_map (λ base. final_lines (find (lives_at base) a.objects)) bases ++ rest) ≡ read rest
-  read-finals a [] rest = refl
-  read-finals a (base ∷ bases) rest =
-      let others : List Line = flat_map (λ base. final_lines (find (lives_at base) a.objects)) bases in
-      ap read (append_assoc (final_lines (find (lives_at base) a.objects)) others rest)
-      ∙ read-final (find (lives_at base) a.objects) (others ++ rest)
-      ∙ read-finals a bases rest
+    read-finals : (a : State) (bases : List ℕ) (rest : List Line)
+        → read (flat_map (λ base. final_lines (find (lives_at base) a.objects)) bases ++ rest) ≡ read rest
+    read-finals a [] rest = refl
+    read-finals a (base ∷ bases) rest =
+        let others : List Line = flat_map (λ base. final_lines (find (lives_at base) a.objects)) bases in
+        ap read (append_assoc (final_lines (find (lives_at base) a.objects)) others rest)
+        ∙ read-final (find (lives_at base) a.objects) (others ++ rest)
+        ∙ read-finals a bases rest
 
-  -- what is read of a phase begins at its own line
-  read-phase : (what : Phase) (a : State) (bases : List ℕ) (rest : List Line)
-      → read (phase_lines what a bases ++ rest)
-      ≡ read (lines.Phase what (length bases) ∷ map lines.Free bases ++ rest)
-  read-phase what a bases rest =
-      ap read
-      (append_assoc (flat_map (λ base. final_lines (find (lives_at base) a.objects)) bases)
-      (lines.Phase what (length bases) ∷ map lines.Free bases) rest)
-      ∙ read-finals a bases (lines.Phase what (length bases) ∷ map lines.Free bases ++ rest)
+    -- what is read of a phase begins at its own line
+    read-phase : (what : Phase) (a : State) (bases : List ℕ) (rest : List Line)
+        → read (phase_lines what a bases ++ rest)
+        ≡ read (lines.Phase what (length bases) ∷ map lines.Free bases ++ rest)
+    read-phase what a bases rest =
+        ap read
+        (append_assoc (flat_map (λ base. final_lines (find (lives_at base) a.objects)) bases)
+        (lines.Phase what (length bases) ∷ map lines.Free bases) rest)
+        ∙ read-finals a bases (lines.Phase what (length bases) ∷ map lines.Free bases ++ rest)
 
 -- and over the lines of freed objects
 module _ {X : Type 0} (read : List Line → X)

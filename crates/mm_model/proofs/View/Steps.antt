@@ -104,7 +104,8 @@ step-shown view a good shows command group left step =
     (subst (λ v. Shows v one.state) (sym one.left_is) (view_of-shows one.state))
   where
     to_after : (a : State) (command : Command) (group : List Line) (left : View) {b : State}
-        → b ≡ after a command group → IsStep a command group b → IsGood b → Shows left b → StepShown a command group left
+        → b ≡ after a command group → IsStep a command group b → IsGood b → Shows left b
+        → StepShown a command group left
     to_after a command group left is step good shows =
         record {
           step = subst (IsStep a command group) is step;
