@@ -103,30 +103,33 @@ module _ (a : State) (placed : IsPlaced a.settings.max (live_pieces a)) (Dead : 
       split true = and_false (is_live o)
       split false = and_true (is_live o)
 
+  -- one object more: what is left of it lives or it is freed, if it lived
+  one_more-parts : (bases : List ℕ) (o x : Object) (left os : List Object)
+      → is_live x ≡ (is_live o && not (is_freed bases o))
+      → length left + count_by (is_freed bases) os ≡ length (live_objects os)
+      → length (cond (is_live x) (x ∷ left) left) + count_by (is_freed bases) (o ∷ os) ≡ length (live_objects (o ∷ os))
+  one_more-parts bases o x left os lives rest =
+      ap (λ b. length (cond b (x ∷ left) left) + count_by (is_freed bases) (o ∷ os)) lives
+      ∙ ap (λ n. length (cond (is_live o && not (is_freed bases o)) (x ∷ left) left) + n)
+      (sum_by-cons (λ y. cond (is_freed bases y) 1 0) o os)
+      ∙ split (is_live o) (lists bases o.base)
+    where
+      split : (live listed : Bool)
+          → length (cond (live && not (live && listed)) (x ∷ left) left)
+          + (cond (live && listed) 1 0 + count_by (is_freed bases) os)
+          ≡ length (cond live (o ∷ live_objects os) (live_objects os))
+      split true true = omega (arith, rest)
+      split true false = omega (arith, rest)
+      split false listed = omega (arith, rest)
+
   -- what lives and what is freed together lived before
   live_count-parts : (bases : List ℕ) (objects : List Object)
       → length (live_objects (map (after_release a bases) objects)) + count_by (is_freed bases) objects
       ≡ length (live_objects objects)
   live_count-parts bases [] = refl
   live_count-parts bases (o ∷ os) =
-      let rest = live_count-parts bases os in
-      let own = sum_by-cons (λ x. cond (is_freed bases x) 1 0) o os in
-      let left = live_objects (map (after_release a bases) os) in
-      let x = after_release a bases o in
-      let here : length (cond (is_live x) (x ∷ left) left)
-      ≡ length (cond (is_live o && not (is_freed bases o)) (x ∷ left) left) =
-      ap (λ b. length (cond b (x ∷ left) left)) (live-after bases o) in
-      let split : (live listed : Bool)
-      → length (cond (live && not (live && listed)) (x ∷ left) left)
-      + (cond (live && listed) 1 0 + count_by (is_freed bases) os)
-      ≡ length (cond live (o ∷ live_objects os) (live_objects os)) =
-      elim [
-        | true ↦ elim [ true ↦ omega (arith, rest) | false ↦ omega (arith, rest) ]
-        | false ↦ λ listed. omega (arith, rest)
-      ] in
-      ap (λ n. n + count_by (is_freed bases) (o ∷ os)) here
-      ∙ ap (λ n. length (cond (is_live o && not (is_freed bases o)) (x ∷ left) left) + n) own
-      ∙ split (is_live o) (lists bases o.base)
+      one_more-parts bases o (after_release a bases o) (live_objects (map (after_release a bases) os)) os
+      (live-after bases o) (live_count-parts bases os)
 
   -- the totals that are left
   pub totals-released : (bases : List ℕ) → AreBasesOf a Dead bases
