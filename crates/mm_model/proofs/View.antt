@@ -8,12 +8,14 @@ pub mod Changes
 pub mod CommonBases
 pub mod Ends
 pub mod Entries
+pub mod GoodViews
 pub mod Graying
 pub mod MarkedSets
 pub mod Meaning
 pub mod NewObjects
 pub mod Parts
 pub mod Phases
+pub mod Placed
 pub mod Protecting
 pub mod Puts
 pub mod Reads
