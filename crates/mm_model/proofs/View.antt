@@ -8,6 +8,7 @@ pub mod Changes
 pub mod CommonBases
 pub mod Ends
 pub mod Entries
+pub mod GoodRoom
 pub mod GoodViews
 pub mod Graying
 pub mod MarkedSets
