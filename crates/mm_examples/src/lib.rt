@@ -9,6 +9,7 @@ mod cycles;
 mod finalizers;
 mod finishing;
 mod full;
+mod held_often;
 mod places;
 mod room;
 mod text;
