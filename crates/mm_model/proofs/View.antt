@@ -10,6 +10,7 @@ pub mod Ends
 pub mod Entries
 pub mod GoodRoom
 pub mod GoodViews
+pub mod GoodWords
 pub mod Graying
 pub mod MarkedSets
 pub mod Meaning
