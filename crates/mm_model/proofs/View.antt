@@ -15,6 +15,7 @@ pub mod Meaning
 pub mod NewObjects
 pub mod Parts
 pub mod Phases
+pub mod Plain
 pub mod Protecting
 pub mod Puts
 pub mod Reads
