@@ -1,6 +1,5 @@
 -- The bases of what is in a set by base are those of what is in the set by birth.
-use Rattle.std.proofs.Common.{◌≡◌, ℕ, List, [], ◌∷◌, Some, sym, subst}
-use Rattle.std.specs.List.{AllByRecursion}
+use Rattle.std.proofs.Common.{◌≡◌, ℕ, List, Some, sym, subst}
 use Rattle.mm_model.specs.Object.{Object}
 use Rattle.mm_model.specs.State.{State, Cycle, Lives}
 use Rattle.mm_model.specs.Words.{root_words}
@@ -12,7 +11,7 @@ use Rattle.mm_model.specs.Good.{IsPlaced}
 use Rattle.mm_model.specs.Phase.{AreBasesOf, AreReaped, AreCollected, AreFinished}
 use Rattle.mm_model.specs.ByBase.{Begins}
 use Rattle.mm_model.specs.ObjectView.{ObjectView}
-use Rattle.mm_model.specs.SetsByBase.{AreBasesAt, IsReapableAt, IsUnreachedAt, IsFreedAtFinishAt}
+use Rattle.mm_model.specs.SetsByBase.{AreBasesAt, IsUnreachedAt, IsFreedAtFinishAt}
 use Rattle.mm_model.specs.View.{seen, seen_objects, view_of}
 use Rattle.mm_model.specs.ViewPhase.{ViewReaps, ViewCollects, ViewFinishes}
 use Rattle.mm_model.proofs.Places.Placing.{each_weaker}

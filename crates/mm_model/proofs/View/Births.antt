@@ -1,8 +1,7 @@
 -- What a birth in a good state does to its view, with or without another object changed.
-use Rattle.std.proofs.Common.{◌≡◌, ℕ, ◌+◌, ◌-◌, ◌<◌, ◌≤◌, Bool, true, false, List, [], ◌∷◌, ◌++◌, map, length, Option, Some, None, refl, sym, ap, ◌∙◌, subst, ⊎_elim, append_assoc, arith}
+use Rattle.std.proofs.Common.{◌≡◌, ℕ, ◌+◌, ◌-◌, ◌<◌, true, List, [], ◌∷◌, ◌++◌, map, length, Option, Some, None, refl, sym, ap, ◌∙◌, subst, append_assoc, arith}
 use Rattle.std.proofs.lemmas.List.{map-append, length_push, length-map, get_or_append_left, get_or_push}
 use Rattle.std.proofs.lemmas.List.Elements.{filter-append}
-use Rattle.std.proofs.lemmas.Option.{slice_get_within}
 use Rattle.std.specs.Prelude.{IfSome, if◌then◌else◌, slice_get}
 use Rattle.std.specs.Option.{option_map, option_and_then}
 use Rattle.mm_model.specs.declared.object.Colour.TheVariants.{White, Black}
@@ -10,15 +9,14 @@ use Rattle.mm_model.specs.Value.{reference}
 use Rattle.mm_model.specs.Object.{Object, is_live, live_objects}
 use Rattle.mm_model.specs.State.{State, Cycle, PartlyScanned, Lives, live_count, totals_of, pushed, with_black_birth, with_born}
 use Rattle.mm_model.specs.Marking.{colour_in}
-use Rattle.mm_model.specs.Place.{Piece, area_piece, object_piece, live_pieces}
-use Rattle.mm_model.specs.Good.{AreApart, IsPlaced, IsPartlyScanned, IsColoured, IsGood}
+use Rattle.mm_model.specs.Place.{area_piece, object_piece, live_pieces}
+use Rattle.mm_model.specs.Good.{IsPlaced, IsPartlyScanned, IsColoured, IsGood}
 use Rattle.mm_model.specs.ByBase.{with_entry}
 use Rattle.mm_model.specs.ObjectView.{ObjectView, ObjectsByBase}
-use Rattle.mm_model.specs.View.{View, base_of, seen, seen_objects, seen_partly, seen_cycle, view_of}
+use Rattle.mm_model.specs.View.{base_of, seen_objects, seen_partly, seen_cycle, view_of}
 use Rattle.mm_model.specs.ViewEffect.{birth_colour, one_more_born, view_with_born}
 use Rattle.mm_model.proofs.Lists.Growing.{get-front, get-last}
 use Rattle.mm_model.proofs.Good.Births.{placed-push}
-use Rattle.mm_model.proofs.Good.Living.{each_after, live_piece, some_extent, lives_extent}
 use Rattle.mm_model.proofs.Places.Placing.{Goes}
 use Rattle.mm_model.proofs.View.Scanning.{base_of-lives}
 
@@ -39,7 +37,8 @@ module _ (a : State) (good : IsGood a) where
 -- An object is born where other objects may be changed in what neither their pieces nor their bases tell.
 module _ (a : State) (good : IsGood a) (front : List Object) (newborn : Object)
     (pieces : map object_piece (live_objects front) ≡ map object_piece (live_objects a.objects))
-    (births : length front ≡ length a.objects) (bases : (j : ℕ) → base_of (record a { objects = front }) j ≡ base_of a j)
+    (births : length front ≡ length a.objects)
+    (bases : (j : ℕ) → base_of (record a { objects = front }) j ≡ base_of a j)
     (live : is_live newborn ≡ true) (goes : Goes a.settings.max (live_pieces a) (object_piece newborn)) where
   abbrev pub born : State
   born = pushed (reference newborn.base (length a.objects)) (with_born newborn (record a { objects = front }))

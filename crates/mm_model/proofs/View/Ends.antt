@@ -1,5 +1,5 @@
 -- The end of a command does to a view what it does to its state.
-use Rattle.std.proofs.Common.{◌≡◌, ℕ, ◌<◌, ◌≤◌, Bool, List, refl, sym, ap, ◌∙◌, subst}
+use Rattle.std.proofs.Common.{◌≡◌, ◌<◌, ◌≤◌, Bool, List, refl, subst}
 use Rattle.mm_model.specs.declared.line.Line.{Line}
 use Rattle.mm_model.specs.State.{State}
 use Rattle.mm_model.specs.Good.{IsGood}

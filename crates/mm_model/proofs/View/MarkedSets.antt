@@ -1,8 +1,5 @@
 -- What marking reaches by base, and what `finish` keeps and frees, are the same by birth.
-use Rattle.std.proofs.Common.{◌≡◌, ℕ, Bool, not, List, Some, refl, sym, ap, ◌∙◌, subst}
-use Rattle.std.specs.Prelude.{IsTrue}
-use Rattle.mm_model.specs.declared.object.Colour.{Colour}
-use Rattle.mm_model.specs.declared.object.Colour.TheVariants.{White, Gray}
+use Rattle.std.proofs.Common.{◌≡◌, ℕ, not, Some, refl, sym, ap, ◌∙◌, subst}
 use Rattle.mm_model.specs.Object.{Object}
 use Rattle.mm_model.specs.State.{State, Cycle, Lives}
 use Rattle.mm_model.specs.Words.{root_words, scanned_slots, names}
@@ -31,7 +28,8 @@ module _ (a : State) (placed : IsPlaced a.settings.max (live_pieces a)) where
       IsMarkedAt.Already object.base (seen a birth object) (begins-seen a placed birth object lives) coloured
   marked_at birth (IsMarked.By_slot number own by holder there held named marked) object lives =
       let same = lives_same a birth object own lives there in
-      IsMarkedAt.By_slot object.base (seen a birth object) holder.base (seen a by holder) (begins-seen a placed birth object lives)
+      IsMarkedAt.By_slot object.base (seen a birth object) holder.base (seen a by holder)
+      (begins-seen a placed birth object lives)
       (begins-seen a placed by holder held) (ap (names (scanned_slots holder)) same ∙ named)
       (marked_at by marked holder held)
 
@@ -70,7 +68,8 @@ module _ (a : State) (placed : IsPlaced a.settings.max (live_pieces a)) where
       IsKeptAtFinish.Already birth object lives (sym (colour_own base o begins birth object lives at) ∙ gray)
   kept_by base (IsKeptAtFinishAt.By_slot number o by holder begins white held named kept) birth object lives at =
       let s = seen-begins a by holder held in
-      IsKeptAtFinish.By_slot birth object s.birth s.object lives (sym (colour_own base o begins birth object lives at) ∙ white)
+      IsKeptAtFinish.By_slot birth object s.birth s.object lives
+      (sym (colour_own base o begins birth object lives at) ∙ white)
       s.lives
       (sym (names_at-own a placed (scanned_slots s.object) base o begins birth object lives at)
       ∙ ap (λ h. names_at (scanned_words_of h) base o) (sym s.is) ∙ named)

@@ -1,15 +1,15 @@
 -- What `new` does to a view, once a place was looked for, is what it does to the state.
-use Rattle.std.proofs.Common.{◌≡◌, ℕ, ◌+◌, ◌*◌, ◌<◌, ◌≤◌, Bool, true, false, List, [], ◌∷◌, ◌++◌, map, length, replicate, Option, Some, None, refl, sym, ap, ◌∙◌, subst, ⊎_elim, ◌⊎◌, inl, inr, arith}
+use Rattle.std.proofs.Common.{◌≡◌, ℕ, ◌*◌, ◌≤◌, [], ◌∷◌, length, Option, Some, None, refl, sym, ap, ◌∙◌, ⊎_elim, arith}
 use Rattle.std.proofs.lemmas.Option.{slice_get_within}
 use Rattle.std.specs.Prelude.{IfSome, slice_get}
 use Rattle.std.specs.Option.{option_map, option_and_then}
 use Rattle.mm_model.specs.declared.object.Shape.{Shape}
 use Rattle.mm_model.specs.SizeClass.{object_bytes}
 use Rattle.mm_model.specs.Object.{Object, newborn}
-use Rattle.mm_model.specs.State.{State, Cycle, Lives}
+use Rattle.mm_model.specs.State.{State, Lives}
 use Rattle.mm_model.specs.Place.{Objects, object_piece, live_pieces, place_of}
 use Rattle.mm_model.specs.Effect.{made_at, new_effect}
-use Rattle.mm_model.specs.Good.{IsPaired, IsColoured, IsGood}
+use Rattle.mm_model.specs.Good.{IsPaired, IsGood}
 use Rattle.mm_model.specs.ByBase.{with_entry}
 use Rattle.mm_model.specs.ObjectView.{ObjectView}
 use Rattle.mm_model.specs.View.{seen, seen_objects, seen_cycle, base_of, view_of}
@@ -19,7 +19,7 @@ use Rattle.mm_model.proofs.Good.Births.{goes_at}
 use Rattle.mm_model.proofs.Places.Placing.{Goes}
 use Rattle.mm_model.proofs.View.Areas.{words_of-zeros}
 use Rattle.mm_model.proofs.View.Births.{colour-old, colour-newborn, placed-born, lives-newborn, base_of-old, view_with_born-seen}
-use Rattle.mm_model.proofs.View.CommonBases.{IsSeenAs, IsTaken, seen_at-base, seen_at-alike}
+use Rattle.mm_model.proofs.View.CommonBases.{seen_at-base, seen_at-alike}
 use Rattle.mm_model.proofs.View.SameEffects.{SameEffect}
 use Rattle.mm_model.proofs.View.Seen.{piece_grain, seen_objects-with_entry}
 
@@ -76,18 +76,18 @@ module _ (a : State) (good : IsGood a) (shape : Shape) (base : ℕ)
       (get-push a.objects (newborn shape base) j o h.is)))
       ∙ ap (λ b. with_entry b entry (seen_objects a)) (sym inside.1)
 
-  made-same : SameEffect (view_new_effect (view_of a) shape (Some base)) (new_effect a shape (Some base))
-  made-same =
+  made-seen : SameEffect (view_new_effect (view_of a) shape (Some base)) (new_effect a shape (Some base))
+  made-seen =
       record {
         view = view_with_born-seen a good a.objects (newborn shape base) refl refl (λ j. refl) refl goes
             (seen_objects a) (newborn_view shape (option_map (seen_cycle a) a.cycle)) (sym objects-made);
         reply = refl;
       }
 
-pub new-same : (a : State) (good : IsGood a) (shape : Shape) (found : Option ℕ)
+pub new-seen : (a : State) (good : IsGood a) (shape : Shape) (found : Option ℕ)
     → IfSome found (λ base.
     (limit : ℕ) × (limit ≤ a.settings.max) × (place_of a limit Objects (object_bytes shape.slots) ≡ Some base))
     → SameEffect (view_new_effect (view_of a) shape found) (new_effect a shape found)
-new-same a good shape None place = record { view = refl; reply = refl }
-new-same a good shape (Some base) place =
-    made-same a good shape base (goes_at a shape place.0 base good place.1 place.2)
+new-seen a good shape None place = record { view = refl; reply = refl }
+new-seen a good shape (Some base) place =
+    made-seen a good shape base (goes_at a shape place.0 base good place.1 place.2)

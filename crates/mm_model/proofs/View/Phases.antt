@@ -1,10 +1,9 @@
 -- A phase of a view is one of its state: the same lines, and what is left is the view of what the state leaves.
-use Rattle.std.proofs.Common.{◌≡◌, ℕ, ◌+◌, ◌*◌, max, Bool, true, false, List, [], ◌∷◌, ◌++◌, map, length, Option, Some, None, refl, sym, ap, ◌∙◌, eqb-true, subst}
-use Rattle.std.proofs.lemmas.Bool.{eq-eqb}
+use Rattle.std.proofs.Common.{◌≡◌, ℕ, ◌*◌, max, List, [], ◌∷◌, ◌++◌, map, length, Option, Some, None, refl, sym, ap, ◌∙◌, subst}
 use Rattle.std.proofs.lemmas.List.{length-map}
-use Rattle.std.specs.Prelude.{◌==◌, ◌%◌, ◌^◌, IsTrue, IfSome, is_some, sum, if◌then◌else◌}
+use Rattle.std.specs.Prelude.{◌%◌, ◌^◌, IsTrue, IfSome, is_some, sum, if◌then◌else◌}
 use Rattle.std.specs.List.{find, flat_map, AllByRecursion}
-use Rattle.std.specs.Option.{option_map, option_and_then}
+use Rattle.std.specs.Option.{option_map}
 use Rattle.mm_model.specs.declared.line.Line.{Line}
 use Rattle.mm_model.specs.declared.line.Line.TheVariants as lines
 use Rattle.mm_model.specs.declared.line.Phase.{Phase}
@@ -15,37 +14,30 @@ use Rattle.mm_model.specs.Object.{Object}
 use Rattle.mm_model.specs.State.{State, Cycle, Lives, lives_at, totals_of}
 use Rattle.mm_model.specs.Place.{live_pieces}
 use Rattle.mm_model.specs.Good.{IsPlaced, IsColoured, IsGood}
-use Rattle.mm_model.specs.Phase.{final_lines, phase_lines, released, with_threshold, reaped, collected, AreBasesOf, AreReaped, AreCollected, AreFinished}
+use Rattle.mm_model.specs.Phase.{final_lines, phase_lines, released, reaped, collected, AreBasesOf, AreReaped, AreCollected, AreFinished}
 use Rattle.mm_model.specs.Step.{Reaps, Collects, Finishes}
-use Rattle.mm_model.specs.ByBase.{Based, based, changed}
-use Rattle.mm_model.specs.ObjectView.{ObjectView}
-use Rattle.mm_model.specs.View.{View, CycleView, seen, seen_cycle, seen_objects, view_of}
+use Rattle.mm_model.specs.ByBase.{changed}
+use Rattle.mm_model.specs.View.{View, CycleView, seen, seen_objects, view_of}
 use Rattle.mm_model.specs.ViewEffect.{with_colour, view_with_white}
-use Rattle.mm_model.specs.ViewWords.{object_at, view_zero_count}
-use Rattle.mm_model.specs.ViewPhase.{view_final_lines, view_phase_lines, view_after_release, view_cycle_left, so_many_freed, view_released, view_with_threshold, view_reaped, view_collected}
+use Rattle.mm_model.specs.ViewWords.{object_at}
+use Rattle.mm_model.specs.ViewPhase.{view_final_lines, view_phase_lines, so_many_freed, view_released, view_with_threshold, view_reaped, view_collected}
 use Rattle.mm_model.specs.ViewStep.{ViewReapsOnce, ViewCollectsOnce, ViewFinishesOnce}
 use Rattle.mm_model.proofs.Good.Phases.{reaped_is_good, collected_is_good, finished_is_good}
 use Rattle.mm_model.proofs.View.Bases.{reaps-seen, collects-seen, finishes-seen}
 use Rattle.mm_model.proofs.View.Changes.{seen_at-changed}
+use Rattle.mm_model.proofs.View.Meaning.{object_at-lives}
 use Rattle.mm_model.proofs.View.Releases.{objects-released, cycle-released}
-use Rattle.mm_model.proofs.View.Seen.{seen_based, one_birth, find-lives_at, find-seen, seen_objects-changed}
+use Rattle.mm_model.proofs.View.Seen.{find-lives_at, seen_objects-changed}
 use Rattle.mm_model.proofs.View.Totals.{totals-released}
 use Rattle.mm_model.proofs.View.Words.{view_zero_count-seen}
 
 module _ (a : State) (placed : IsPlaced a.settings.max (live_pieces a)) where
-  -- what begins at the base of a live object
-  object_at-seen : (birth : ℕ) (object : Object) → Lives a birth object
-      → object_at (seen_objects a) object.base ≡ Some (seen_based a birth object)
-  object_at-seen birth object lives =
-      find-seen a placed (λ o. o.base == object.base) birth object lives (eq-eqb object.base object.base refl)
-      (λ other o there e. one_birth a placed other birth o object there lives (eqb-true o.base object.base e))
-
   -- the line of a finalizer
   final_lines-seen : (birth : ℕ) (object : Object) → Lives a birth object
       → view_final_lines (object_at (seen_objects a) object.base)
       ≡ final_lines (find (lives_at object.base) a.objects)
   final_lines-seen birth object lives =
-      ap view_final_lines (object_at-seen birth object lives)
+      ap view_final_lines (object_at-lives a placed birth object lives)
       ∙ ap (λ n. if object.finalize then lines.Final object.base n (sum (words_of object.slots) % 2 ^ 32) ∷ [] else [])
       (length-map object.slots (λ value. value.word))
       ∙ ap final_lines (sym (find-lives_at a placed birth object lives))

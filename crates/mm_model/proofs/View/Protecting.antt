@@ -1,6 +1,5 @@
 -- What is protected by base is so by birth.
-use Rattle.std.proofs.Common.{◌≡◌, ℕ, Bool, not, List, refl, sym, ap, ◌∙◌}
-use Rattle.std.specs.Prelude.{IsTrue}
+use Rattle.std.proofs.Common.{◌≡◌, ℕ, not, refl, sym, ap, ◌∙◌}
 use Rattle.mm_model.specs.Object.{Object, is_counted}
 use Rattle.mm_model.specs.State.{State, Lives}
 use Rattle.mm_model.specs.Words.{stack_words, area_words, counted_cell_words, counted_slots, word_slots, names, holds}
@@ -43,18 +42,19 @@ module _ (a : State) (placed : IsPlaced a.settings.max (live_pieces a)) where
       (ap (λ x. is_counted x.kind) same ∙ counted) (ap (holds (counted_cell_words a)) same ∙ held)
   protected_at birth (IsProtected.By_slot number own by holder there uncounted keeps named protected) object lives =
       let same = lives_same a birth object own lives there in
-      IsProtectedAt.By_slot object.base (seen a birth object) holder.base (seen a by holder) (begins-seen a placed birth object lives)
+      IsProtectedAt.By_slot object.base (seen a birth object) holder.base (seen a by holder)
+      (begins-seen a placed birth object lives)
       (ap (λ x. not (is_counted x.kind)) same ∙ uncounted) (begins-seen a placed by holder keeps)
       (ap (λ words. names words object) (word_words_of-seen a by holder) ∙ ap (names (word_slots holder)) same ∙ named)
       (protected_at by protected holder keeps)
-  protected_at birth (IsProtected.By_counted_slot number own by holder there counted keeps held protected) object lives =
+  protected_at birth (IsProtected.By_counted_slot number own by holder there counted keeps held inner) object lives =
       let same = lives_same a birth object own lives there in
       IsProtectedAt.By_counted_slot object.base (seen a birth object) holder.base (seen a by holder)
       (begins-seen a placed birth object lives) (ap (λ x. is_counted x.kind) same ∙ counted)
       (begins-seen a placed by holder keeps)
       (ap (λ words. holds words object) (counted_words_of-seen a by holder)
       ∙ ap (holds (counted_slots holder)) same ∙ held)
-      (protected_at by protected holder keeps)
+      (protected_at by inner holder keeps)
 
   protected_by : (base : ℕ) → IsProtectedAt (seen_objects a) (roots_of a) base → (birth : ℕ) (object : Object)
       → Lives a birth object → object.base ≡ base → IsProtected a birth
@@ -67,22 +67,24 @@ module _ (a : State) (placed : IsPlaced a.settings.max (live_pieces a)) where
   protected_by base (IsProtectedAt.By_counted_cell number o begins counted held) birth object lives at =
       IsProtected.By_counted_cell birth object lives (sym (kind_own base o begins birth object lives at) ∙ counted)
       (ap (holds_base (counted_cell_words a)) at ∙ held)
-  protected_by base (IsProtectedAt.By_slot number o by holder begins uncounted keeps named protected) birth object lives at =
+  protected_by base (IsProtectedAt.By_slot number o by holder begins uncounted keeps named inner) birth object lives
+      at =
       let s = seen-begins a by holder keeps in
       IsProtected.By_slot birth object s.birth s.object lives
       (ap not (sym (kind_own base o begins birth object lives at)) ∙ uncounted) s.lives
       (sym (names_at-own a placed (word_slots s.object) base o begins birth object lives at)
       ∙ ap (λ words. names_at words base o) (sym (ap word_words_of s.is ∙ word_words_of-seen a s.birth s.object))
       ∙ named)
-      (protected_by by protected s.birth s.object s.lives s.at)
-  protected_by base (IsProtectedAt.By_counted_slot number o by holder begins counted keeps held protected) birth object lives at =
+      (protected_by by inner s.birth s.object s.lives s.at)
+  protected_by base (IsProtectedAt.By_counted_slot _ o by holder begins counted keeps held inner) birth object lives
+      at =
       let s = seen-begins a by holder keeps in
       IsProtected.By_counted_slot birth object s.birth s.object lives
       (sym (kind_own base o begins birth object lives at) ∙ counted) s.lives
       (ap (holds_base (counted_slots s.object)) at
       ∙ ap (λ words. holds_base words base) (sym (ap counted_words_of s.is ∙ counted_words_of-seen a s.birth s.object))
       ∙ held)
-      (protected_by by protected s.birth s.object s.lives s.at)
+      (protected_by by inner s.birth s.object s.lives s.at)
 
   pub protected_same : IsSameSet a (IsProtected a) (IsProtectedAt (seen_objects a) (roots_of a))
   protected_same =

@@ -1,6 +1,6 @@
 -- What is reapable by base is so by birth.
-use Rattle.std.proofs.Common.{◌≡◌, ℕ, Bool, true, not, List, refl, sym, ap, ◌∙◌, subst}
-use Rattle.std.specs.Prelude.{IsTrue, ◌==◌, ◌&&◌}
+use Rattle.std.proofs.Common.{◌≡◌, ℕ, true, not, refl, sym, ap, ◌∙◌, subst}
+use Rattle.std.specs.Prelude.{◌==◌, ◌&&◌}
 use Rattle.std.specs.List.{count_by}
 use Rattle.mm_model.specs.Object.{Object, is_counted}
 use Rattle.mm_model.specs.State.{State, Lives}
@@ -9,7 +9,7 @@ use Rattle.mm_model.specs.Place.{live_pieces}
 use Rattle.mm_model.specs.Good.{IsPlaced}
 use Rattle.mm_model.specs.Reapable.{only_slots_hold, IsReapable}
 use Rattle.mm_model.specs.ByBase.{Begins}
-use Rattle.mm_model.specs.ObjectView.{ObjectView, names_at, holds_base, counted_words_of}
+use Rattle.mm_model.specs.ObjectView.{ObjectView, holds_base, counted_words_of}
 use Rattle.mm_model.specs.SetsByBase.{only_slots_hold_at, IsReapableAt}
 use Rattle.mm_model.specs.View.{seen, seen_objects, view_of}
 use Rattle.mm_model.specs.ViewWords.{outside_references}

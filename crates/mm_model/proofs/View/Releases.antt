@@ -1,5 +1,5 @@
 -- Releasing objects does to a view what it does to its state.
-use Rattle.std.proofs.Common.{◌≡◌, ℕ, ◌+◌, ◌*◌, Bool, true, false, List, map, length, Option, Some, None, refl, sym, ap, ◌∙◌}
+use Rattle.std.proofs.Common.{◌≡◌, ℕ, ◌*◌, Bool, true, false, List, Option, Some, None, refl, sym, ap, ◌∙◌}
 use Rattle.std.proofs.lemmas.Option.{slice_get-map}
 use Rattle.std.specs.Prelude.{IfSome, slice_get, ◌&&◌, if◌then◌else◌}
 use Rattle.std.specs.Option.{option_map, option_and_then, option_map_or}
@@ -195,7 +195,8 @@ module _ (a : State) (good : IsGood a) (bases : List ℕ)
       (sym (is_freed_birth-lives a bases p.object h.object h.lives))
     where
       split : {n : ℕ} (c : Bool) → base_of b p.object ≡ Some n
-          → ◌≡◌ {A = Option PartlyScannedView} (if c then None else Some (record { base = n; slots_done = p.slots_done }))
+          → ◌≡◌ {A = Option PartlyScannedView}
+          (if c then None else Some (record { base = n; slots_done = p.slots_done }))
           (option_and_then (seen_partly b) (if c then None else Some p))
       split true e = refl
       split false e =

@@ -1,5 +1,5 @@
 -- A search for a place in a view is one in its state, and leaves the view of what the state's leaves.
-use Rattle.std.proofs.Common.{◌≡◌, ℕ, List, ◌++◌, Option, Some, None, refl, sym, ap, ◌∙◌, subst}
+use Rattle.std.proofs.Common.{◌≡◌, ℕ, List, ◌++◌, Option, None, refl, sym, ap, ◌∙◌, subst}
 use Rattle.mm_model.specs.declared.line.Line.{Line}
 use Rattle.mm_model.specs.declared.line.Phase.TheVariants.{Reap, Collect}
 use Rattle.mm_model.specs.State.{State}
@@ -8,7 +8,7 @@ use Rattle.mm_model.specs.Good.{IsGood}
 use Rattle.mm_model.specs.Phase.{phase_lines, reaped, collected, AreReaped}
 use Rattle.mm_model.specs.Search.{place_now, place_grown, Searches}
 use Rattle.mm_model.specs.View.{View, view_of}
-use Rattle.mm_model.specs.ViewPhase.{view_phase_lines, view_reaped, view_collected, ViewReaps, ViewCollects}
+use Rattle.mm_model.specs.ViewPhase.{view_phase_lines, view_reaped, view_collected, ViewCollects}
 use Rattle.mm_model.specs.ViewStep.{view_place_now, view_place_grown, ViewSearches}
 use Rattle.mm_model.proofs.Good.Phases.{reaped_is_good, collected_is_good}
 use Rattle.mm_model.proofs.View.Bases.{reaps-seen, collects-seen}
@@ -38,7 +38,8 @@ module _ (a : State) (good : IsGood a) (family : Family) (bytes : ℕ) where
   search-shown log left found (ViewSearches.At_once base place no_lines same is) =
       record {
         state = a;
-        searches = Searches.At_once base (sym (view_place_now-seen a good.placed family bytes) ∙ place) no_lines refl is;
+        searches = Searches.At_once base (sym (view_place_now-seen a good.placed family bytes) ∙ place) no_lines
+            refl is;
         left_is = same;
       }
   search-shown log left found (ViewSearches.After_reap base dead none reaps place lines same is) =

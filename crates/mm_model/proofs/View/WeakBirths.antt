@@ -1,33 +1,33 @@
 -- What `weak` does to a view where it makes a weak reference is what it does to the state.
-use Rattle.std.proofs.Common.{◌≡◌, ℕ, ◌+◌, ◌*◌, ◌/◌, ◌<◌, ◌≤◌, Bool, true, false, eqb-true, List, [], ◌∷◌, ◌++◌, map, length, replicate, Option, Some, None, refl, sym, ap, ◌∙◌, subst, ⊎_elim, ◌⊎◌, inl, inr, arith}
+use Rattle.std.proofs.Common.{◌≡◌, ℕ, ◌*◌, ◌/◌, ◌<◌, ◌≤◌, Bool, true, false, eqb-true, List, [], ◌∷◌, map, length, Option, Some, None, refl, sym, ap, ◌∙◌, subst, ⊎_elim, arith}
 use Rattle.std.proofs.lemmas.Bool.{eq-eqb}
 use Rattle.std.proofs.lemmas.List.{length-set}
 use Rattle.std.proofs.lemmas.Option.{slice_get_within}
 use Rattle.std.specs.Prelude.{IfSome, slice_get, slice_set, ◌==◌, if◌then◌else◌}
 use Rattle.std.specs.Option.{option_map, option_and_then}
+use Rattle.mm_model.specs.declared.reply.Reply.TheVariants as replies
 use Rattle.mm_model.specs.SizeClass.{object_bytes}
 use Rattle.mm_model.specs.Object.{Object, newborn, live_objects}
-use Rattle.mm_model.specs.State.{State, Cycle, Lives}
+use Rattle.mm_model.specs.State.{State, Lives}
 use Rattle.mm_model.specs.Place.{Objects, object_piece, live_pieces, place_of}
 use Rattle.mm_model.specs.Effect.{with_some, weak_shape, weak_made, weak_effect}
-use Rattle.mm_model.specs.Good.{IsPlaced, IsPaired, IsColoured, IsGood}
+use Rattle.mm_model.specs.Good.{IsPlaced, IsPaired, IsGood}
 use Rattle.mm_model.specs.ByBase.{with_entry}
 use Rattle.mm_model.specs.ObjectView.{ObjectView, ObjectsByBase}
 use Rattle.mm_model.specs.View.{seen, seen_at, seen_objects, seen_cycle, base_of, view_of}
 use Rattle.mm_model.specs.ViewEffect.{with_found, newborn_view, view_weak_made, view_weak_effect}
-use Rattle.mm_model.specs.ViewWords.{object_at}
-use Rattle.mm_model.specs.declared.reply.Reply.TheVariants as replies
 use Rattle.mm_model.proofs.Lists.Growing.{get-front, get-push}
 use Rattle.mm_model.proofs.Lists.Replaced.{get-set_same, get-set_other, get-set_cases, map_live-set, option_get-set_alike}
 use Rattle.mm_model.proofs.Good.Births.{goes_at}
-use Rattle.mm_model.proofs.Good.Living.{lives_same, lives_inside, lives_once_at}
+use Rattle.mm_model.proofs.Good.Living.{lives_same, lives_inside}
 use Rattle.mm_model.proofs.Places.Placing.{Goes}
 use Rattle.mm_model.proofs.View.Births.{colour-old, colour-newborn, placed-born, lives-newborn, base_of-old, view_with_born-seen}
-use Rattle.mm_model.proofs.View.CommonBases.{IsSeenAs, IsTaken, seen_at-base, seen_at-alike}
+use Rattle.mm_model.proofs.View.CommonBases.{seen_at-base, seen_at-alike}
 use Rattle.mm_model.proofs.View.Entries.{get-with_entry}
+use Rattle.mm_model.proofs.View.Meaning.{object_at-lives}
 use Rattle.mm_model.proofs.View.SameEffects.{SameEffect}
 use Rattle.mm_model.proofs.View.Scanning.{base_of-lives}
-use Rattle.mm_model.proofs.View.Seen.{seen_based, piece_grain, length-seen, get-seen, find-seen, seen_objects-entries}
+use Rattle.mm_model.proofs.View.Seen.{seen_based, piece_grain, length-seen, get-seen, seen_objects-entries}
 
 module _ (a : State) (good : IsGood a) (target : ℕ) (object : Object) (lives : Lives a target object) (base : ℕ)
     (goes : Goes a.settings.max (live_pieces a) (object_piece (newborn weak_shape base))) where
@@ -193,23 +193,22 @@ module _ (a : State) (good : IsGood a) (target : ℕ) (object : Object) (lives :
       view_with_born-seen a good front weak pieces births bases refl goes
       (with_entry object.base (Some target_view) (seen_objects a)) weak_view entries
 
-pub weak-same : (a : State) (good : IsGood a) (target : ℕ) (object : Object) → Lives a target object
+pub weak-seen : (a : State) (good : IsGood a) (target : ℕ) (object : Object) → Lives a target object
     → (found : Option ℕ) → IfSome found (λ base.
     (limit : ℕ) × (limit ≤ a.settings.max) × (place_of a limit Objects (object_bytes 0) ≡ Some base))
     → SameEffect (view_weak_effect (view_of a) object.base found) (weak_effect a target found)
-weak-same a good target object lives None place = record { view = refl; reply = refl }
-weak-same a good target object lives (Some base) place =
+weak-seen a good target object lives None place = record { view = refl; reply = refl }
+weak-seen a good target object lives (Some base) place =
     let goes = goes_at a weak_shape place.0 base good place.1 place.2 in
-    let there : object_at (seen_objects a) object.base ≡ Some (seen_based a target object) =
-    find-seen a good.placed (λ o. o.base == object.base) target object lives (eq-eqb object.base object.base refl)
-    (λ j o h e. lives_once_at a good.placed j target o object h lives (eqb-true _ _ e)) in
     subst
     (λ found. SameEffect (with_found found (view_of a) (λ o.
     record { view = view_weak_made (view_of a) o base; reply = replies.New base }))
     (weak_effect a target (Some base)))
-    (sym there)
+    (sym (object_at-lives a good.placed target object lives))
     (subst
-    (λ found. SameEffect (record { view = view_weak_made (view_of a) (seen_based a target object) base; reply = replies.New base })
+    (λ found.
+    SameEffect
+    (record { view = view_weak_made (view_of a) (seen_based a target object) base; reply = replies.New base })
     (with_some found a (λ o. record { state = weak_made a target o base; reply = replies.New base })))
     (sym lives.is)
     (record { view = weak_made-seen a good target object lives base goes; reply = refl }))
