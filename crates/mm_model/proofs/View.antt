@@ -32,6 +32,7 @@ pub mod Scanning
 pub mod Searches
 pub mod Seen
 pub mod Sets
+pub mod Shown
 pub mod Steps
 pub mod Sticky
 pub mod Stores

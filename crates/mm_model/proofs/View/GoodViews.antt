@@ -28,6 +28,7 @@ use Rattle.mm_model.proofs.Places.Placing.{each_weaker}
 use Rattle.mm_model.proofs.View.Placed.{placed-seen}
 use Rattle.mm_model.proofs.View.Scanning.{base_of-lives}
 use Rattle.mm_model.proofs.View.Seen.{length-seen, begins-seen, seen-begins}
+use Rattle.mm_model.proofs.View.Shown.{shown-is}
 use Rattle.mm_model.proofs.View.Words.{counted_words_of-seen, counted_cells_of-seen, count_at-seen, begins_counted_in-seen}
 
 -- words are as many as the values that have them
@@ -213,19 +214,6 @@ module _ (a : State) (good : IsGood a) where
         coloured = coloured-seen a.cycle refl good.coloured;
       }
 
--- a view shows a state where it is the view of the state, part by part
-shown-is : (view : View) (a : State) → Shows view a → view ≡ view_of a
-shown-is view a shows =
-    λ t.
-    record {
-      objects = shows.objects t;
-      stack = shows.stack t;
-      areas = shows.areas t;
-      cycle = shows.cycle t;
-      threshold = shows.threshold t;
-      totals = shows.totals t;
-      settings = shows.settings t;
-    }
-
+-- so is each view that shows one
 pub shown_is_good : (view : View) (a : State) → IsGood a → Shows view a → IsGoodView view
 shown_is_good view a good shows = subst IsGoodView (sym (shown-is view a shows)) (good-view a good)
