@@ -8,6 +8,7 @@ pub mod Changes
 pub mod CommonBases
 pub mod Ends
 pub mod Entries
+pub mod GoodCounts
 pub mod GoodRoom
 pub mod GoodViews
 pub mod GoodWords
