@@ -6,7 +6,7 @@ use Rattle.std.specs.List.{sum_by, count_by}
 use Rattle.mm_model.specs.Object.{Object, is_live, is_counted, live_objects}
 use Rattle.mm_model.specs.State.{State}
 use Rattle.mm_model.specs.Good.{IsGood}
-use Rattle.mm_model.specs.ByBase.{Begins, Based, based}
+use Rattle.mm_model.specs.ByBase.{Begins, based}
 use Rattle.mm_model.specs.ObjectView.{ObjectView, ObjectsByBase}
 use Rattle.mm_model.specs.SetsByBase.{count_at, is_zero_count_at, zero_count_of}
 use Rattle.mm_model.specs.View.{View, Shows, seen_objects, view_of}
