@@ -8,6 +8,10 @@ pub mod Changes
 pub mod CommonBases
 pub mod Ends
 pub mod Entries
+pub mod GoodCounts
+pub mod GoodRoom
+pub mod GoodViews
+pub mod GoodWords
 pub mod Graying
 pub mod Makes
 pub mod MarkedSets
@@ -15,6 +19,7 @@ pub mod Meaning
 pub mod NewObjects
 pub mod Parts
 pub mod Phases
+pub mod Placed
 pub mod Plain
 pub mod Protecting
 pub mod Puts
@@ -28,6 +33,7 @@ pub mod Scanning
 pub mod Searches
 pub mod Seen
 pub mod Sets
+pub mod Shown
 pub mod Steps
 pub mod Sticky
 pub mod Stores

@@ -1,7 +1,6 @@
 -- The state before a command and the lines of its group determine the state after it.
-use Rattle.std.proofs.Common.{◌≡◌, ℕ, zero, suc, ◌+◌, Bool, true, false, cond, eq-eqb, eqb-true, List, [], ◌∷◌, ◌++◌, Option, Some, None, refl, sym, ap, ◌∙◌, subst, append_assoc, arith}
-use Rattle.std.specs.Prelude.{nat_le, slice_get}
-use Rattle.std.specs.List.{position_from}
+use Rattle.std.proofs.Common.{◌≡◌, ℕ, Bool, true, false, cond, List, [], ◌∷◌, ◌++◌, Option, Some, None, sym, ap, ◌∙◌, append_assoc, arith}
+use Rattle.std.specs.Prelude.{nat_le}
 use Rattle.std.specs.Option.{option_and_then, option_map_or}
 use Rattle.std.proofs.lemmas.Bool.Decides.{nat_tests}
 use Rattle.mm_model.specs.declared.command.Command.{Command}
@@ -15,7 +14,7 @@ use Rattle.mm_model.specs.declared.line.Phase.TheVariants.{Reap, Collect}
 use Rattle.mm_model.specs.SizeClass.{object_bytes, area_bytes}
 use Rattle.mm_model.specs.Place.{Family, Objects, Areas, live_pieces}
 use Rattle.mm_model.specs.Object.{Object}
-use Rattle.mm_model.specs.State.{State, Lives, lives_at, one_more_command}
+use Rattle.mm_model.specs.State.{State, one_more_command}
 use Rattle.mm_model.specs.Count.{zero_count}
 use Rattle.mm_model.specs.Good.{IsGood, IsPlaced}
 use Rattle.mm_model.specs.Meaning.{object_meant}
@@ -26,44 +25,9 @@ use Rattle.mm_model.specs.Scan.{AreScanned}
 use Rattle.mm_model.specs.Effect.{Effect, done, new_effect, weak_effect, area_effect, pushes_object, plain_effect}
 use Rattle.mm_model.specs.Refusing.{refusal}
 use Rattle.mm_model.specs.Step.{Makes, IsPlain, MakesWeak, Carries, is_full, Ends, Refused_as_full, Below_threshold, At_threshold, IsCarriedOut, IsStepUnless, IsStep}
-use Rattle.mm_model.specs.After.{phases_in, scanned_bases, first_phase, later_phases, Searched, collected_unless, reaped_unless, searched, Row, row_made, birth_at, part_done_at, parts_done, weak_row, row_after, ended, after_unless, after}
-use Rattle.mm_model.proofs.Places.Placing.{both}
-use Rattle.mm_model.proofs.Good.Living.{lives_once_at}
+use Rattle.mm_model.specs.After.{phases_in, scanned_bases, first_phase, later_phases, Searched, collected_unless, reaped_unless, searched, Row, row_made, part_done_at, parts_done, weak_row, row_after, ended, after_unless, after}
 use Rattle.mm_model.proofs.Steps.Groups.{phases_in-phase_lines, scanned_bases-phase_lines}
-use Rattle.mm_model.proofs.Lists.Truth.{together}
-
--- the only element that passes is the first one
-position-only : {X : Type 0} (test : X → Bool) (from : ℕ) (xs : List X) (i : ℕ) (x : X) → slice_get xs i ≡ Some x
-    → test x ≡ true → ((j : ℕ) (y : X) → slice_get xs j ≡ Some y → test y ≡ true → j ≡ i)
-    → position_from test from xs ≡ Some (from + i)
-position-only test from [] i x e t only = cc
-position-only test from (y ∷ ys) zero x e t only =
-    let same : x ≡ y = cc in
-    let here : Some from ≡ Some (from + 0) = ap (λ (n : ℕ). Some n) (omega arith) in
-    ap (λ b. cond b (Some from) (position_from test (from + 1) ys)) (subst (λ z. test z ≡ true) same t) ∙ here
-position-only {X} test from (y ∷ ys) (suc i) x e t only =
-    let split : (b : Bool) → test y ≡ b
-    → cond b (Some from) (position_from test (from + 1) ys) ≡ Some (from + suc i) =
-    elim [
-      | true ↦ λ h. let first = only 0 y refl h in absurd (omega arith)
-      | false ↦ λ h.
-          let next : Some (from + 1 + i) ≡ Some (from + suc i) = ap (λ (n : ℕ). Some n) (omega arith) in
-          position-only test (from + 1) ys i x e t
-          (λ j z f g. let also = only (suc j) z f g in omega arith) ∙ next
-    ] in
-    split (test y) refl
-
-birth_at-live : (a : State) → IsPlaced a.settings.max (live_pieces a) → (birth : ℕ) (object : Object)
-    → Lives a birth object → birth_at a object.base ≡ Some birth
-birth_at-live a placed birth object lives =
-    let here : lives_at object.base object ≡ true =
-    together _ _ lives.live (eq-eqb object.base object.base refl) in
-    let from_zero : Some (0 + birth) ≡ Some birth = ap (λ (n : ℕ). Some n) (omega arith) in
-    position-only (lives_at object.base) 0 a.objects birth object lives.is here
-    (λ j y e h.
-    let parts = both _ _ h in
-    lives_once_at a placed j birth y object (record { is = e; live = parts.0 }) lives (eqb-true _ _ parts.1))
-    ∙ from_zero
+use Rattle.mm_model.proofs.Good.LiveLists.{birth_at-lives}
 
 -- parts that are scanned leave the objects as they are
 parts_done-scanned : (a : State) → IsPlaced a.settings.max (live_pieces a) → (births : List ℕ) (log tail : List Line)
@@ -77,7 +41,7 @@ parts_done-scanned a placed (birth ∷ births) log tail b scanned none =
     let rest = scanned.1 in
     ap (λ log. parts_done a (scanned_bases (log ++ tail))) scanned.3
     ∙ ap (λ found. parts_done (part_done_at a found) (scanned_bases (rest ++ tail)))
-    (birth_at-live a placed birth object scanned.2.lives)
+    (birth_at-lives a placed birth object scanned.2.lives)
     ∙ ap
     (λ (found : Option Object).
     parts_done (option_map_or (part_done a birth) found a) (scanned_bases (rest ++ tail)))

@@ -15,33 +15,8 @@ use Rattle.mm_model.proofs.Good.Steps.{carries_stays, step_is_good}
 use Rattle.mm_model.proofs.Steps.Determining.{lines_determine_the_state}
 use Rattle.mm_model.proofs.View.Ends.{end-shown}
 use Rattle.mm_model.proofs.View.Rows.{carries-shown}
+use Rattle.mm_model.proofs.View.Shown.{shown-is, view_of-shows}
 use Rattle.mm_model.proofs.View.Tests.{view_refusal-seen}
-
--- a view shows a state where it is the view of the state, part by part
-pub shown-is : (view : View) (a : State) → Shows view a → view ≡ view_of a
-shown-is view a shows =
-    λ t.
-    record {
-      objects = shows.objects t;
-      stack = shows.stack t;
-      areas = shows.areas t;
-      cycle = shows.cycle t;
-      threshold = shows.threshold t;
-      totals = shows.totals t;
-      settings = shows.settings t;
-    }
-
-pub view_of-shows : (a : State) → Shows (view_of a) a
-view_of-shows a =
-    record {
-      objects = refl;
-      stack = refl;
-      areas = refl;
-      cycle = refl;
-      threshold = refl;
-      totals = refl;
-      settings = refl;
-    }
 
 -- a step of a state, with the view that is left
 record UnlessShown (because : Option Refusal) (a : State) (command : Command) (group : List Line)
