@@ -29,7 +29,7 @@ use Rattle.mm_model.specs.Step.{Makes, IsPlain, MakesWeak, Carries, is_full, End
 use Rattle.mm_model.specs.After.{phases_in, scanned_bases, first_phase, later_phases, Searched, collected_unless, reaped_unless, searched, Row, row_made, birth_at, part_done_at, parts_done, weak_row, row_after, ended, after_unless, after}
 use Rattle.mm_model.proofs.Places.Placing.{both}
 use Rattle.mm_model.proofs.Good.Living.{lives_once_at}
-use Rattle.mm_laws.proofs.Groups.{phases_in-phase_lines, scanned_bases-phase_lines}
+use Rattle.mm_laws.proofs.Stepping.Groups.{phases_in-phase_lines, scanned_bases-phase_lines}
 use Rattle.mm_model.proofs.Lists.Truth.{together}
 
 -- the only element that passes is the first one

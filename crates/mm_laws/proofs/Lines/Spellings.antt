@@ -6,9 +6,9 @@ use Rattle.mm_model.specs.declared.line.Line.{Line}
 use Rattle.mm_model.specs.Spelling.{spelling, spelling_of}
 use Rattle.mm_model.specs.Trace.{pieces_of}
 use Rattle.mm_laws.specs.Lines.{IsSpelledInFull, AreNothing, AreAlike}
-use Rattle.mm_laws.proofs.Words.{is_space, slice_split-joined_words, pieces_of-newline, pieces_of-injective}
-use Rattle.mm_laws.proofs.LineWords.{body, line_words, line_words-clean, line_words-some, spelling-body, body-no_newline}
-use Rattle.mm_laws.proofs.ReadBack.{line_words-alike}
+use Rattle.mm_laws.proofs.Lines.Words.{is_space, slice_split-joined_words, pieces_of-newline, pieces_of-injective}
+use Rattle.mm_laws.proofs.Lines.LineWords.{body, line_words, line_words-clean, line_words-some, spelling-body, body-no_newline}
+use Rattle.mm_laws.proofs.Lines.ReadBack.{line_words-alike}
 
 pieces_of-spelling : (line : Line) (rest : List ℕ) → pieces_of (spelling line ++ rest) ≡ body line ∷ pieces_of rest
 pieces_of-spelling line rest =

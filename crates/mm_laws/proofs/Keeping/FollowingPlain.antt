@@ -14,7 +14,7 @@ use Rattle.mm_model.specs.Meaning.{meant_at, object_meant}
 use Rattle.mm_model.specs.Areas.{area_at, with_changed_area}
 use Rattle.mm_model.specs.Effect.{Effect, with_some, look_effect, pushes_object, plain_effect}
 use Rattle.mm_model.proofs.Lists.Replaced.{map-set_alike, map-map_alike}
-use Rattle.mm_laws.proofs.Following.{marks, HasSameMarks}
+use Rattle.mm_laws.proofs.Keeping.Following.{marks, HasSameMarks}
 
 same_marks-made_sticky : (a : State) (base : ℕ) → HasSameMarks a (with_sticky base a)
 same_marks-made_sticky a base = map-map_alike marks (made_sticky a base) (λ object. refl) a.objects

@@ -16,9 +16,10 @@ use Rattle.mm_model.specs.Refusing.{first_refusal, refusal, no_cell, means_nothi
 use Rattle.mm_model.specs.Course.{IsGone}
 use Rattle.mm_model.specs.Good.{IsGood}
 use Rattle.mm_model.specs.Step.{IsStepUnless, IsCarriedOut, IsStep}
+use Rattle.mm_model.proofs.Cycle.Courses.{gone_lives_not}
 use Rattle.mm_laws.specs.WeakReferences.{IsMadeFor}
-use Rattle.mm_laws.proofs.Referring.{within-get}
-use Rattle.mm_laws.proofs.WeakReferences.{gone_lives, look-gone, look-lives, gone_or_lives}
+use Rattle.mm_laws.proofs.Meaning.Referring.{within-get}
+use Rattle.mm_laws.proofs.Targets.WeakReferences.{look-gone, look-lives, gone_or_lives}
 
 -- the lines end with a word that is 0 exactly where the target is gone
 abbrev Tells : State → ℕ → List Line → Type 0
@@ -83,5 +84,5 @@ module _ (a : State) (i weak target : ℕ) (object : Object) (good : IsGood a) (
                 c.log ++ c.end_log,
                 t.base,
                 ends t.base told.0,
-                (λ e. absurd (told.1 e), λ gone. absurd (gone_lives a target t gone there)),
+                (λ e. absurd (told.1 e), λ gone. absurd (gone_lives_not a target gone t there)),
               )

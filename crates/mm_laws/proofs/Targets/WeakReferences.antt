@@ -20,10 +20,11 @@ use Rattle.mm_model.proofs.Lists.Growing.{get-last}
 use Rattle.mm_model.proofs.Good.Living.{lives_from_page_1}
 use Rattle.mm_model.proofs.Good.Steps.{step_is_good}
 use Rattle.mm_model.specs.Course.{IsGone}
+use Rattle.mm_model.proofs.Cycle.Courses.{gone_lives_not}
 use Rattle.mm_laws.specs.WeakReferences.{IsTarget, Partner, Freed, IsMadeFor}
-use Rattle.mm_laws.proofs.Following.{Keeps, made_for-kept, keeps-then}
-use Rattle.mm_laws.proofs.FollowingSteps.{length-searched, keeps-ended, keeps-one_more}
-use Rattle.mm_laws.proofs.Referring.{lives-reference}
+use Rattle.mm_laws.proofs.Keeping.Following.{Keeps, made_for-kept, keeps-then}
+use Rattle.mm_laws.proofs.Keeping.FollowingSteps.{length-searched, keeps-ended, keeps-one_more}
+use Rattle.mm_laws.proofs.Meaning.Referring.{lives-reference}
 
 -- what a list ends with is one alone
 last_alike : {X : Type 0} (xs ys : List X) (x y : X) → xs ++ x ∷ [] ≡ ys ++ y ∷ [] → x ≡ y
@@ -155,18 +156,6 @@ lives-weak a i target group before base b good least step written means =
     (step_is_good a (commands.Weak i) group b good least step) one.top refl in
     (weak.0, weak.1, one.place weak.0 weak.1.is)
 
--- what is gone doesn't live
-pub gone_lives : (a : State) (birth : ℕ) (object : Object) → IsGone a birth → Lives a birth object → ⊥
-gone_lives a birth object h lives =
-    let first = h.is in
-    let second = lives.is in
-    let same : h.object ≡ object = cc in
-    clash object.gone (ap (λ (o : Object). o.gone) (sym same) ∙ h.gone) lives.live
-  where
-    clash : (gone : Bool) → gone ≡ true → not gone ≡ true → ⊥
-    clash true e f = cc
-    clash false e f = cc
-
 module _ (a : State) (weak target : ℕ) (object : Object) (good : IsGood a) (made : IsMadeFor a weak target)
     (lives : Lives a weak object) where
   abbrev reply : Reply
@@ -195,7 +184,7 @@ module _ (a : State) (weak target : ℕ) (object : Object) (good : IsGood a) (ma
   look-gone gone = split of_target
     where
       split : IsTarget a object target → reply ≡ replies.Word 0
-      split (Partner is) = let pair = paired is in absurd (gone_lives a target pair.partner gone pair.lives)
+      split (Partner is) = let pair = paired is in absurd (gone_lives_not a target gone pair.partner pair.lives)
       split (Freed none freed) = ap (λ p. (look_effect a p).reply) none
 
   pub gone-look : reply ≡ replies.Word 0 → IsGone a target
@@ -214,7 +203,7 @@ module _ (a : State) (weak target : ℕ) (object : Object) (good : IsGood a) (ma
     where
       split : IsTarget a object target → reply ≡ replies.Word t.base
       split (Partner is) = look-partner t is there
-      split (Freed none freed) = absurd (gone_lives a target t freed there)
+      split (Freed none freed) = absurd (gone_lives_not a target freed t there)
 
   pub gone_or_lives : IsGone a target ⊎ ((t : Object) × Lives a target t)
   gone_or_lives = split of_target

@@ -16,7 +16,7 @@ use Rattle.mm_model.specs.declared.line.Phase.TheVariants as phases
 use Rattle.mm_model.specs.Spelling.{kind_word}
 use Rattle.mm_model.specs.Trace.{entry_at}
 use Rattle.mm_laws.specs.Lines.{reply_numbers, numbers_of, IsSpelledInFull, AreNothing, answered_nothing, refused_nothing}
-use Rattle.mm_laws.proofs.LineWords.{line_words}
+use Rattle.mm_laws.proofs.Lines.LineWords.{line_words}
 
 abbrev word_at : ℕ → List (List ℕ) → List ℕ
 word_at i words = get_or words i []

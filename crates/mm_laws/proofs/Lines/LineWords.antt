@@ -14,7 +14,7 @@ use Rattle.mm_model.specs.declared.line.Phase.{Phase}
 use Rattle.mm_model.specs.declared.line.Phase.TheVariants as phases
 use Rattle.mm_model.specs.Spelling.{refusal_text, kind_word, phase_word, spelling}
 use Rattle.mm_model.proofs.Text.Traces.{NoNewline}
-use Rattle.mm_laws.proofs.Words.{AreWords, are_words, IsWord-from_test, decimal-word, sentence-joined, joined_words-no_newline, is_space}
+use Rattle.mm_laws.proofs.Lines.Words.{AreWords, are_words, IsWord-from_test, decimal-word, sentence-joined, joined_words-no_newline, is_space}
 
 abbrev pub refusal_words : Refusal → List (List ℕ)
 refusal_words refusal = slice_split is_space (refusal_text refusal)

@@ -25,8 +25,8 @@ use Rattle.mm_model.specs.Log.{IsRun}
 use Rattle.mm_model.specs.Step.{IsPlain, Makes, MakesWeak, Reaps, Carries, Ends, Refused_as_full, Below_threshold, At_threshold, IsStepUnless, IsStep}
 use Rattle.mm_model.proofs.FlatView.StackEffects.{all_allowed}
 use Rattle.mm_laws.specs.WeakReferences.{IsMadeFor}
-use Rattle.mm_laws.proofs.Following.{Keeps, made_for-kept, keeps-then, keeps-same_marks, keeps-same, keeps-more, keeps-weak_made, keeps-released}
-use Rattle.mm_laws.proofs.FollowingPlain.{same_marks-object, same_marks-plain}
+use Rattle.mm_laws.proofs.Keeping.Following.{Keeps, made_for-kept, keeps-then, keeps-same_marks, keeps-same, keeps-more, keeps-weak_made, keeps-released}
+use Rattle.mm_laws.proofs.Keeping.FollowingPlain.{same_marks-object, same_marks-plain}
 
 keeps-reaped : (a : State) (dead : List ℕ) → Keeps a (reaped dead a)
 keeps-reaped a dead = keeps-released a (reaped dead a) dead refl

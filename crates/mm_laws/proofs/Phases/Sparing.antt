@@ -10,7 +10,7 @@ use Rattle.mm_model.specs.Marking.{IsFreedAtFinish}
 use Rattle.mm_model.specs.Phase.{AreReaped, AreCollected, AreFinished}
 use Rattle.mm_laws.specs.Sparing.{Spares}
 use Rattle.mm_model.proofs.Good.Closing.{dead_listed}
-use Rattle.mm_laws.proofs.Reaching.{reapable_is_not_protected, protected_is_reached}
+use Rattle.mm_laws.proofs.Phases.Reaching.{reapable_is_not_protected, protected_is_reached}
 use Rattle.mm_model.proofs.Cycle.Marked.{unmarked_is_not_reached}
 
 pub reap-spares : (a : State) (bases : List ℕ) → IsGood a → AreReaped a bases → Spares a bases (IsProtected a)

@@ -12,6 +12,7 @@ use Rattle.mm_model.specs.Effect.{weak_made}
 use Rattle.mm_model.proofs.Lists.Growing.{get-front}
 use Rattle.mm_model.proofs.Lists.Replaced.{get-set_same, get-set_other}
 use Rattle.mm_model.specs.Course.{IsGone}
+use Rattle.mm_model.proofs.Lists.Truth.{no_other}
 use Rattle.mm_laws.specs.WeakReferences.{IsTarget, Partner, Freed, IsMadeFor}
 
 -- What becomes of an object: it stands under its birth number, what was freed stays so, and a weak reference keeps its
@@ -121,9 +122,6 @@ pub keeps-weak_made : (a : State) (target : ℕ) (object : Object) (base : ℕ) 
     → is_weak object.kind ≡ false → Keeps a (weak_made a target object base)
 keeps-weak_made a target object base is strong birth before e = split (birth == target) refl
   where
-    clash : false ≡ true → ⊥
-    clash q = cc
-
     split : (c : Bool) → (birth == target) ≡ c → IsKept (weak_made a target object base) birth before
     split true p =
         let here = eqb-true _ _ p in
@@ -137,18 +135,18 @@ keeps-weak_made a target object base is strong birth before e = split (birth == 
           kind = ap (λ (o : Object). o.kind) same;
           base = ap (λ (o : Object). o.base) same;
           gone = λ g. ap (λ (o : Object). o.gone) same ∙ g;
-          empty = λ w none. absurd (clash (sym strong_before ∙ w));
-          follows = λ w t partner. absurd (clash (sym strong_before ∙ w));
+          empty = λ w none. absurd (no_other strong_before w);
+          follows = λ w t partner. absurd (no_other strong_before w);
         }
     split false p =
-        let other : birth ≡ target → ⊥ = λ same. clash (sym p ∙ eq-eqb _ _ same) in
+        let other : birth ≡ target → ⊥ = λ same. no_other p (eq-eqb _ _ same) in
         alike-kept (weak_made a target object base) birth before before
         (get-front (slice_set a.objects target (targeted a object)) _ birth before
         (get-set_other a.objects target birth (targeted a object) other ∙ e)) refl
 
 -- A phase empties exactly the weak references whose targets it frees.
 module _ (a b : State) (bases : List ℕ) (is : b.objects ≡ map (after_release a bases) a.objects) where
-  get-released : (birth : ℕ) (before : Object) → slice_get a.objects birth ≡ Some before
+  pub get-released : (birth : ℕ) (before : Object) → slice_get a.objects birth ≡ Some before
       → slice_get b.objects birth ≡ Some (after_release a bases before)
   get-released birth before e =
       ap (λ os. slice_get os birth) is ∙ slice_get-map (after_release a bases) a.objects birth

@@ -9,15 +9,8 @@ use Rattle.mm_model.specs.Reached.{IsUnreached}
 use Rattle.mm_model.specs.Phase.{lists, is_freed, unless_freed, after_release, collected, AreCollected}
 use Rattle.mm_model.specs.Good.{IsGood}
 use Rattle.mm_model.proofs.Good.Closing.{dead_listed}
-
-live_or_gone : (gone : Bool) → gone ≡ true → not gone ≡ true → ⊥
-live_or_gone true e f = cc
-live_or_gone false e f = cc
-
-get-collected : (a : State) (bases : List ℕ) (birth : ℕ) (object : Object) → slice_get a.objects birth ≡ Some object
-    → slice_get (collected bases a).objects birth ≡ Some (after_release a bases object)
-get-collected a bases birth object is =
-    slice_get-map (after_release a bases) a.objects birth ∙ ap (option_map (after_release a bases)) is
+use Rattle.mm_model.proofs.Lists.Truth.{not_true}
+use Rattle.mm_laws.proofs.Keeping.Following.{get-released}
 
 -- what a release makes of an object, by whether it is freed
 abbrev released_as : State → List ℕ → Object → Bool → Object
@@ -47,11 +40,11 @@ lived-collected a bases birth left lives = found (slice_get a.objects birth) ref
       where
         split : (gone : Bool) → object.gone ≡ gone → (o : Object) × Lives a birth o
         split true g =
-            let first = get-collected a bases birth object e in
+            let first = get-released a (collected bases a) bases refl birth object e in
             let second = lives.is in
             let same : after_release a bases object ≡ left = cc in
-            absurd (live_or_gone left.gone (ap (λ (o : Object). o.gone) (sym same) ∙ gone-released a bases object g)
-            lives.live)
+            absurd (not_true left.gone lives.live
+            (ap (λ (o : Object). o.gone) (sym same) ∙ gone-released a bases object g))
         split false g = (object, record { is = e; live = ap not g })
 
 module _ (a : State) (bases : List ℕ) (birth : ℕ) (object : Object) (good : IsGood a) (are : AreCollected a bases)
@@ -66,11 +59,11 @@ module _ (a : State) (bases : List ℕ) (birth : ℕ) (object : Object) (good : 
       reached : (left : Object) × Lives (collected bases a) birth left → IsUnreached a birth → ⊥
       reached (left, after) unreached =
           let freed = freed-live ∙ are.all birth object lives unreached in
-          let first = get-collected a bases birth object lives.is in
+          let first = get-released a (collected bases a) bases refl birth object lives.is in
           let second = after.is in
           let same : after_release a bases object ≡ left = cc in
-          live_or_gone left.gone
-          (ap (λ (o : Object). o.gone) (sym same) ∙ ap (λ f. (released_as a bases object f).gone) freed) after.live
+          not_true left.gone after.live
+          (ap (λ (o : Object). o.gone) (sym same) ∙ ap (λ f. (released_as a bases object f).gone) freed)
 
       stays : (IsUnreached a birth → ⊥) → (left : Object) × Lives (collected bases a) birth left
       stays kept = split (lists bases object.base) refl
@@ -81,7 +74,7 @@ module _ (a : State) (bases : List ℕ) (birth : ℕ) (object : Object) (good : 
           split false e = (
             released_as a bases object false,
             record {
-              is = get-collected a bases birth object lives.is
+              is = get-released a (collected bases a) bases refl birth object lives.is
                   ∙ ap (λ f. Some (released_as a bases object f)) (freed-live ∙ e);
               live = lives.live;
             },

@@ -23,7 +23,7 @@ use Rattle.mm_model.specs.Effect.{Effect, new_effect, weak_effect, area_effect, 
 use Rattle.mm_model.specs.Refusing.{refusal}
 use Rattle.mm_model.specs.Step.{Makes, IsPlain, MakesWeak, MakesWeakOf, Reaps, Carries, is_full, Ends, Refused_as_full, Below_threshold, At_threshold, IsCarriedOut, IsStepUnless, IsStep}
 use Rattle.mm_model.specs.After.{Row, row_after}
-use Rattle.mm_laws.proofs.Determining.{row_as, row-is}
+use Rattle.mm_laws.proofs.Stepping.Determining.{row_as, row-is}
 use Rattle.mm_model.proofs.Lists.Truth.{no_other}
 use Rattle.mm_model.proofs.Places.Placing.{some_with}
 

@@ -1,0 +1,3 @@
+pub mod Determining
+pub mod Groups
+pub mod Unchosen
