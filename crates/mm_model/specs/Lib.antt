@@ -3,6 +3,7 @@ pub mod Areas
 pub mod Count
 pub mod Course
 pub mod Effect
+pub mod Faithful
 pub mod FlatEffect
 pub mod FlatView
 pub mod Good
@@ -28,5 +29,6 @@ pub mod Step
 pub mod Store
 pub mod Throughout
 pub mod Trace
+pub mod Turns
 pub mod Value
 pub mod Words
