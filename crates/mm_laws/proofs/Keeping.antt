@@ -1,3 +1,3 @@
 pub mod Following
-pub mod FollowingPlain
 pub mod FollowingSteps
+pub mod Seeing

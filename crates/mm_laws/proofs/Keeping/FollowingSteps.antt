@@ -25,8 +25,8 @@ use Rattle.mm_model.specs.Log.{IsRun}
 use Rattle.mm_model.specs.Step.{IsPlain, Makes, MakesWeak, Reaps, Carries, Ends, Refused_as_full, Below_threshold, At_threshold, IsStepUnless, IsStep}
 use Rattle.mm_model.proofs.FlatView.StackEffects.{all_allowed}
 use Rattle.mm_laws.specs.WeakReferences.{IsMadeFor}
-use Rattle.mm_laws.proofs.Keeping.Following.{Keeps, made_for-kept, keeps-then, keeps-same_marks, keeps-same, keeps-more, keeps-weak_made, keeps-released}
-use Rattle.mm_laws.proofs.Keeping.FollowingPlain.{same_marks-object, same_marks-plain}
+use Rattle.mm_laws.proofs.Keeping.Following.{Keeps, marks, made_for-kept, keeps-then, keeps-same_marks, keeps-same, keeps-more, keeps-weak_made, keeps-released}
+use Rattle.mm_laws.proofs.Keeping.Seeing.{same-object, same-plain}
 
 keeps-reaped : (a : State) (dead : List ℕ) → Keeps a (reaped dead a)
 keeps-reaped a dead = keeps-released a (reaped dead a) dead refl
@@ -101,7 +101,7 @@ keeps-makes_weak : (a : State) (target : ℕ) (object : Object) → IsStrong a t
     (log : List Line) (effect : Effect) → MakesWeak a target partner log effect → Keeps a effect.state
 keeps-makes_weak a target object own (Some weak) log effect m =
     subst (λ (e : Effect). Keeps a e.state) (sym m.effect_is)
-    (keeps-same_marks a (pushes_object a weak).state (same_marks-object a weak))
+    (keeps-same_marks a (pushes_object a weak).state (same-object marks (λ _ _ _. refl) a weak))
 keeps-makes_weak a target object own None log effect m =
     keeps-makes a Objects (object_bytes 0) (λ b found. weak_effect b target found) log effect m
     (λ b found keeps.
@@ -112,7 +112,8 @@ keeps-plain : (a : State) (command : Command) (log : List Line) (effect : Effect
     → IsPlain log effect (plain_effect a command) → Keeps a effect.state
 keeps-plain a command log effect m =
     subst (λ (e : Effect). Keeps a e.state) (sym m.effect_is)
-    (keeps-same_marks a (plain_effect a command).state (same_marks-plain a command))
+    (keeps-same_marks a (plain_effect a command).state
+    (same-plain marks (λ _ _ _. refl) a command (λ _ _ _ _. refl)))
 
 scanned-objects : (a : State) (births : List ℕ) (log : List Line) (b : State) → AreScanned a births log b
     → b.objects ≡ a.objects
