@@ -54,7 +54,10 @@ module _ (a : State) (stack : List Value) (cycle : Option Cycle) (threshold comm
   pub good-around : IsGood a → AllByRecursion (IsReferring a) stack → IfSome cycle (IsColoured a) → IsGood around
   good-around good refers coloured =
       record {
+        growing = good.growing;
         placed = good.placed;
+        shaped = λ birth object h. good.shaped birth object (lives-within birth object h);
+        areas_shaped = good.areas_shaped;
         numbered = good.numbered;
         referred = record {
           stack = each_referring-kept a around keeps-around stack refers;
