@@ -5,3 +5,4 @@ pub mod Phases
 pub mod Stepping
 pub mod Targets
 pub mod Tracing
+pub mod Turning

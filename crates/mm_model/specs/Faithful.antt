@@ -106,18 +106,16 @@ abbrev pub ReadsThroughReferences : List Turn → Turn → Type 0
 ReadsThroughReferences earlier turn =
     (i birth : ℕ) (holds : HoldsReference turn.before i birth) → ActsOnOrigin earlier turn i birth holds.value.word
 
--- one of the turn's phases frees the object with a birth number
-pub record IsFreedIn (turn : Turn) (birth : ℕ) : Type 0 where
-  pub n : ℕ
-  pub phase : PhaseOf
-  pub is : slice_get (phases_of turn) n ≡ Some phase
-  pub frees : Frees phase birth
+-- one of the phases frees the object with a birth number
+abbrev pub IsFreedIn : List PhaseOf → ℕ → Type 0
+IsFreedIn [] birth = ⊥
+IsFreedIn (phase ∷ phases) birth = Frees phase birth ⊎ IsFreedIn phases birth
 
 -- No phase frees a protected object, and nothing else frees objects.
 pub record SparesProtected (earlier : List Turn) (turn : Turn) : Type 0 where
   -- the lines tell of the phases' objects and of no others
   pub told : freed_bases turn.group ≡ flat_map (λ phase. phase.bases) (phases_of turn)
-  pub gone : (birth : ℕ) → IsGone turn.after birth → IsGone turn.before birth ⊎ IsFreedIn turn birth
+  pub gone : (birth : ℕ) → IsGone turn.after birth → IsGone turn.before birth ⊎ IsFreedIn (phases_of turn) birth
   pub spared : AllByRecursion (λ phase. (birth : ℕ) → IsProtected phase.before birth → Frees phase birth → ⊥)
       (phases_of turn)
 

@@ -115,7 +115,7 @@ keeps-plain a command log effect m =
     (keeps-same_marks a (plain_effect a command).state
     (same-plain marks (λ _ _ _. refl) a command (λ _ _ _ _. refl)))
 
-scanned-objects : (a : State) (births : List ℕ) (log : List Line) (b : State) → AreScanned a births log b
+pub scanned-objects : (a : State) (births : List ℕ) (log : List Line) (b : State) → AreScanned a births log b
     → b.objects ≡ a.objects
 scanned-objects a [] log b scanned = ap (λ (s : State). s.objects) scanned.1
 scanned-objects a (birth ∷ births) log b scanned =

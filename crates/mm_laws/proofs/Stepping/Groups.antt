@@ -11,10 +11,9 @@ use Rattle.mm_model.specs.State.{State, lives_at}
 use Rattle.mm_model.specs.Phase.{final_lines, phase_lines}
 use Rattle.mm_model.specs.After.{freed_bases, phases_in, scanned_bases}
 
--- a reading of logs that passes over the lines of finalizers and of freed objects
+-- a reading of logs that passes over the lines of finalizers
 module _ {X : Type 0} (read : List Line → X)
-    (over_final : (base slots words : ℕ) (rest : List Line) → read (lines.Final base slots words ∷ rest) ≡ read rest)
-    (over_free : (base : ℕ) (rest : List Line) → read (lines.Free base ∷ rest) ≡ read rest) where
+    (over_final : (base slots words : ℕ) (rest : List Line) → read (lines.Final base slots words ∷ rest) ≡ read rest) where
   read-final : (found : Option Object) (rest : List Line) → read (final_lines found ++ rest) ≡ read rest
   read-final None rest = refl
   read-final (Some object) rest =
@@ -36,10 +35,6 @@ module _ {X : Type 0} (read : List Line → X)
       ∙ read-final (find (lives_at base) a.objects) (others ++ rest)
       ∙ read-finals a bases rest
 
-  read-frees : (bases : List ℕ) (rest : List Line) → read (map lines.Free bases ++ rest) ≡ read rest
-  read-frees [] rest = refl
-  read-frees (base ∷ bases) rest = over_free base (map lines.Free bases ++ rest) ∙ read-frees bases rest
-
   -- what is read of a phase begins at its own line
   read-phase : (what : Phase) (a : State) (bases : List ℕ) (rest : List Line)
       → read (phase_lines what a bases ++ rest)
@@ -50,6 +45,23 @@ module _ {X : Type 0} (read : List Line → X)
       (lines.Phase what (length bases) ∷ map lines.Free bases) rest)
       ∙ read-finals a bases (lines.Phase what (length bases) ∷ map lines.Free bases ++ rest)
 
+-- and over the lines of freed objects
+module _ {X : Type 0} (read : List Line → X)
+    (over_final : (base slots words : ℕ) (rest : List Line) → read (lines.Final base slots words ∷ rest) ≡ read rest)
+    (over_free : (base : ℕ) (rest : List Line) → read (lines.Free base ∷ rest) ≡ read rest) where
+  read-frees : (bases : List ℕ) (rest : List Line) → read (map lines.Free bases ++ rest) ≡ read rest
+  read-frees [] rest = refl
+  read-frees (base ∷ bases) rest = over_free base (map lines.Free bases ++ rest) ∙ read-frees bases rest
+
+  -- Where it passes over a phase's own line too, it passes over the phase.
+  pub over-phase : ((what : Phase) (count : ℕ) (rest : List Line) → read (lines.Phase what count ∷ rest) ≡ read rest)
+      → (what : Phase) (a : State) (bases : List ℕ) (rest : List Line)
+      → read (phase_lines what a bases ++ rest) ≡ read rest
+  over-phase over_own what a bases rest =
+      read-phase read over_final what a bases rest
+      ∙ over_own what (length bases) (map lines.Free bases ++ rest)
+      ∙ read-frees bases rest
+
 freed_bases-take : (bases : List ℕ) (rest : List Line)
     → freed_bases (take (length bases) (map lines.Free bases ++ rest)) ≡ bases
 freed_bases-take [] rest = refl
@@ -59,7 +71,7 @@ freed_bases-take (base ∷ bases) rest = ap (λ (others : List ℕ). base ∷ ot
 pub phases_in-phase_lines : (what : Phase) (a : State) (bases : List ℕ) (rest : List Line)
     → phases_in (phase_lines what a bases ++ rest) ≡ bases ∷ phases_in rest
 phases_in-phase_lines what a bases rest =
-    read-phase phases_in (λ _ _ _ _. refl) (λ _ _. refl) what a bases rest
+    read-phase phases_in (λ _ _ _ _. refl) what a bases rest
     ∙ ap (λ (freed : List ℕ). freed ∷ phases_in (map lines.Free bases ++ rest)) (freed_bases-take bases rest)
     ∙ ap (λ (later : List (List ℕ)). bases ∷ later)
     (read-frees phases_in (λ _ _ _ _. refl) (λ _ _. refl) bases rest)
@@ -67,6 +79,24 @@ phases_in-phase_lines what a bases rest =
 -- a phase scans nothing
 pub scanned_bases-phase_lines : (what : Phase) (a : State) (bases : List ℕ) (rest : List Line)
     → scanned_bases (phase_lines what a bases ++ rest) ≡ scanned_bases rest
-scanned_bases-phase_lines what a bases rest =
-    read-phase scanned_bases (λ _ _ _ _. refl) (λ _ _. refl) what a bases rest
-    ∙ read-frees scanned_bases (λ _ _ _ _. refl) (λ _ _. refl) bases rest
+scanned_bases-phase_lines = over-phase scanned_bases (λ _ _ _ _. refl) (λ _ _. refl) (λ _ _ _. refl)
+
+freed_bases-frees : (bases : List ℕ) (rest : List Line)
+    → freed_bases (map lines.Free bases ++ rest) ≡ bases ++ freed_bases rest
+freed_bases-frees [] rest = refl
+freed_bases-frees (base ∷ bases) rest = ap (λ (others : List ℕ). base ∷ others) (freed_bases-frees bases rest)
+
+-- its lines tell what it frees
+pub freed_bases-phase_lines : (what : Phase) (a : State) (bases : List ℕ) (rest : List Line)
+    → freed_bases (phase_lines what a bases ++ rest) ≡ bases ++ freed_bases rest
+freed_bases-phase_lines what a bases rest =
+    read-phase freed_bases (λ _ _ _ _. refl) what a bases rest ∙ freed_bases-frees bases rest
+
+pub freed_bases-append : (log rest : List Line) → freed_bases (log ++ rest) ≡ freed_bases log ++ freed_bases rest
+freed_bases-append [] rest = refl
+freed_bases-append (lines.Free base ∷ log) rest = ap (λ (others : List ℕ). base ∷ others) (freed_bases-append log rest)
+freed_bases-append (lines.Scan base slots ∷ log) rest = freed_bases-append log rest
+freed_bases-append (lines.Final base slots total ∷ log) rest = freed_bases-append log rest
+freed_bases-append (lines.Phase what count ∷ log) rest = freed_bases-append log rest
+freed_bases-append (lines.Reply reply ∷ log) rest = freed_bases-append log rest
+freed_bases-append (lines.Total totals ∷ log) rest = freed_bases-append log rest
