@@ -245,21 +245,28 @@ module _ (a : State) (full : Bool) (end : State) (reply : Reply) where
       ∙ ap (end_of false true) (phases_in-phase_lines Reap a reaps.dead (lines.Reply reply ∷ []))
       ∙ sym reaps.state
 
-carried_out-is : (a : State) (command : Command) (group : List Line) (b : State)
-    → IsPlaced a.settings.max (live_pieces a) → IsCarriedOut a command group b
-    → b ≡ one_more_command (after_unless None a command group)
-carried_out-is a command group b placed step =
-    let state = step.effect.state in
-    let full = is_full step.effect.reply in
-    let tail : List Line = step.end_log ++ lines.Reply step.effect.reply ∷ [] in
-    let none = scanned_bases-end state full step.end step.effect.reply step.end_log step.ends in
-    let row : row_after a command group ≡ row_as step.effect (phases_in tail) =
-    ap (row_after a command)
-    (step.group_is ∙ append_assoc step.log step.end_log (lines.Reply step.effect.reply ∷ []))
-    ∙ row-is a command step.log tail step.effect placed step.carries none in
-    step.state_is
-    ∙ ap one_more_command
-    (sym (ap ended row ∙ end-is state full step.end step.effect.reply step.end_log step.ends))
+-- the lines behind the row's own
+abbrev pub tail_of : {a : State} {command : Command} {group : List Line} {b : State} → IsCarriedOut a command group b
+    → List Line
+tail_of step = step.end_log ++ lines.Reply step.effect.reply ∷ []
+
+module _ (a : State) (command : Command) (group : List Line) (b : State) (placed : IsPlaced a.settings.max (live_pieces a))
+    (step : IsCarriedOut a command group b) where
+  -- the row of a command that is carried out, as it is read back from the group
+  pub row_after-carried : row_after a command group ≡ row_as step.effect (phases_in (tail_of step))
+  row_after-carried =
+      let full = is_full step.effect.reply in
+      let none = scanned_bases-end step.effect.state full step.end step.effect.reply step.end_log step.ends in
+      ap (row_after a command)
+      (step.group_is ∙ append_assoc step.log step.end_log (lines.Reply step.effect.reply ∷ []))
+      ∙ row-is a command step.log (tail_of step) step.effect placed step.carries none
+
+  carried_out-is : b ≡ one_more_command (after_unless None a command group)
+  carried_out-is =
+      step.state_is
+      ∙ ap one_more_command
+      (sym (ap ended row_after-carried
+      ∙ end-is step.effect.state (is_full step.effect.reply) step.end step.effect.reply step.end_log step.ends))
 
 step-is : (a : State) (command : Command) (group : List Line) (b : State) → IsPlaced a.settings.max (live_pieces a)
     → (refused : Option Refusal) → IsStepUnless refused a command group b

@@ -1,5 +1,5 @@
 -- The phases of a step are those of its turn: what each of them frees, and that nothing else is freed.
-use Rattle.std.proofs.Common.{◌≡◌, ℕ, ◌≤◌, Bool, true, false, not, ◌&&◌, List, [], ◌∷◌, ◌++◌, map, Option, Some, None, refl, sym, ap, ◌∙◌, subst, append_assoc, ◌⊎◌, ⊎_elim, inl, inr, zero, suc}
+use Rattle.std.proofs.Common.{◌≡◌, ℕ, ◌≤◌, Bool, true, false, not, ◌&&◌, List, [], ◌∷◌, ◌++◌, map, Option, Some, None, refl, sym, ap, ◌∙◌, subst, append_assoc, ◌⊎◌, ⊎_elim, inl, inr, zero, suc, arith}
 use Rattle.std.proofs.lemmas.List.{append-nil}
 use Rattle.std.proofs.lemmas.Grind.{flat_map-append}
 use Rattle.std.proofs.lemmas.Bool.Decides.{nat_tests}
@@ -24,14 +24,14 @@ use Rattle.mm_model.specs.Good.{IsGood}
 use Rattle.mm_model.specs.Course.{IsGone}
 use Rattle.mm_model.specs.Reapable.{IsReapable}
 use Rattle.mm_model.specs.Reached.{IsUnreached}
-use Rattle.mm_model.specs.Marking.{IsFreedAtFinish}
+use Rattle.mm_model.specs.Marking.{IsFreedAtFinish, part_done}
 use Rattle.mm_model.specs.Phase.{AreBasesOf, lists, is_freed, unless_freed, after_release, phase_lines, reaped, collected}
 use Rattle.mm_model.specs.Search.{place_now, place_grown, Searches, At_once, After_reap, After_collection}
 use Rattle.mm_model.specs.Scan.{AreScanned}
 use Rattle.mm_model.specs.Effect.{Effect, new_effect, weak_effect, area_effect, plain_effect}
 use Rattle.mm_model.specs.Refusing.{refusal, first_refusal}
 use Rattle.mm_model.specs.Step.{Makes, MakesWeak, Reaps, Carries, is_full, Ends, Refused_as_full, Below_threshold, At_threshold, IsCarriedOut, IsStepUnless, IsStep}
-use Rattle.mm_model.specs.After.{freed_bases, phases_in, row_after}
+use Rattle.mm_model.specs.After.{freed_bases, phases_in, Row, row_after}
 use Rattle.mm_model.specs.Turns.{Born, Way, Reaping, Collecting, Finishing, PhaseOf, first_of, collection_unless, reap_unless, search_phases, weak_phases, row_phases, end_phases, phases_unless, Frees}
 use Rattle.mm_model.specs.Faithful.{IsFreedIn}
 use Rattle.mm_model.proofs.FlatView.StackEffects.{first_refusal-None}
@@ -42,7 +42,7 @@ use Rattle.mm_model.proofs.Lists.Truth.{no_other, not_true}
 use Rattle.mm_laws.proofs.Keeping.Following.{get-released}
 use Rattle.mm_laws.proofs.Keeping.FollowingSteps.{keeps-searched, scanned-objects, strong-allowed}
 use Rattle.mm_laws.proofs.Keeping.Seeing.{SeesSame, same-object, same-plain}
-use Rattle.mm_laws.proofs.Stepping.Determining.{row_as, row-is}
+use Rattle.mm_laws.proofs.Stepping.Determining.{row_as, tail_of, row_after-carried}
 use Rattle.mm_laws.proofs.Stepping.Groups.{phases_in-phase_lines, freed_bases-phase_lines, freed_bases-append}
 use Rattle.mm_laws.proofs.Turning.Bearing.{Views, SeesBorn, bears-new, bears-weak, bears-area, bears-plain}
 
@@ -281,3 +281,155 @@ module _ (start : State) where
       (same-plain is_gone gone_views.unstuck a command (λ _ _ _ _. refl) ∙ sym (append-nil (map is_gone a.objects)))
       birth h))
       refl none (ap (λ (e : Effect). e.state) is)
+
+-- the phases of a command's row, in the state in which the turn begins
+module _ (a : State) (log tail : List Line) (effect : Effect) (good : IsGood a) where
+  right-one : (what : Phase) (way : Way) (bases : List ℕ) → AreBasesOf a (Dead way a) bases
+      → (way ≡ Finishing → IsTrue (is_some a.cycle)) → (b : State) → b.objects ≡ map (after_release a bases) a.objects
+      → log ≡ phase_lines what a bases → effect.state ≡ b
+      → AreRight a a (first_of way a (phases_in (log ++ tail)) ∷ []) log effect.state
+  right-one what way bases are runs b is log_is state_is =
+      let phase : PhaseOf = record { way = way; before = a; bases = bases } in
+      right-same a a (phase ∷ []) _ (phase_lines what a bases) log b effect.state
+      (right-phase a what phase b is (record { good = good; are = are; finishing = λ e. (refl, runs e) }))
+      (ap (λ log. first_of way a (phases_in (log ++ tail)) ∷ []) log_is
+      ∙ ap (λ phases. first_of way a phases ∷ []) (phases_in-phase_lines what a bases tail))
+      log_is state_is
+
+  runs-allowed : refusal a commands.Finish ≡ None → IsTrue (is_some a.cycle)
+  runs-allowed allowed =
+      split (is_some a.cycle) (first_refusal-None (not (is_some a.cycle)) refusals.Idle [] allowed).0
+    where
+      split : (b : Bool) → not b ≡ false → b ≡ true
+      split true e = refl
+      split false e = cc
+
+  right-carried : (command : Command) → refusal a command ≡ None → Carries a command log effect
+      → AreRight a a (row_phases a command (phases_in (log ++ tail))) log effect.state
+  right-carried (commands.New shape) allowed m =
+      right-makes a a Objects (object_bytes shape.slots) (λ b found. new_effect b shape found) log tail effect good m
+      (gone-back m.state _ _ (bears-new is_gone never_gone gone_views a m.state shape m.found))
+  right-carried (commands.Weak i) allowed m =
+      subst
+      (λ found.
+      AreRight a a (weak_phases a (option_and_then (λ (o : Object). o.partner) found) (phases_in (log ++ tail))) log
+      effect.state)
+      (sym m.object_is)
+      (right-weak a a i m.target m.object (strong-allowed a i m.target m.object allowed m.target_is m.object_is).is
+      m.object.partner log tail effect good m.makes)
+  right-carried (commands.Root counted cells) allowed m =
+      right-makes a a Areas (area_bytes cells) (λ b found. area_effect b true counted cells found) log tail effect good m
+      (gone-back m.state _ _
+      (bears-area is_gone never_gone gone_views a m.state (commands.Root counted cells) true counted cells m.found
+      (λ _. refl)))
+  right-carried (commands.Fixed cells) allowed m =
+      right-makes a a Areas (area_bytes cells) (λ b found. area_effect b false 0 cells found) log tail effect good m
+      (gone-back m.state _ _
+      (bears-area is_gone never_gone gone_views a m.state (commands.Fixed cells) false 0 cells m.found (λ _. refl)))
+  right-carried commands.Reap allowed m =
+      right-one Reap Reaping m.0.dead m.0.reapable (λ e. cc) (reaped m.0.dead a) refl m.0.log_is m.0.state
+  right-carried commands.Collect allowed m =
+      right-one Collect Collecting m.0.lost m.0.unreached (λ e. cc) (collected m.0.lost a) refl m.0.log_is m.0.state
+  right-carried commands.Finish allowed m =
+      right-one Collect Finishing m.0.lost m.0.unmarked (λ e. runs-allowed allowed) (collected m.0.lost a) refl
+      m.0.log_is m.0.state
+  right-carried (commands.Step k) allowed m =
+      record {
+        each = tt;
+        told = freed_bases-scanned a m.0.births log effect.state m.0.scanned;
+        gone = λ birth h. inl (gone-same a effect.state (scanned-objects a m.0.births log effect.state m.0.scanned) birth h);
+      }
+    where
+      freed_bases-scanned : (a : State) (births : List ℕ) (log : List Line) (b : State) → AreScanned a births log b
+          → freed_bases log ≡ []
+      freed_bases-scanned a [] log b scanned = ap freed_bases scanned.0
+      freed_bases-scanned a (birth ∷ births) log b scanned =
+          ap freed_bases scanned.3 ∙ freed_bases-scanned (part_done a birth scanned.0) births scanned.1 b scanned.4
+  right-carried (commands.Push word) allowed m = right-plain a a (commands.Push word) log effect m.no_lines m.effect_is
+  right-carried (commands.Dup i) allowed m = right-plain a a (commands.Dup i) log effect m.no_lines m.effect_is
+  right-carried (commands.Pop k) allowed m = right-plain a a (commands.Pop k) log effect m.no_lines m.effect_is
+  right-carried (commands.Inner i d) allowed m = right-plain a a (commands.Inner i d) log effect m.no_lines m.effect_is
+  right-carried (commands.Get i s) allowed m = right-plain a a (commands.Get i s) log effect m.no_lines m.effect_is
+  right-carried (commands.Put i s j) allowed m = right-plain a a (commands.Put i s j) log effect m.no_lines m.effect_is
+  right-carried (commands.Look i) allowed m = right-plain a a (commands.Look i) log effect m.no_lines m.effect_is
+  right-carried (commands.DropArea n) allowed m =
+      right-plain a a (commands.DropArea n) log effect m.no_lines m.effect_is
+  right-carried (commands.AreaGet n s) allowed m =
+      right-plain a a (commands.AreaGet n s) log effect m.no_lines m.effect_is
+  right-carried (commands.AreaPut n s j) allowed m =
+      right-plain a a (commands.AreaPut n s j) log effect m.no_lines m.effect_is
+  right-carried commands.Begin allowed m = right-plain a a commands.Begin log effect m.no_lines m.effect_is
+  right-carried (commands.Map i) allowed m = right-plain a a (commands.Map i) log effect m.no_lines m.effect_is
+  right-carried commands.Stat allowed m = right-plain a a commands.Stat log effect m.no_lines m.effect_is
+
+-- the reap at the end
+module _ (start : State) (effect : Effect) (b : State) (good : IsGood effect.state) where
+  abbrev a : State
+  a = effect.state
+
+  abbrev phases_at : Bool → Bool → List (List ℕ) → List PhaseOf
+  phases_at full reached phases = if full then [] else if reached then first_of Reaping a phases ∷ [] else []
+
+  right-ended : (log : List Line) (tail : List Line) → Ends a (is_full effect.reply) log b
+      → AreRight start a (end_phases (row_as effect (phases_in (log ++ tail)))) log b
+  right-ended log tail (Refused_as_full is log_is b_is) =
+      right-same start a [] _ [] log a b (right-none start a a (λ birth h. h))
+      (ap (λ (full : Bool). phases_at full (nat_le a.threshold (zero_count a)) (phases_in (log ++ tail))) is) log_is b_is
+  right-ended log tail (Below_threshold is below log_is b_is) =
+      let short : nat_le a.threshold (zero_count a) ≡ false = grind (arith, nat_tests) in
+      right-same start a [] _ [] log a b (right-none start a a (λ birth h. h))
+      (ap (λ (full : Bool). phases_at full (nat_le a.threshold (zero_count a)) (phases_in (log ++ tail))) is
+      ∙ ap (λ (reached : Bool). phases_at false reached (phases_in (log ++ tail))) short)
+      log_is b_is
+  right-ended log tail (At_threshold is reached reaps) =
+      let long : nat_le a.threshold (zero_count a) ≡ true = grind (arith, nat_tests) in
+      right-same start a _ _ (phase_lines Reap a reaps.dead) log (reaped reaps.dead a) b
+      (right_reap start a reaps.dead good reaps.reapable)
+      (ap (λ (full : Bool). phases_at full (nat_le a.threshold (zero_count a)) (phases_in (log ++ tail))) is
+      ∙ ap (λ (reached : Bool). phases_at false reached (phases_in (log ++ tail))) long
+      ∙ ap (λ log. phases_at false true (phases_in (log ++ tail))) reaps.log_is
+      ∙ ap (phases_at false true) (phases_in-phase_lines Reap a reaps.dead tail))
+      reaps.log_is reaps.state
+
+-- all phases of a step
+pub right-step : (a : State) (command : Command) (group : List Line) (b : State) → IsGood a → IsStep a command group b
+    → AreRight a a (phases_unless (refusal a command) a command group) group b
+right-step a command group b good step = split (refusal a command) refl step
+  where
+    split : (because : Option Refusal) → refusal a command ≡ because → IsStepUnless because a command group b
+        → AreRight a a (phases_unless because a command group) group b
+    split (Some because) e m =
+        record {
+          each = tt;
+          told = ap freed_bases m.group_is;
+          gone = λ birth h. inl (gone-same a b (ap (λ (s : State). s.objects) m.state_is) birth h);
+        }
+    split None e m =
+        let tail = tail_of m in
+        let reply = lines.Reply m.effect.reply ∷ [] in
+        let grouped = m.group_is ∙ append_assoc m.log m.end_log reply in
+        let first = right-carried a m.log tail m.effect good command e m.carries in
+        let second = right-ended a m.effect m.end (carries_stays a good command m.log m.effect e m.carries) m.end_log
+        reply m.ends in
+        let both = right-then a a m.effect.state m.end _ _ m.log m.end_log first second in
+        record {
+          each = subst (AllByRecursion (IsRight a)) (sym (phases_are tail grouped)) both.each;
+          told = ap freed_bases m.group_is
+              ∙ freed_bases-append (m.log ++ m.end_log) reply
+              ∙ append-nil (freed_bases (m.log ++ m.end_log))
+              ∙ both.told
+              ∙ ap (flat_map (λ (phase : PhaseOf). phase.bases)) (sym (phases_are tail grouped));
+          gone = λ birth h.
+              subst (λ phases. IsGone a birth ⊎ IsFreedIn phases birth) (sym (phases_are tail grouped))
+              (both.gone birth (gone-same m.end b (ap (λ (s : State). s.objects) m.state_is) birth h));
+        }
+      where
+        phases_are : (tail : List Line) → group ≡ m.log ++ tail_of m
+            → row_phases a command (phases_in group) ++ end_phases (row_after a command group)
+            ≡ row_phases a command (phases_in (m.log ++ tail_of m)) ++ end_phases (row_as m.effect (phases_in (tail_of m)))
+        phases_are tail grouped =
+            ap (λ group. row_phases a command (phases_in group) ++ end_phases (row_after a command group)) grouped
+            ∙ ap
+            (λ (row : Row).
+            row_phases a command (phases_in (m.log ++ tail_of m)) ++ end_phases row)
+            (ap (row_after a command) (sym grouped) ∙ row_after-carried a command group b good.placed m)
