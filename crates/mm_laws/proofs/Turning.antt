@@ -1,3 +1,4 @@
 pub mod Bearing
+pub mod Cycles
 pub mod Phases
 pub mod Replies
