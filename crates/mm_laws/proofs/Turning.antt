@@ -1,4 +1,6 @@
 pub mod Bearing
 pub mod Cycles
+pub mod Grids
+pub mod Knowing
 pub mod Phases
 pub mod Replies
