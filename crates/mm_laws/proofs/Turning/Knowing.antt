@@ -154,7 +154,7 @@ module _ {P : Type 0} (view : Object → P) (as_born : Born → P) (views : View
 abbrev pub AreAsBorn : List Turn → State → Type 0
 AreAsBorn turns a = map outline a.objects ≡ map outline_of (births_in turns)
 
-births_in-more : (turns : List Turn) (turn : Turn) → births_in (turns ++ turn ∷ []) ≡ births_in turns ++ births_of turn
+pub births_in-more : (turns : List Turn) (turn : Turn) → births_in (turns ++ turn ∷ []) ≡ births_in turns ++ births_of turn
 births_in-more turns turn =
     flat_map-append births_of turns (turn ∷ []) ∙ ap (λ (born : List Born). births_in turns ++ born) (append-nil (births_of turn))
 
