@@ -80,7 +80,8 @@ module _ (view : FlatView) (a : State) (good : IsGood a) (shows : FlatShows view
   carried-refines (commands.New shape) built uncounted allowed =
       let place = place_grown a Objects (object_bytes shape.slots) in
       subst (λ found. Refines (flat_new_effect view shape found) (new_effect a shape place))
-      (sym (place-shown view a good shows shape)) (new-refines view a good shows shape (shape_allowed a shape allowed) place refl)
+      (sym (place-shown view a good shows shape))
+      (new-refines view a good shows shape (shape_allowed a shape allowed) place refl)
   carried-refines (commands.Push word) built uncounted allowed =
       plain-refines view a good shows (commands.Push word) refl allowed uncounted
   carried-refines (commands.Dup i) built uncounted allowed =

@@ -223,7 +223,8 @@ continued-new a shape log b None good accepted search runs =
     continued-searched a Objects (object_bytes shape.slots) log b None search runs
 continued-new a shape log b (Some base) good accepted search runs =
     continued a _
-    (continues-made a good shape (λ base. shaped-newborn shape base accepted) log b base search (sym (is_some-map with_black_birth b.cycle) ∙ runs))
+    (continues-made a good shape (λ base. shaped-newborn shape base accepted) log b base search
+    (sym (is_some-map with_black_birth b.cycle) ∙ runs))
 
 continued-weak : (a : State) (target : ℕ) (log : List Line) (b : State) (found : Option ℕ) → IsGood a
     → Searches a Objects (object_bytes 0) log b found
@@ -241,7 +242,8 @@ continued-weak a target log b (Some base) good looked runs = split (slice_get b.
     split (Some object) is on =
         continued a _
         (continues-then [] a (made_at b weak_shape base) (weak_made b target object base)
-        (continues-made a good weak_shape shaped-weak log b base looked (sym (is_some-map with_black_birth b.cycle) ∙ on))
+        (continues-made a good weak_shape shaped-weak log b base looked
+        (sym (is_some-map with_black_birth b.cycle) ∙ on))
         (thins-weak b target object base is))
 
 -- the row of a command, where a cycle runs after it

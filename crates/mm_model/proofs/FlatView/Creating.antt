@@ -31,8 +31,9 @@ module _ (view : FlatView) (a : State) (good : IsGood a) (shows : FlatShows view
       ∙ ap (λ s. place_among (live_pieces a) s.max Objects size) shows.settings
 
   -- the object that is born at the place that was found, if one was
-  pub new-refines : is_bad_shape shape ≡ false → (found : Option ℕ) → place_of a a.settings.max Objects (object_bytes shape.slots) ≡ found →
-      Refines (flat_new_effect view shape found) (new_effect a shape found)
+  pub new-refines : is_bad_shape shape ≡ false → (found : Option ℕ)
+      → place_of a a.settings.max Objects (object_bytes shape.slots) ≡ found
+      → Refines (flat_new_effect view shape found) (new_effect a shape found)
   new-refines accepted None e = record { good = good; shows = shows; reply = refl }
   new-refines accepted (Some base) e =
       let goes = goes_at a shape a.settings.max base good (omega arith) e in

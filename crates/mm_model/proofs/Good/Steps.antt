@@ -58,7 +58,8 @@ module _ (a : State) (good : IsGood a) where
       → IsGood (area_effect b scanned counted cells found).state
   area_stays scanned counted cells allowed raw b None f = f.good
   area_stays scanned counted cells allowed raw b (Some base) f =
-      let still : are_areas_full b ≡ false = ap (λ areas. are_areas_full (record b { areas = areas })) f.areas ∙ allowed.room in
+      let still : are_areas_full b ≡ false =
+      ap (λ areas. are_areas_full (record b { areas = areas })) f.areas ∙ allowed.room in
       area_made_is_good b scanned counted cells f.place.0 base f.good f.place.1 still f.place.2
       (shaped-area (free_number b) base scanned counted cells allowed.shape raw)
 
@@ -198,7 +199,8 @@ step_is_good a command group b good step = split (refusal a command) refl step
     split (Some because) e m = one_more_stays a b good m.state_is
     split None e m =
         let carried = carries_stays a good command m.log m.effect e m.carries in
-        one_more_stays m.end b (ends_stay m.effect.state (is_full m.effect.reply) m.end_log m.end carried m.ends) m.state_is
+        let ended = ends_stay m.effect.state (is_full m.effect.reply) m.end_log m.end carried m.ends in
+        one_more_stays m.end b ended m.state_is
 
 -- so does a list of steps
 pub run_is_good : (a : State) (steps : List Command) (log : List Line) (b : State) → IsGood a
