@@ -2,6 +2,8 @@ pub mod Bearing
 pub mod Cycles
 pub mod Grids
 pub mod Knowing
+pub mod Looks
 pub mod Phases
+pub mod Promises
 pub mod Remembering
 pub mod Replies

@@ -47,8 +47,8 @@ module _ (a : State) (i weak target : ℕ) (object : Object) (good : IsGood a) (
       ap (λ o. option_map_or (λ (x : Object). is_weak x.kind) o false) meant_object
       ∙ subst (λ (o : Object). is_weak o.kind ≡ true) same made.is_weak
 
-  allowed : refusal a (commands.Look i) ≡ None
-  allowed =
+  pub look_allowed : refusal a (commands.Look i) ≡ None
+  look_allowed =
       let row = λ (none nothing other full : Bool).
       first_refusal ((none, refusals.NoCell) ∷ (nothing, refusals.Nothing) ∷ (other, refusals.NoWeak)
       ∷ (full, refusals.StackFull) ∷ []) in
@@ -56,11 +56,11 @@ module _ (a : State) (i weak target : ℕ) (object : Object) (good : IsGood a) (
       let fits : not (means_weak a i) ≡ false = ap not weak_is_meant in
       λ t. row (cell t) (something t) (fits t) (room t)
 
-  effect-look : plain_effect a (commands.Look i) ≡ look_effect a object.partner
+  pub effect-look : plain_effect a (commands.Look i) ≡ look_effect a object.partner
   effect-look = ap (λ o. with_some o a (λ (x : Object). look_effect a x.partner)) meant_object
 
   pub look-tells : (group : List Line) (b : State) → IsStep a (commands.Look i) group b → Tells a target group
-  look-tells group b step = carried (subst (λ r. IsStepUnless r a (commands.Look i) group b) allowed step)
+  look-tells group b step = carried (subst (λ r. IsStepUnless r a (commands.Look i) group b) look_allowed step)
     where
       carried : IsCarriedOut a (commands.Look i) group b → Tells a target group
       carried c = split (gone_or_lives a weak target object good made lives)

@@ -108,7 +108,7 @@ made_at-makes a target None log effect base m e =
     (subst (λ (f : Effect). IsMadeAt f.state (length m.state.objects) base target) (sym m.effect_is)
     (made_at-weak_effect m.state target m.found base (sym (ap (λ (f : Effect). f.reply) m.effect_is) ∙ e)))
 
-stack-ended : (a : State) (full : Bool) (log : List Line) (b : State) → Ends a full log b → b.stack ≡ a.stack
+pub stack-ended : (a : State) (full : Bool) (log : List Line) (b : State) → Ends a full log b → b.stack ≡ a.stack
 stack-ended a full log b (Refused_as_full is none same) = ap (λ (s : State). s.stack) same
 stack-ended a full log b (Below_threshold is below none same) = ap (λ (s : State). s.stack) same
 stack-ended a full log b (At_threshold is above reaps) = ap (λ (s : State). s.stack) reaps.state
