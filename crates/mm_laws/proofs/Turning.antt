@@ -7,3 +7,4 @@ pub mod Phases
 pub mod Promises
 pub mod Remembering
 pub mod Replies
+pub mod Standing

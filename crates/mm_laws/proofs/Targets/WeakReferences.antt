@@ -42,10 +42,10 @@ last_alike {X} (z ∷ xs) [] x y e = let rest : xs ++ x ∷ [] ≡ [] = cc in ab
 last_alike (z ∷ xs) (w ∷ ys) x y e = let rest : xs ++ x ∷ [] ≡ ys ++ y ∷ [] = cc in last_alike xs ys x y rest
 
 -- A weak reference that was just made for a target: it stands at the base, and is on top of the stack.
-record IsMadeAt (a : State) (weak base target : ℕ) : Type 0 where
-  made : IsMadeFor a weak target
-  place : (object : Object) → slice_get a.objects weak ≡ Some object → object.base ≡ base
-  top : slice_get a.stack 0 ≡ Some (reference base weak)
+pub record IsMadeAt (a : State) (weak base target : ℕ) : Type 0 where
+  pub made : IsMadeFor a weak target
+  pub place : (object : Object) → slice_get a.objects weak ≡ Some object → object.base ≡ base
+  pub top : slice_get a.stack 0 ≡ Some (reference base weak)
 
 made_at-kept : (a b : State) (weak base target : ℕ) → Keeps a b → b.stack ≡ a.stack → IsMadeAt a weak base target
     → IsMadeAt b weak base target
@@ -113,7 +113,7 @@ stack-ended a full log b (Refused_as_full is none same) = ap (λ (s : State). s.
 stack-ended a full log b (Below_threshold is below none same) = ap (λ (s : State). s.stack) same
 stack-ended a full log b (At_threshold is above reaps) = ap (λ (s : State). s.stack) reaps.state
 
-made_at-step : (a : State) (i target : ℕ) (group before : List Line) (base : ℕ) (b : State)
+pub made_at-step : (a : State) (i target : ℕ) (group before : List Line) (base : ℕ) (b : State)
     → IsStep a (commands.Weak i) group b → group ≡ before ++ lines.Reply (replies.New base) ∷ []
     → meant_at a i ≡ Some target → IsMadeAt b (length a.objects) base target
 made_at-step a i target group before base b step written means = split (refusal a (commands.Weak i)) step

@@ -158,16 +158,21 @@ pub births_in-more : (turns : List Turn) (turn : Turn) → births_in (turns ++ t
 births_in-more turns turn =
     flat_map-append births_of turns (turn ∷ []) ∙ ap (λ (born : List Born). births_in turns ++ born) (append-nil (births_of turn))
 
-pub as_born-step : (turns : List Turn) (a : State) (command : Command) (group : List Line) (b : State)
-    → AreAsBorn turns a → IsStep a command group b → AreAsBorn (turns ++ turn_of a command group b ∷ []) b
-as_born-step turns a command group b known step =
-    let turn = turn_of a command group b in
+pub outlines-step : (a : State) (command : Command) (group : List Line) (b : State) → IsStep a command group b
+    → SeesBorn outline outline_of a (births_of (turn_of a command group b)) b
+outlines-step a command group b step =
     bears-step outline outline_of outlines (stable_view outline (λ _. refl) (λ _ _. refl)) a command group b
     (λ _ object s value.
     ap
     (λ (n : ℕ). record (outline object) { count = n })
     (length-set object.slots s (stored a (slot_kind object s) value)))
     step
+
+pub as_born-step : (turns : List Turn) (a : State) (command : Command) (group : List Line) (b : State)
+    → AreAsBorn turns a → IsStep a command group b → AreAsBorn (turns ++ turn_of a command group b ∷ []) b
+as_born-step turns a command group b known step =
+    let turn = turn_of a command group b in
+    outlines-step a command group b step
     ∙ ap (λ (seen : List Outline). seen ++ map outline_of (births_of turn)) known
     ∙ sym (map-append outline_of (births_in turns) (births_of turn))
     ∙ ap (map outline_of) (sym (births_in-more turns turn))
