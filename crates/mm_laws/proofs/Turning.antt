@@ -5,6 +5,7 @@ pub mod Knowing
 pub mod Looks
 pub mod Phases
 pub mod Promises
+pub mod Reading
 pub mod Remembering
 pub mod Replies
 pub mod Standing
