@@ -1,5 +1,6 @@
 pub mod Bearing
 pub mod Cycles
+pub mod Faithful
 pub mod Grids
 pub mod Knowing
 pub mod Looks
