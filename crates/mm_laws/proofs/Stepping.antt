@@ -1,3 +1,4 @@
 pub mod Determining
 pub mod Groups
+pub mod Runs
 pub mod Unchosen

@@ -16,7 +16,9 @@ pub use cycles::{
     begin_marks_only_what_is_reached, finish_frees_what_neither_reaches,
     finish_frees_what_was_unreachable_throughout, marking_gains_only_what_is_reached,
 };
-pub use logs::{legal_logs_are_faithful, steps_are_faithful};
+pub use logs::{
+    a_log_has_one_list_of_turns, legal_logs_are_faithful, legal_logs_can_be_cut, steps_are_faithful,
+};
 pub use places::{extents_are_least, place_is_free, place_is_lowest};
 pub use reachability::{
     collections_leave_what_is_reached, phases_spare_protected, protected_is_reached,

@@ -11,6 +11,8 @@ use Rattle.mm_model.specs.Step.{IsStep}
 use Rattle.mm_model.specs.Log.{IsRun, IsLegal}
 use Rattle.mm_model.specs.Turns.{Turn, AreJoined, ComesAfter, is_group, AreSteps}
 use Rattle.mm_model.specs.Faithful.{IsFaithfulTurn, IsFaithful}
+use Rattle.mm_model.specs.Good.{IsGood}
+use Rattle.mm_model.proofs.Good.Steps.{step_is_good}
 use Rattle.mm_laws.proofs.Stepping.Determining.{lines_determine_the_state}
 use Rattle.mm_laws.proofs.Turning.Knowing.{turn_of}
 use Rattle.mm_laws.proofs.Turning.Looks.{weak-step}
@@ -48,71 +50,64 @@ steps-more start [] a command group b steps step = (steps, step, refl)
 steps-more start (turn ∷ turns) a command group b steps step =
     (steps.0, steps.1, steps-more turn.after turns a command group b steps.2 step)
 
--- the turns of a run, after earlier ones
-pub record AreTold (settings : Settings) (earlier : List Turn) (a : State) (commands : List Command)
-    (log : List Line) : Type 0 where
+-- each of some turns that are steps, after earlier ones
+pub faithful-steps : (settings : Settings) (earlier : List Turn) (a : State) (turns : List Turn) (b : State)
+    → Knows settings earlier a → AreSteps a turns b → (front : List Turn) (turn : Turn) (later : List Turn)
+    → front ++ turn ∷ later ≡ turns → IsFaithfulTurn settings (earlier ++ front) turn
+faithful-steps settings earlier a [] b known steps [] turn later e = cc
+faithful-steps settings earlier a [] b known steps (x ∷ front) turn later e = cc
+faithful-steps settings earlier a (first ∷ turns) b known steps [] turn later e =
+    let same : turn ≡ first = cc in
+    let own = faithful-known settings earlier first.before first.command first.group first.after
+    (subst (Knows settings earlier) (sym steps.0) known) steps.1 in
+    subst (λ ts. IsFaithfulTurn settings ts turn) (sym (append-nil earlier))
+    (subst (IsFaithfulTurn settings earlier) (sym same) own)
+faithful-steps settings earlier a (first ∷ turns) b known steps (x ∷ front) turn later e =
+    let same : x ≡ first = cc in
+    let is : front ++ turn ∷ later ≡ turns = cc in
+    let next = knows-step settings earlier first.before first.command first.group first.after
+    (subst (Knows settings earlier) (sym steps.0) known) steps.1 in
+    subst (λ (t : Turn). IsFaithfulTurn settings (earlier ++ t ∷ front) turn) (sym same)
+    (subst (λ ts. IsFaithfulTurn settings ts turn) (append_assoc earlier (first ∷ []) front)
+    (faithful-steps settings (earlier ++ first ∷ []) first.after turns b next steps.2 front turn later is))
+
+-- the turns of a run
+pub record AreTold (a : State) (commands : List Command) (log : List Line) (b : State) : Type 0 where
   pub turns : List Turn
   pub each_command : map (λ turn. turn.command) turns ≡ commands
   pub cut : flat_map (λ turn. turn.group) turns ≡ log
   pub groups : AllByRecursion (λ turn. IsTrue (is_group turn.group)) turns
   pub joined : AreJoined a turns
-  pub faithful : (front : List Turn) (turn : Turn) → ComesAfter turns front turn
-      → IsFaithfulTurn settings (earlier ++ front) turn
+  pub steps : AreSteps a turns b
 
-told-run : (settings : Settings) (earlier : List Turn) (a : State) (commands : List Command) (log : List Line)
-    (b : State) → Knows settings earlier a → IsRun IsStep a commands log b
-    → AreTold settings earlier a commands log
-told-run settings earlier a [] log b known run =
-    record {
-      turns = [];
-      each_command = refl;
-      cut = sym run.0;
-      groups = tt;
-      joined = tt;
-      faithful = λ front turn after. absurd (none front turn after.later after.is);
-    }
-  where
-    none : (front : List Turn) (turn : Turn) (later : List Turn) → front ++ turn ∷ later ≡ [] → ⊥
-    none [] turn later e = cc
-    none (x ∷ front) turn later e = cc
-told-run settings earlier a (command ∷ commands) log b known run =
+told-run : (a : State) (commands : List Command) (log : List Line) (b : State) → IsGood a
+    → IsRun IsStep a commands log b → AreTold a commands log b
+told-run a [] log b good run =
+    record { turns = []; each_command = refl; cut = sym run.0; groups = tt; joined = tt; steps = run.1 }
+told-run a (command ∷ commands) log b good run =
     let group = run.0 in
     let mid = run.2 in
     let step = run.4 in
     let first = turn_of a command group mid in
-    let rest = told-run settings (earlier ++ first ∷ []) mid commands run.1 b
-    (knows-step settings earlier a command group mid known step) run.5 in
+    let rest = told-run mid commands run.1 b (step_is_good a command group mid good step) run.5 in
     record {
       turns = first ∷ rest.turns;
       each_command = ap (λ (cs : List Command). command ∷ cs) rest.each_command;
       cut = ap (λ (lines : List Line). group ++ lines) rest.cut ∙ sym run.3;
       groups = (group-step a command group mid step, rest.groups);
-      joined = (refl, lines_determine_the_state a command group mid known.good step, rest.joined);
-      faithful = λ front turn after.
-          split first rest.turns (faithful-known settings earlier a command group mid known step) rest.faithful front turn
-          after.later after.is;
+      joined = (refl, lines_determine_the_state a command group mid good step, rest.joined);
+      steps = (refl, step, rest.steps);
     }
-  where
-    split : (first : Turn) (rest : List Turn) → IsFaithfulTurn settings earlier first
-        → ((front : List Turn) (turn : Turn) → ComesAfter rest front turn
-        → IsFaithfulTurn settings ((earlier ++ first ∷ []) ++ front) turn)
-        → (front : List Turn) (turn : Turn) (later : List Turn) → front ++ turn ∷ later ≡ first ∷ rest
-        → IsFaithfulTurn settings (earlier ++ front) turn
-    split first rest own others [] turn later e =
-        let same : turn ≡ first = cc in
-        subst (λ ts. IsFaithfulTurn settings ts turn) (sym (append-nil earlier))
-        (subst (IsFaithfulTurn settings earlier) (sym same) own)
-    split first rest own others (x ∷ front) turn later e =
-        let same : x ≡ first = cc in
-        let is : front ++ turn ∷ later ≡ rest = cc in
-        subst (λ (t : Turn). IsFaithfulTurn settings (earlier ++ t ∷ front) turn) (sym same)
-        (subst (λ ts. IsFaithfulTurn settings ts turn) (append_assoc earlier (first ∷ []) front)
-        (others front turn (record { later = later; is = is })))
 
 pub legal_log_is_faithful : (settings : Settings) (commands : List Command) (log : List Line) (b : State)
     → settings.pages ≤ settings.max → IsLegal IsStep settings commands log b → IsFaithful settings commands log
 legal_log_is_faithful settings commands log b growing legal =
-    let told = told-run settings [] (empty_state settings) commands log b (knows-empty settings growing) legal in
+    let known = knows-empty settings growing in
+    let told = told-run (empty_state settings) commands log b known.good legal in
+    let each : (earlier : List Turn) (turn : Turn) → ComesAfter told.turns earlier turn
+    → IsFaithfulTurn settings earlier turn =
+    λ earlier turn after.
+    faithful-steps settings [] (empty_state settings) told.turns b known told.steps earlier turn after.later after.is in
     record {
       turns = told.turns;
       are = record {
@@ -121,10 +116,10 @@ legal_log_is_faithful settings commands log b growing legal =
         groups = told.groups;
         joined = told.joined;
       };
-      references = λ earlier turn after. (told.faithful earlier turn after).references;
-      protected = λ earlier turn after. (told.faithful earlier turn after).protected;
-      weak = λ earlier turn after. (told.faithful earlier turn after).weak;
-      collections = λ earlier turn after. (told.faithful earlier turn after).collections;
-      cycles = λ earlier turn after. (told.faithful earlier turn after).cycles;
-      apart = λ earlier turn after. (told.faithful earlier turn after).apart;
+      references = λ earlier turn after. (each earlier turn after).references;
+      protected = λ earlier turn after. (each earlier turn after).protected;
+      weak = λ earlier turn after. (each earlier turn after).weak;
+      collections = λ earlier turn after. (each earlier turn after).collections;
+      cycles = λ earlier turn after. (each earlier turn after).cycles;
+      apart = λ earlier turn after. (each earlier turn after).apart;
     }
