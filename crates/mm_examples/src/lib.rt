@@ -2,6 +2,7 @@
 #![tactic(auto)]
 
 mod areas;
+mod broken;
 mod collecting;
 mod counting;
 mod cycles;

@@ -19,6 +19,7 @@ use Rattle.mm_model.specs.Step.{IsStepUnless, IsStep}
 use Rattle.mm_model.specs.Turns.{Turn, Born, births_in, made_for, reply_in}
 use Rattle.mm_model.specs.Faithful.{LooksAt, FollowsTarget, FollowsTargets}
 use Rattle.mm_model.proofs.FlatView.Resolving.{is_meant}
+use Rattle.mm_model.proofs.Lists.Truth.{no_other}
 use Rattle.mm_laws.specs.WeakReferences.{IsMadeFor}
 use Rattle.mm_laws.proofs.Targets.Looking.{look_allowed, effect-look}
 use Rattle.mm_laws.proofs.Targets.WeakReferences.{look-gone, gone-look, look-lives}
@@ -74,4 +75,20 @@ weak-step settings turns a command group b known step weak born is kind =
       made = ap (option_and_then (λ (x : Born). x.target)) is ∙ target.is;
       empty = λ h. empty-look a h.i weak target.target group b known.good target.made h.means h.fits (looks h);
       based = λ h. based-look a h.i weak target.target group b known.good target.made h.means h.fits (looks h);
+    }
+
+abbrev pub is_look : Command → Bool
+is_look (commands.Look i) = true
+is_look command = false
+
+-- any other command than `look` tells nothing of a weak reference, whatever it writes
+pub weak-idle : (settings : Settings) (turns : List Turn) (a : State) (command : Command) (group : List Line) (b : State)
+    → Knows settings turns a → is_look command ≡ false → FollowsTargets turns (turn_of a command group b)
+weak-idle settings turns a command group b known idle weak born is kind =
+    let target = known.targets weak born is kind in
+    record {
+      target = target.target;
+      made = ap (option_and_then (λ (x : Born). x.target)) is ∙ target.is;
+      empty = λ h. absurd (no_other idle (ap is_look h.looks));
+      based = λ h. absurd (no_other idle (ap is_look h.looks));
     }

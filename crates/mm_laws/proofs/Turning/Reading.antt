@@ -31,6 +31,7 @@ use Rattle.mm_model.proofs.Good.Living.{each_get, each_append}
 use Rattle.mm_laws.specs.WeakReferences.{IsTarget, Partner, Freed, IsMadeFor}
 use Rattle.mm_model.proofs.Cycle.Courses.{gone_lives_not}
 use Rattle.mm_model.proofs.Lists.Keyed.{refuted}
+use Rattle.mm_model.proofs.Lists.Truth.{no_other}
 use Rattle.mm_laws.proofs.Keeping.FollowingSteps.{strong-allowed}
 use Rattle.mm_laws.proofs.Meaning.Referring.{lives-reference, resolved-reference, within-get}
 use Rattle.mm_laws.proofs.Turning.Grids.{word_in}
@@ -470,6 +471,38 @@ module _ (settings : Settings) (turns : List Turn) (a : State) (known : Knows se
             let own = subst (λ c. IsStep a c group b) e step in
             (kept-replied group b own fits base, replied-kept group b own fits base);
       }
+
+-- the commands that act on what a cell means
+abbrev pub goes_through : Command → Bool
+goes_through (commands.Inner i bytes) = true
+goes_through (commands.Get i s) = true
+goes_through (commands.Put i s j) = true
+goes_through (commands.Weak i) = true
+goes_through (commands.Map i) = true
+goes_through command = false
+
+-- any other one answers nothing through a reference, whatever it writes
+pub references-idle : (settings : Settings) (turns : List Turn) (a : State) (command : Command) (group : List Line)
+    (b : State) → Knows settings turns a → goes_through command ≡ false
+    → ReadsThroughReferences turns (turn_of a command group b)
+references-idle settings turns a command group b known idle i birth holds =
+    let own = origin settings turns a known i birth holds in
+    let found = referred settings turns a known i birth holds in
+    record {
+      born = own.born;
+      was_born = own.is;
+      lives = record {
+        object = found.0;
+        lives = found.1;
+        at = sym (ap (λ (o : Outline). o.base) own.outlined);
+      };
+      means = resolved-reference a i birth holds.value known.good holds.cell holds.origin;
+      inner = λ bytes e. absurd (no_other idle (ap goes_through e));
+      get = λ s e. absurd (no_other idle (ap goes_through e));
+      map = λ e. absurd (no_other idle (ap goes_through e));
+      put = λ s j stored e cell. absurd (no_other idle (ap goes_through e));
+      weak = λ base e fits. absurd (no_other idle (ap goes_through e));
+    }
 
 pub references-step : (settings : Settings) (turns : List Turn) (a : State) (command : Command) (group : List Line)
     (b : State) → Knows settings turns a → IsStep a command group b
