@@ -1,5 +1,7 @@
 -- Logs that are legal up to their last turn, and what they keep and break.
 use Rattle.std.proofs.Common.{◌≡◌, ◌≤◌, Bool, true, false, List, [], ◌∷◌, ◌++◌, map, refl, sym, ap, ◌∙◌, subst, ◌⊎◌, ⊎_elim, inl, inr}
+use Rattle.std.proofs.lemmas.List.{append-nil, map-append}
+use Rattle.std.proofs.lemmas.Grind.{flat_map-append}
 use Rattle.std.specs.Prelude.{IsTrue, ⊤}
 use Rattle.std.specs.List.{AllByRecursion, flat_map}
 use Rattle.mm_model.specs.declared.command.Command.{Command}
@@ -11,6 +13,7 @@ use Rattle.mm_model.specs.Step.{IsStep}
 use Rattle.mm_model.specs.Turns.{Turn, is_group, AreJoined, AreTurns, ComesAfter, EachTurn, AreSteps}
 use Rattle.mm_model.specs.Faithful.{IsFaithfulTurn, IsFaithful}
 use Rattle.mm_model.proofs.Faithful.Turns.{turns-same}
+use Rattle.mm_model.proofs.Good.Living.{each_append}
 use Rattle.mm_laws.proofs.Turning.Faithful.{faithful-steps}
 use Rattle.mm_laws.proofs.Turning.Knowing.{turn_of}
 use Rattle.mm_laws.proofs.Turning.Remembering.{Knows, knows-empty, knows-steps}
@@ -77,11 +80,33 @@ turns_from-are a (command ∷ commands) (group ∷ groups) h =
       joined = (refl, refl, rest.joined);
     }
 
-pub are_turns : (settings : Settings) (commands : List Command) (groups : List (List Line)) → AreGroups commands groups
-    → AreTurns settings commands (lines_of groups) (turns_from (empty_state settings) commands groups)
-are_turns settings commands groups h =
+joined-last : (a : State) (commands : List Command) (groups : List (List Line)) (last : Turn)
+    → end_from a commands groups ≡ last.before → last.after ≡ after last.before last.command last.group
+    → AreJoined a (turns_from a commands groups ++ last ∷ [])
+joined-last a [] groups last is next = (sym is, next, tt)
+joined-last a (command ∷ commands) [] last is next = (sym is, next, tt)
+joined-last a (command ∷ commands) (group ∷ groups) last is next =
+    (refl, refl, joined-last (after a command group) commands groups last is next)
+
+-- with one more turn
+pub are_turns : (settings : Settings) (commands : List Command) (groups : List (List Line)) (last : Turn)
+    → AreGroups commands groups → is_group last.group ≡ true
+    → end_from (empty_state settings) commands groups ≡ last.before
+    → last.after ≡ after last.before last.command last.group
+    → AreTurns settings (commands ++ last.command ∷ []) (lines_of groups ++ last.group)
+    (turns_from (empty_state settings) commands groups ++ last ∷ [])
+are_turns settings commands groups last h group is next =
     let own = turns_from-are (empty_state settings) commands groups h in
-    record { each_command = own.each_command; cut = own.cut; groups = own.each_group; joined = own.joined }
+    let turns = turns_from (empty_state settings) commands groups in
+    record {
+      each_command = map-append (λ (t : Turn). t.command) turns (last ∷ [])
+          ∙ ap (λ (cs : List Command). cs ++ last.command ∷ []) own.each_command;
+      cut = flat_map-append (λ (t : Turn). t.group) turns (last ∷ [])
+          ∙ ap (λ (lines : List Line). flat_map (λ (t : Turn). t.group) turns ++ lines) (append-nil last.group)
+          ∙ ap (λ (lines : List Line). lines ++ last.group) own.cut;
+      groups = each_append (λ (turn : Turn). IsTrue (is_group turn.group)) turns (last ∷ []) own.each_group (group, tt);
+      joined = joined-last (empty_state settings) commands groups last is next;
+    }
 
 -- a turn behind others is the last one, or comes among them
 last-cases : (turns earlier : List Turn) (turn last : Turn) (later : List Turn)
@@ -146,26 +171,24 @@ broken-unfaithful promise settings commands log h faithful =
     (turns-same settings commands log faithful.turns h.turns faithful.are h.are)
     (log-kept promise settings commands log faithful))
 
--- the turns before the last one, the state that they lead to, and the last one
+-- the turns before the last one, and the state that they lead to
 abbrev pub front : Settings → List Command → List (List Line) → List Turn
 front settings commands groups = turns_from (empty_state settings) commands groups
 
 abbrev pub before : Settings → List Command → List (List Line) → State
 before settings commands groups = end_from (empty_state settings) commands groups
 
-abbrev pub last_in : State → Command → List Line → Turn
-last_in a command group = turn_of a command group (after a command group)
-
 module _ (settings : Settings) (commands : List Command) (groups : List (List Line))
     (growing : settings.pages ≤ settings.max) (checked : AreChecked (empty_state settings) commands groups) where
   front-steps : AreSteps (empty_state settings) (front settings commands groups) (before settings commands groups)
   front-steps = steps-checked (empty_state settings) commands groups checked
 
-  -- what the legal turns tell
-  pub front-known : Knows settings (front settings commands groups) (before settings commands groups)
-  front-known =
-      knows-steps settings [] (front settings commands groups) (empty_state settings)
-      (before settings commands groups) (knows-empty settings growing) front-steps
+  -- what the legal turns tell of the state that they lead to
+  pub front-known : (a : State) → before settings commands groups ≡ a → Knows settings (front settings commands groups) a
+  front-known a is =
+      subst (Knows settings (front settings commands groups)) is
+      (knows-steps settings [] (front settings commands groups) (empty_state settings)
+      (before settings commands groups) (knows-empty settings growing) front-steps)
 
   front-kept : (promise : Promise) → EachTurn (front settings commands groups) (KeepsAt promise settings)
   front-kept promise earlier turn after =
