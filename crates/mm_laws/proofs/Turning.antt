@@ -4,7 +4,9 @@ pub mod Faithful
 pub mod Grids
 pub mod Knowing
 pub mod Looks
+pub mod Nothing
 pub mod Phases
+pub mod PlainReplies
 pub mod Promises
 pub mod Reading
 pub mod Remembering

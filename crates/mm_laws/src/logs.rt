@@ -1,13 +1,19 @@
 // Laws of whole logs: what a legal log promises.
-ghost use Rattle.std.specs.Prelude.{◌≡◌, ◌≤◌, ◌↔◌, ◌∷◌, ◌++◌, [], List};
+ghost use Rattle.std.specs.Prelude.{◌≡◌, ◌≤◌, ◌↔◌, ◌∷◌, ◌++◌, [], List, Some};
+ghost use Rattle.std.specs.List.{All};
 ghost use Rattle.mm_model.specs.declared.command.Command.{Command};
 ghost use Rattle.mm_model.specs.declared.line.Line.{Line};
+ghost use Rattle.mm_model.specs.declared.refusal.Refusal.TheVariants as refusals;
+ghost use Rattle.mm_model.specs.declared.reply.Reply.TheVariants as replies;
 ghost use Rattle.mm_model.specs.declared.settings.Settings.{Settings};
 ghost use Rattle.mm_model.specs.State.{State, empty_state};
 ghost use Rattle.mm_model.specs.Step.{IsStep};
 ghost use Rattle.mm_model.specs.Log.{IsRun, IsLegal};
 ghost use Rattle.mm_laws.specs.Logs.{IsCutBehind};
-ghost use Rattle.mm_model.specs.Turns.{Turn, AreTurns, AreSteps};
+ghost use Rattle.mm_model.specs.Turns.{Turn, AreTurns, AreSteps, reply_in};
+ghost use Rattle.mm_model.specs.Good.{IsGood};
+ghost use Rattle.mm_model.specs.Spelling.{spelling_of};
+ghost use Rattle.mm_laws.specs.Lines.{IsSpelledInFull};
 ghost use Rattle.mm_model.specs.Faithful.{IsFaithfulTurn, IsFaithful};
 
 /// A legal log keeps all that is promised of logs, where the least number of pages isn't above the greatest.
@@ -37,4 +43,19 @@ pub fn steps_are_faithful()
 pub fn legal_logs_can_be_cut()
     ensures { (a : State) (first others : List Command) (log : List Line) (b : State) →
         IsRun IsStep a (first ++ others) log b ↔ IsCutBehind a first others log b }
+{}
+
+/// A command that answers `nothing` in one state isn't refused as `nothing` in another.
+pub fn no_command_is_both_answered_and_refused_nothing()
+    ensures { (a b c d : State) (command : Command) (group other : List Line) → IsGood a → IsStep a command group b
+        → IsStep c command other d → reply_in group ≡ Some replies.Nothing
+        → reply_in other ≡ Some (replies.Refused refusals.Nothing) → ⊥ }
+{}
+
+/// So the commands and the bytes of a legal log determine its lines, and with them each state.
+pub fn commands_and_bytes_determine_a_log()
+    ensures { (settings : Settings) (commands : List Command) (log other : List Line) (b c : State) →
+        settings.pages ≤ settings.max → IsLegal IsStep settings commands log b
+        → IsLegal IsStep settings commands other c → All IsSpelledInFull log → All IsSpelledInFull other
+        → spelling_of log ≡ spelling_of other → log ≡ other }
 {}

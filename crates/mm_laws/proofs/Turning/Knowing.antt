@@ -239,13 +239,13 @@ write_of-none turn e = split (was_refused turn)
     split false = e
 
 -- a `put` that isn't refused
-record IsPut (a : State) (i s j : ℕ) : Type 0 where
-  birth : ℕ
-  object : Object
-  value : Value
-  means : meant_at a i ≡ Some birth
-  is : slice_get a.objects birth ≡ Some object
-  cell : slice_get a.stack j ≡ Some value
+pub record IsPut (a : State) (i s j : ℕ) : Type 0 where
+  pub birth : ℕ
+  pub object : Object
+  pub value : Value
+  pub means : meant_at a i ≡ Some birth
+  pub is : slice_get a.objects birth ≡ Some object
+  pub cell : slice_get a.stack j ≡ Some value
 
 cell-get : (a : State) (i : ℕ) → no_cell a i ≡ false → (value : Value) × (slice_get a.stack i ≡ Some value)
 cell-get a i e =
@@ -256,7 +256,7 @@ cell-get a i e =
     absurd (no_other e (let past = r.0 in grind (arith, nat_tests))))
     (slice_get_cases a.stack i).1
 
-put-allowed : (a : State) (i s j : ℕ) → refusal a (commands.Put i s j) ≡ None → IsPut a i s j
+pub put-allowed : (a : State) (i s j : ℕ) → refusal a (commands.Put i s j) ≡ None → IsPut a i s j
 put-allowed a i s j allowed =
     let row = all_allowed (no_cell a i || no_cell a j) (means_nothing a i) (has_no_slot a i s) (refuses_in_slot a i s j)
     refusals.NoCell refusals.Nothing refusals.NoSlot refusals.NotCounted allowed in

@@ -39,6 +39,7 @@ use Rattle.mm_laws.proofs.Targets.WeakReferences.{stack-ended, made_at-step, IsM
 use Rattle.mm_laws.proofs.Turning.Cycles.{follows-step}
 use Rattle.mm_laws.proofs.Turning.Knowing.{turn_of, Outline, outline, outline_of, outlines-step}
 use Rattle.mm_laws.proofs.Turning.Remembering.{Knows}
+use Rattle.mm_laws.proofs.Turning.PlainReplies.{IsQuietReply, object-replies, plain-replies}
 use Rattle.mm_laws.proofs.Turning.Replies.{reply-carried}
 
 -- the reply tells where something new lies
@@ -47,47 +48,16 @@ tells_place (replies.New base) = true
 tells_place (replies.Area area) = true
 tells_place reply = false
 
--- nothing that a command without a search replies tells this
-some-tells : {X : Type 0} (found : Option X) (a : State) (effect : X → Effect)
-    → ((x : X) → tells_place (effect x).reply ≡ false) → tells_place (with_some found a effect).reply ≡ false
-some-tells None a effect h = refl
-some-tells (Some x) a effect h = h x
-
-store-tells : (a : State) (kind : SlotKind) (word : ℕ) → tells_place (store_reply a kind word) ≡ false
-store-tells a kind word = split (is_loose a kind word)
-  where
-    split : (b : Bool) → tells_place (cond b replies.Loose replies.Done) ≡ false
-    split true = refl
-    split false = refl
-
-object-tells : (a : State) (birth : ℕ) → tells_place (pushes_object a birth).reply ≡ false
-object-tells a birth = some-tells (slice_get a.objects birth) a _ (λ object. refl)
-
-plain-tells : (a : State) (command : Command) → tells_place (plain_effect a command).reply ≡ false
-plain-tells a (commands.Dup i) = some-tells (slice_get a.stack i) a _ (λ value. refl)
-plain-tells a (commands.Inner i bytes) = some-tells (slice_get a.stack i) a _ (λ value. refl)
-plain-tells a (commands.Get i s) =
-    some-tells (object_meant a i) a _ (λ object. some-tells (slice_get object.slots s) a _ (λ value. refl))
-plain-tells a (commands.Put i s j) =
-    some-tells (meant_at a i) a _
-    (λ birth. some-tells (slice_get a.objects birth) a _
-    (λ object. some-tells (slice_get a.stack j) a _ (λ value. store-tells a _ value.word)))
-plain-tells a (commands.Look i) = some-tells (object_meant a i) a _ (λ object. look object.partner)
-  where
-    look : (target : Option ℕ) → tells_place (look_effect a target).reply ≡ false
-    look None = refl
-    look (Some target) = object-tells a target
-plain-tells a (commands.AreaGet number s) =
-    some-tells (area_at a number) a _ (λ area. some-tells (slice_get area.cells s) a _ (λ value. refl))
-plain-tells a (commands.AreaPut number s j) =
-    some-tells (area_at a number) a _
-    (λ area. some-tells (slice_get a.stack j) a _ (λ value. store-tells a _ value.word))
-plain-tells a (commands.Map i) = split (object_meant a i)
-  where
-    split : (found : Option Object) → tells_place (map_reply found) ≡ false
-    split None = refl
-    split (Some object) = refl
-plain-tells a command = refl
+told_quiet : IsQuietReply tells_place
+told_quiet =
+    record {
+      done = refl;
+      loose = refl;
+      word = λ _. refl;
+      nothing = refl;
+      object = λ _. refl;
+      stat = λ _. refl;
+    }
 
 -- what isn't told needn't be there
 there-untold : (turn : Turn) (reply : Reply) → tells_place reply ≡ false → IsThere turn (Some reply)
@@ -199,7 +169,7 @@ weak-tells : (a : State) (target : ℕ) (partner : Option ℕ) (log : List Line)
     → MakesWeak a target partner log effect
     → (tells_place effect.reply ≡ false) ⊎ ((base : ℕ) × (effect.reply ≡ replies.New base))
 weak-tells a target (Some weak) log effect m =
-    inl (ap (λ (e : Effect). tells_place e.reply) m.effect_is ∙ object-tells a weak)
+    inl (ap (λ (e : Effect). tells_place e.reply) m.effect_is ∙ object-replies tells_place told_quiet a weak)
 weak-tells a target None log effect m =
     subst (λ (e : Effect). (tells_place e.reply ≡ false) ⊎ ((base : ℕ) × (e.reply ≡ replies.New base))) (sym m.effect_is)
     (split m.found)
@@ -276,7 +246,7 @@ module _ (a : State) (group : List Line) (b : State) (good : IsGood b) where
       → IsThere (turn_of a command group b) (Some m.effect.reply)
   there-plain command m e =
       there-untold (turn_of a command group b) m.effect.reply
-      (ap (λ (x : Effect). tells_place x.reply) e ∙ plain-tells a command)
+      (ap (λ (x : Effect). tells_place x.reply) e ∙ plain-replies tells_place told_quiet a command)
 
   there-carried : (command : Command) → IsStep a command group b → (m : IsCarriedOut a command group b)
       → IsThere (turn_of a command group b) (Some m.effect.reply)
