@@ -1,5 +1,6 @@
+pub mod Breaking
 pub mod Freeing
-pub mod Searching
-pub mod Scanning
-pub mod Stepping
 pub mod Running
+pub mod Scanning
+pub mod Searching
+pub mod Stepping

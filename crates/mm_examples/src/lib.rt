@@ -3,6 +3,7 @@
 
 mod answers;
 mod areas;
+mod broken;
 mod collecting;
 mod counting;
 mod cycles;

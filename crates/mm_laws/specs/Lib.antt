@@ -1,4 +1,5 @@
 pub mod Faults
 pub mod Lines
+pub mod Logs
 pub mod Sparing
 pub mod WeakReferences

@@ -2,6 +2,7 @@
 #![tactic(auto)]
 
 mod cycles;
+mod logs;
 mod places;
 mod reachability;
 mod references;
@@ -14,6 +15,10 @@ mod weak;
 pub use cycles::{
     begin_marks_only_what_is_reached, finish_frees_what_neither_reaches,
     finish_frees_what_was_unreachable_throughout, marking_gains_only_what_is_reached,
+};
+pub use logs::{
+    a_log_has_one_list_of_turns, commands_and_bytes_determine_a_log, legal_logs_are_faithful,
+    legal_logs_can_be_cut, no_command_is_both_answered_and_refused_nothing, steps_are_faithful,
 };
 pub use places::{extents_are_least, place_is_free, place_is_lowest};
 pub use reachability::{

@@ -4,6 +4,7 @@ pub mod ByBase
 pub mod Count
 pub mod Course
 pub mod Effect
+pub mod Faithful
 pub mod FlatEffect
 pub mod FlatView
 pub mod Good
@@ -32,6 +33,7 @@ pub mod Step
 pub mod Store
 pub mod Throughout
 pub mod Trace
+pub mod Turns
 pub mod Value
 pub mod View
 pub mod ViewEffect

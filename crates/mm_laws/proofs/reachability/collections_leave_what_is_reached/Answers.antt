@@ -1,5 +1,5 @@
 -- The lemmas say it.
-use Rattle.mm_laws.proofs.Leaving.{left-collected, lived-collected}
+use Rattle.mm_laws.proofs.Phases.Leaving.{left-collected, lived-collected}
 use Rattle.mm_laws.proofs.reachability.collections_leave_what_is_reached.Goals as goal
 
 pub returns : goal.returns

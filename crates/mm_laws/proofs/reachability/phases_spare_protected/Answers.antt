@@ -1,5 +1,5 @@
 -- What spares all that is reached spares all that is protected.
-use Rattle.mm_laws.proofs.Sparing.{reap-spares, collection-spares, finish-spares, spares-protected}
+use Rattle.mm_laws.proofs.Phases.Sparing.{reap-spares, collection-spares, finish-spares, spares-protected}
 use Rattle.mm_laws.proofs.reachability.phases_spare_protected.Goals as goal
 
 pub returns : goal.returns

@@ -1,4 +1,4 @@
-use Rattle.mm_laws.proofs.Referring.{get-reference}
+use Rattle.mm_laws.proofs.Meaning.Referring.{get-reference}
 use Rattle.mm_laws.proofs.references.reads_through_references.Goals as goal
 
 pub returns : goal.returns

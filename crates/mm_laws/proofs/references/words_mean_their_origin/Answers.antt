@@ -1,4 +1,4 @@
-use Rattle.mm_laws.proofs.Referring.{lives-reference, resolved-reference}
+use Rattle.mm_laws.proofs.Meaning.Referring.{lives-reference, resolved-reference}
 use Rattle.mm_laws.proofs.references.words_mean_their_origin.Goals as goal
 
 pub returns-clause-lives : goal.returns-clause-lives

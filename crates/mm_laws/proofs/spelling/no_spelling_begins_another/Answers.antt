@@ -1,5 +1,5 @@
 -- A spelling has one newline, its last byte.
-use Rattle.mm_laws.proofs.Spellings.{spelling-whole}
+use Rattle.mm_laws.proofs.Lines.Spellings.{spelling-whole}
 use Rattle.mm_laws.proofs.spelling.no_spelling_begins_another.Goals as goal
 
 pub returns : goal.returns

@@ -1,5 +1,5 @@
 -- The lemma says it.
-use Rattle.mm_laws.proofs.Looking.{look-tells}
+use Rattle.mm_laws.proofs.Targets.Looking.{look-tells}
 use Rattle.mm_laws.proofs.weak.looks_tell_whether_the_target_is_gone.Goals as goal
 
 pub returns : goal.returns

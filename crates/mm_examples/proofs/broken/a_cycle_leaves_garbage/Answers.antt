@@ -1,0 +1,131 @@
+-- The turns before the last are legal, and what the last one keeps and breaks is computed.
+use Rattle.std.proofs.Common.{◌≡◌, ℕ, zero, suc, true, false, List, [], ◌∷◌, Some, None, refl, sym, ap, ◌∙◌, subst, inl, arith}
+use Rattle.mm_model.specs.declared.command.Command.{Command}
+use Rattle.mm_model.specs.declared.line.Line.{Line}
+use Rattle.mm_model.specs.SizeClass.{class_sizes}
+use Rattle.mm_model.specs.Value.{integer, reference}
+use Rattle.mm_model.specs.Object.{Object, newborn}
+use Rattle.mm_model.specs.State.{State, Lives, empty_state}
+use Rattle.mm_model.specs.Turns.{Turn, Born, CycleStates}
+use Rattle.mm_laws.proofs.Turning.Knowing.{turn_of}
+use Rattle.mm_laws.proofs.Turning.Looks.{weak-idle}
+use Rattle.mm_laws.proofs.Turning.Reading.{references-idle}
+use Rattle.mm_laws.proofs.Turning.Remembering.{Knows}
+use Rattle.mm_examples.specs.Broken.{Promise, References, Protected, WeakReferences, Collections, Cycles, Apart, KeepsAt}
+use Rattle.mm_examples.proofs.Breaking.{AreChecked, are_turns, front, before, front-known, breaks-last}
+use Rattle.mm_model.specs.declared.command.Command.TheVariants.{Pop, Begin, Finish}
+use Rattle.mm_model.specs.declared.object.Kind.TheVariants.{Traced}
+use Rattle.mm_model.specs.declared.object.Colour.TheVariants.{White}
+use Rattle.mm_model.specs.Reached.{IsReached, By_root, By_slot}
+use Rattle.mm_model.specs.Throughout.{IsThroughout}
+use Rattle.mm_model.specs.Turns.{latest_cycle}
+use Rattle.mm_model.specs.Faithful.{EndsCycles}
+use Rattle.mm_examples.specs.Examples.{usual, new, made, done, collected}
+use Rattle.mm_examples.proofs.broken.a_cycle_leaves_garbage.Goals as goal
+
+abbrev first : List Command
+first = new Traced 0 0 ∷ Pop 1 ∷ Begin ∷ []
+
+abbrev groups : List (List Line)
+groups = (made 4096 ∷ []) ∷ (done ∷ []) ∷ (done ∷ []) ∷ []
+
+abbrev lines : List Line
+lines = collected 0 ∷ done ∷ []
+
+abbrev object : Object
+object = newborn (record { kind = Traced; finalize = false; counted = 0; slots = 0 }) 4096
+
+-- the states before and after the last turn
+abbrev a : State
+a =
+    record {
+      objects = object ∷ [];
+      stack = [];
+      areas = [];
+      cycle = Some (record { colours = White ∷ []; gone_before = 0; partly_scanned = None });
+      threshold = 256;
+      commands = 3;
+      settings = usual;
+    }
+
+abbrev b : State
+b =
+    record {
+      objects = object ∷ [];
+      stack = [];
+      areas = [];
+      cycle = None;
+      threshold = 256;
+      commands = 4;
+      settings = usual;
+    }
+
+abbrev last : Turn
+last = turn_of a (Finish) lines b
+
+checked : AreChecked (empty_state usual) first groups
+unfolding class_sizes
+checked = (refl, refl, (refl, refl, (refl, refl, tt)))
+
+here : before usual first groups ≡ a
+unfolding class_sizes
+here = refl
+
+known : Knows usual (front usual first groups) a
+known = front-known usual first groups (omega arith) checked a here
+
+lives : Lives a 0 object
+unfolding class_sizes
+lives = record { is = refl; live = refl }
+
+-- nothing is reached, since there are no roots
+unreached : (birth : ℕ) → IsReached a birth → ⊥
+unreached birth (By_root _ object lives named) = no_root named
+  where
+    no_root : false ≡ true → ⊥
+    no_root e = cc
+unreached birth (By_slot _ object by holder lives held named own) = unreached by own
+
+unlisted : false ≡ true → ⊥
+unlisted e = cc
+
+abbrev cycle : CycleStates
+cycle = record { begun = a; since = [] }
+
+began : latest_cycle (front usual first groups) ≡ Some cycle
+unfolding class_sizes
+began = refl
+
+same_cycle : (other : CycleStates) → Some cycle ≡ Some other → cycle ≡ other
+same_cycle other e = cc
+
+broken : EndsCycles (front usual first groups) last → ⊥
+unfolding class_sizes
+broken kept =
+    let ends = kept.0 refl in
+    let frees = ends.throughout 0
+    (subst (λ (c : CycleStates). IsThroughout c.begun c.since 0) (same_cycle ends.cycle (sym began ∙ ends.began))
+    (record { object = object; lives = lives; unreached = unreached 0 })) in
+    unlisted frees.listed
+
+others : (other : Promise) → (other ≡ Cycles → ⊥) → KeepsAt other usual (front usual first groups) last
+unfolding class_sizes
+others References differs =
+    references-idle usual (front usual first groups) a (Finish) lines b known refl
+others Protected differs =
+    record {
+      told = refl;
+      gone = λ birth h. inl (record { object = h.object; is = h.is; gone = h.gone });
+      spared = (λ birth own frees. unlisted frees.listed, tt);
+    }
+others WeakReferences differs =
+    weak-idle usual (front usual first groups) a (Finish) lines b known refl
+others Collections differs = (λ e. cc, tt)
+others Cycles differs = absurd (differs refl)
+others Apart differs = record { placed = known.good.placed; there = tt }
+
+pub returns : goal.returns
+unfolding class_sizes
+returns c =
+    breaks-last usual first groups (omega arith) checked last Cycles _ _
+    (are_turns usual first groups last (refl, (refl, (refl, tt))) refl here refl) broken others

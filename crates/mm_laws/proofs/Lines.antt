@@ -1,0 +1,4 @@
+pub mod LineWords
+pub mod ReadBack
+pub mod Spellings
+pub mod Words

@@ -1,0 +1,14 @@
+pub mod Bearing
+pub mod Cycles
+pub mod Faithful
+pub mod Grids
+pub mod Knowing
+pub mod Looks
+pub mod Nothing
+pub mod Phases
+pub mod PlainReplies
+pub mod Promises
+pub mod Reading
+pub mod Remembering
+pub mod Replies
+pub mod Standing

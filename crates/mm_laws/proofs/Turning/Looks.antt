@@ -1,0 +1,94 @@
+-- A step keeps what is promised of weak references.
+use Rattle.std.proofs.Common.{◌≡◌, ℕ, Bool, true, false, List, Option, Some, None, refl, sym, ap, ◌∙◌, subst}
+use Rattle.std.specs.Prelude.{slice_get, ◌↔◌}
+use Rattle.std.specs.Option.{option_and_then}
+use Rattle.mm_model.specs.declared.command.Command.{Command}
+use Rattle.mm_model.specs.declared.command.Command.TheVariants as commands
+use Rattle.mm_model.specs.declared.reply.Reply.{Reply}
+use Rattle.mm_model.specs.declared.reply.Reply.TheVariants as replies
+use Rattle.mm_model.specs.declared.line.Line.{Line}
+use Rattle.mm_model.specs.declared.settings.Settings.{Settings}
+use Rattle.mm_model.specs.Object.{Object}
+use Rattle.mm_model.specs.State.{State, Lives}
+use Rattle.mm_model.specs.Meaning.{meant_at, object_meant}
+use Rattle.mm_model.specs.Course.{IsGone}
+use Rattle.mm_model.specs.Effect.{Effect, look_effect}
+use Rattle.mm_model.specs.Refusing.{is_stack_full}
+use Rattle.mm_model.specs.Good.{IsGood}
+use Rattle.mm_model.specs.Step.{IsStepUnless, IsStep}
+use Rattle.mm_model.specs.Turns.{Turn, Born, births_in, made_for, reply_in}
+use Rattle.mm_model.specs.Faithful.{LooksAt, FollowsTarget, FollowsTargets}
+use Rattle.mm_model.proofs.Good.Meanings.{is_meant}
+use Rattle.mm_model.proofs.Lists.Truth.{no_other}
+use Rattle.mm_laws.specs.WeakReferences.{IsMadeFor}
+use Rattle.mm_laws.proofs.Targets.Looking.{look_allowed, effect-look}
+use Rattle.mm_laws.proofs.Targets.WeakReferences.{look-gone, gone-look, look-lives}
+use Rattle.mm_laws.proofs.Turning.Knowing.{turn_of}
+use Rattle.mm_laws.proofs.Turning.Remembering.{Knows}
+use Rattle.mm_laws.proofs.Turning.Replies.{reply-carried}
+
+-- a cell that means an object means one that lives
+pub meant-lives : (a : State) → IsGood a → (i birth : ℕ) (object : Object) → meant_at a i ≡ Some birth
+    → slice_get a.objects birth ≡ Some object → Lives a birth object
+meant-lives a good i birth object means is =
+    let one = is_meant a good i object (ap (option_and_then (slice_get a.objects)) means ∙ is) in
+    let first = one.1.meant_is in
+    let same : one.0 ≡ birth = cc in
+    subst (λ n. Lives a n object) same one.1.lives
+
+module _ (a : State) (i weak target : ℕ) (group : List Line) (b : State) (good : IsGood a)
+    (made : IsMadeFor a weak target) (means : meant_at a i ≡ Some weak) (fits : is_stack_full a ≡ false)
+    (step : IsStep a (commands.Look i) group b) where
+  lives : Lives a weak made.object
+  lives = meant-lives a good i weak made.object means made.is
+
+  look-replied : reply_in group ≡ Some (look_effect a made.object.partner).reply
+  look-replied =
+      let m = subst (λ r. IsStepUnless r a (commands.Look i) group b)
+      (look_allowed a i weak target made.object good made lives means fits) step in
+      reply-carried a (commands.Look i) group b m
+      ∙ ap (λ (e : Effect). Some e.reply)
+      (m.carries.effect_is ∙ effect-look a i weak target made.object good made lives means fits)
+
+  pub empty-look : (reply_in group ≡ Some (replies.Word 0)) ↔ IsGone a target
+  empty-look = (
+    λ e.
+        let first = sym look-replied ∙ e in
+        let same : (look_effect a made.object.partner).reply ≡ replies.Word 0 = cc in
+        gone-look a weak target made.object good made lives same,
+    λ gone.
+        look-replied ∙ ap (λ (r : Reply). Some r) (look-gone a weak target made.object good made lives gone),
+  )
+
+  pub based-look : (t : Object) → Lives a target t → reply_in group ≡ Some (replies.Word t.base)
+  based-look t there =
+      look-replied ∙ ap (λ (r : Reply). Some r) (look-lives a weak target made.object good made lives t there).0
+
+pub weak-step : (settings : Settings) (turns : List Turn) (a : State) (command : Command) (group : List Line) (b : State)
+    → Knows settings turns a → IsStep a command group b → FollowsTargets turns (turn_of a command group b)
+weak-step settings turns a command group b known step weak born is kind =
+    let target = known.targets weak born is kind in
+    let looks : (h : LooksAt (turn_of a command group b) weak) → IsStep a (commands.Look h.i) group b =
+    λ h. subst (λ c. IsStep a c group b) h.looks step in
+    record {
+      target = target.target;
+      made = ap (option_and_then (λ (x : Born). x.target)) is ∙ target.is;
+      empty = λ h. empty-look a h.i weak target.target group b known.good target.made h.means h.fits (looks h);
+      based = λ h. based-look a h.i weak target.target group b known.good target.made h.means h.fits (looks h);
+    }
+
+abbrev pub is_look : Command → Bool
+is_look (commands.Look i) = true
+is_look command = false
+
+-- any other command than `look` tells nothing of a weak reference, whatever it writes
+pub weak-idle : (settings : Settings) (turns : List Turn) (a : State) (command : Command) (group : List Line) (b : State)
+    → Knows settings turns a → is_look command ≡ false → FollowsTargets turns (turn_of a command group b)
+weak-idle settings turns a command group b known idle weak born is kind =
+    let target = known.targets weak born is kind in
+    record {
+      target = target.target;
+      made = ap (option_and_then (λ (x : Born). x.target)) is ∙ target.is;
+      empty = λ h. absurd (no_other idle (ap is_look h.looks));
+      based = λ h. absurd (no_other idle (ap is_look h.looks));
+    }
