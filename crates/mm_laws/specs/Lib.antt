@@ -1,5 +1,4 @@
 pub mod Faults
 pub mod Lines
 pub mod Logs
-pub mod Sparing
 pub mod WeakReferences

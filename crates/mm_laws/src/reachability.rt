@@ -5,12 +5,12 @@ ghost use Rattle.mm_model.specs.State.{State, Lives};
 ghost use Rattle.mm_model.specs.Words.{stack_words, names};
 ghost use Rattle.mm_model.specs.Count.{is_zero_count};
 ghost use Rattle.mm_model.specs.Protected.{IsProtected};
-ghost use Rattle.mm_model.specs.Reached.{IsReached, IsUnreached};
+ghost use Rattle.mm_model.specs.Reached.{IsReached};
 ghost use Rattle.mm_model.specs.Reapable.{IsReapable};
 ghost use Rattle.mm_model.specs.Marking.{IsFreedAtFinish};
 ghost use Rattle.mm_model.specs.Phase.{AreReaped, AreCollected, AreFinished, collected};
 ghost use Rattle.mm_model.specs.Good.{IsGood};
-ghost use Rattle.mm_laws.specs.Sparing.{Spares};
+ghost use Rattle.mm_model.specs.Turns.{Reaping, Collecting, Finishing, Frees};
 
 /// A zero-count object in which no stack word falls is reapable.
 pub fn unheld_is_reapable()
@@ -37,18 +37,19 @@ pub fn unmarked_is_not_reached()
 
 /// No phase frees a protected object.
 pub fn phases_spare_protected()
-    ensures reap { (a : State) (bases : List ℕ) → IsGood a → AreReaped a bases → Spares a bases (IsProtected a) }
-    ensures collection { (a : State) (bases : List ℕ) → IsGood a → AreCollected a bases
-        → Spares a bases (IsProtected a) }
+    ensures reap { (a : State) (bases : List ℕ) → IsGood a → AreReaped a bases → (birth : ℕ) → IsProtected a birth
+        → Frees (record { way = Reaping; before = a; bases = bases }) birth → ⊥ }
+    ensures collection { (a : State) (bases : List ℕ) → IsGood a → AreCollected a bases → (birth : ℕ)
+        → IsProtected a birth → Frees (record { way = Collecting; before = a; bases = bases }) birth → ⊥ }
     ensures finish { (a : State) (bases : List ℕ) → IsGood a → IsTrue (is_some a.cycle) → AreFinished a bases
-        → Spares a bases (IsProtected a) }
+        → (birth : ℕ) → IsProtected a birth
+        → Frees (record { way = Finishing; before = a; bases = bases }) birth → ⊥ }
 {}
 
-/// A full collection leaves exactly the live objects that are not unreached.
+/// A full collection leaves exactly the reached objects.
 pub fn collections_leave_what_is_reached()
-    ensures exactly { (a : State) (bases : List ℕ) (birth : ℕ) (object : Object) → IsGood a → AreCollected a bases
-        → Lives a birth object
-        → ((left : Object) × Lives (collected bases a) birth left) ↔ (IsUnreached a birth → ⊥) }
+    ensures exactly { (a : State) (bases : List ℕ) (birth : ℕ) → IsGood a → AreCollected a bases
+        → ((left : Object) × Lives (collected bases a) birth left) ↔ IsReached a birth }
     ensures lived { (a : State) (bases : List ℕ) (birth : ℕ) (left : Object) → Lives (collected bases a) birth left
         → (object : Object) × Lives a birth object }
 {}

@@ -1,8 +1,9 @@
 // Laws on commands and the groups of lines that they write.
-ghost use Rattle.std.specs.Prelude.{◌≡◌, ◌≢◌, ℕ, List};
+ghost use Rattle.std.specs.Prelude.{◌≡◌, ◌≢◌, ℕ, List, Some, slice_get, IsTrue};
 ghost use Rattle.mm_model.specs.declared.command.Command.{Command};
 ghost use Rattle.mm_model.specs.declared.command.Command.TheVariants as commands;
 ghost use Rattle.mm_model.specs.declared.line.Line.{Line};
+ghost use Rattle.mm_model.specs.Object.{Object};
 ghost use Rattle.mm_model.specs.State.{State};
 ghost use Rattle.mm_model.specs.Good.{IsGood};
 ghost use Rattle.mm_model.specs.Step.{IsStep};
@@ -27,4 +28,11 @@ pub fn only_step_chooses()
 pub fn each_command_has_a_step()
     ensures { (a : State) (command : Command) → IsGood a
         → (group : List Line) × (b : State) × IsStep a command group b }
+{}
+
+/// What is sticky stays so for good, freed or not.
+pub fn sticky_objects_stay_sticky()
+    ensures { (a : State) (command : Command) (group : List Line) (b : State) → IsStep a command group b
+        → (birth : ℕ) (object : Object) → slice_get a.objects birth ≡ Some object → IsTrue object.sticky
+        → (later : Object) × (slice_get b.objects birth ≡ Some later) × IsTrue later.sticky }
 {}

@@ -49,7 +49,7 @@ module _ (start : State) (phase : PhaseOf) (right : IsRight start phase) where
   finishing_runs : phase.way ≡ Finishing → IsTrue (is_some phase.before.cycle)
   finishing_runs e = ap (λ (s : State). is_some s.cycle) (right.finishing e).0 ∙ (right.finishing e).1
 
-  spares-phase : (birth : ℕ) → IsProtected phase.before birth → Frees phase birth → ⊥
+  pub spares-phase : (birth : ℕ) → IsProtected phase.before birth → Frees phase birth → ⊥
   spares-phase birth own h = split phase.way refl (dead-frees birth h)
     where
       split : (way : Way) → phase.way ≡ way → Dead way phase.before birth → ⊥
@@ -60,7 +60,7 @@ module _ (start : State) (phase : PhaseOf) (right : IsRight start phase) where
           (protected_is_reached phase.before birth right.good own)
 
   -- a full collection leaves exactly the reached objects
-  left_is_reached : phase.way ≡ Collecting → (birth : ℕ) → IsLeft phase birth ↔ IsReached phase.before birth
+  pub left_is_reached : phase.way ≡ Collecting → (birth : ℕ) → IsLeft phase birth ↔ IsReached phase.before birth
   left_is_reached e birth = (reached, left)
     where
       are : AreBasesOf phase.before (Dead Collecting phase.before) phase.bases
