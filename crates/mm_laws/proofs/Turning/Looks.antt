@@ -1,5 +1,5 @@
 -- A step keeps what is promised of weak references.
-use Rattle.std.proofs.Common.{◌≡◌, ℕ, Bool, true, false, List, Option, Some, None, refl, sym, ap, ◌∙◌, subst}
+use Rattle.std.proofs.Common.{◌≡◌, ℕ, Bool, true, false, List, Some, sym, ap, ◌∙◌, subst}
 use Rattle.std.specs.Prelude.{slice_get, ◌↔◌}
 use Rattle.std.specs.Option.{option_and_then}
 use Rattle.mm_model.specs.declared.command.Command.{Command}
@@ -10,14 +10,14 @@ use Rattle.mm_model.specs.declared.line.Line.{Line}
 use Rattle.mm_model.specs.declared.settings.Settings.{Settings}
 use Rattle.mm_model.specs.Object.{Object}
 use Rattle.mm_model.specs.State.{State, Lives}
-use Rattle.mm_model.specs.Meaning.{meant_at, object_meant}
+use Rattle.mm_model.specs.Meaning.{meant_at}
 use Rattle.mm_model.specs.Course.{IsGone}
 use Rattle.mm_model.specs.Effect.{Effect, look_effect}
 use Rattle.mm_model.specs.Refusing.{is_stack_full}
 use Rattle.mm_model.specs.Good.{IsGood}
 use Rattle.mm_model.specs.Step.{IsStepUnless, IsStep}
-use Rattle.mm_model.specs.Turns.{Turn, Born, births_in, made_for, reply_in}
-use Rattle.mm_model.specs.Faithful.{LooksAt, FollowsTarget, FollowsTargets}
+use Rattle.mm_model.specs.Turns.{Turn, Born, reply_in}
+use Rattle.mm_model.specs.Faithful.{LooksAt, FollowsTargets}
 use Rattle.mm_model.proofs.FlatView.Resolving.{is_meant}
 use Rattle.mm_model.proofs.Lists.Truth.{no_other}
 use Rattle.mm_laws.specs.WeakReferences.{IsMadeFor}

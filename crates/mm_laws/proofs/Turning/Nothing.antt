@@ -14,9 +14,9 @@ use Rattle.mm_model.specs.declared.reply.Reply.{Reply}
 use Rattle.mm_model.specs.declared.reply.Reply.TheVariants as replies
 use Rattle.mm_model.specs.declared.line.Line.{Line}
 use Rattle.mm_model.specs.declared.line.Line.TheVariants as lines
-use Rattle.mm_model.specs.Value.{Value, reference}
-use Rattle.mm_model.specs.Object.{Object, is_weak}
-use Rattle.mm_model.specs.State.{State, Lives}
+use Rattle.mm_model.specs.Value.{reference}
+use Rattle.mm_model.specs.Object.{Object}
+use Rattle.mm_model.specs.State.{State}
 use Rattle.mm_model.specs.Words.{slot_kind}
 use Rattle.mm_model.specs.Store.{is_loose}
 use Rattle.mm_model.specs.Meaning.{meant_at, object_meant}
@@ -25,12 +25,12 @@ use Rattle.mm_model.specs.Effect.{Effect, with_some, pushes, put_effect, look_ef
 use Rattle.mm_model.specs.Refusing.{first_refusal, refusal_row, refusal, no_cell, means_nothing, has_no_slot, is_outside, means_weak, is_stack_full}
 use Rattle.mm_model.specs.Step.{MakesWeak, Carries, IsCarriedOut, IsStepUnless, IsStep}
 use Rattle.mm_model.specs.Log.{IsRun}
-use Rattle.mm_model.specs.Turns.{is_group, is_refusal, reply_in}
+use Rattle.mm_model.specs.Turns.{is_group, reply_in}
 use Rattle.mm_model.proofs.FlatView.Resolving.{is_meant}
 use Rattle.mm_model.proofs.FlatView.StackEffects.{all_allowed, found_some}
 use Rattle.mm_model.proofs.Good.Steps.{step_is_good}
 use Rattle.mm_model.proofs.Lists.Truth.{no_other}
-use Rattle.mm_laws.specs.Lines.{AreNothing, AreAlike, answered_nothing, refused_nothing}
+use Rattle.mm_laws.specs.Lines.{AreNothing, AreAlike}
 use Rattle.mm_laws.proofs.Keeping.FollowingSteps.{keeps-searched, strong-allowed}
 use Rattle.mm_laws.proofs.Stepping.Determining.{one_group_leads_to_one_state}
 use Rattle.mm_laws.proofs.Turning.Knowing.{put-allowed}
