@@ -1,6 +1,6 @@
 -- What a command that makes, scans and frees nothing leaves of each view of objects that no sticky mark changes.
 use Rattle.std.proofs.Common.{◌≡◌, ℕ, Bool, true, false, not, [], ◌∷◌, Option, Some, None, refl, ◌∙◌}
-use Rattle.std.specs.Prelude.{slice_get, slice_set, slice_index, map, List, ◌&&◌, ◌==◌, if◌then◌else◌}
+use Rattle.std.specs.Prelude.{slice_get, slice_set, slice_index, map, ◌&&◌, ◌==◌, if◌then◌else◌}
 use Rattle.mm_model.specs.declared.command.Command.{Command}
 use Rattle.mm_model.specs.declared.command.Command.TheVariants as commands
 use Rattle.mm_model.specs.Value.{Value, words_of}

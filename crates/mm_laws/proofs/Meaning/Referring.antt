@@ -1,11 +1,10 @@
 -- What references on the stack mean, and what is read through them.
-use Rattle.std.proofs.Common.{◌≡◌, ℕ, ◌+◌, ◌<◌, ◌≤◌, Bool, true, false, not, List, [], ◌∷◌, ◌++◌, length, Option, Some, None, refl, sym, ap, ◌∙◌, subst, arith}
+use Rattle.std.proofs.Common.{◌≡◌, ℕ, ◌≤◌, Bool, false, not, List, [], ◌∷◌, ◌++◌, length, Some, None, ap, ◌∙◌, subst, arith}
 use Rattle.std.proofs.lemmas.Bool.Decides.{nat_tests}
 use Rattle.std.proofs.lemmas.Option.{slice_get_within}
 use Rattle.std.specs.Prelude.{IsTrue, IfSome, is_some, nat_le, slice_get}
 use Rattle.std.specs.Option.{option_and_then, option_or, option_map_or}
 use Rattle.mm_model.specs.declared.command.Command.TheVariants as commands
-use Rattle.mm_model.specs.declared.refusal.Refusal.{Refusal}
 use Rattle.mm_model.specs.declared.refusal.Refusal.TheVariants as refusals
 use Rattle.mm_model.specs.declared.reply.Reply.TheVariants as replies
 use Rattle.mm_model.specs.declared.line.Line.{Line}
@@ -15,7 +14,7 @@ use Rattle.mm_model.specs.Object.{Object}
 use Rattle.mm_model.specs.State.{State, Lives}
 use Rattle.mm_model.specs.Words.{falls}
 use Rattle.mm_model.specs.Meaning.{resolved, meant, object_meant}
-use Rattle.mm_model.specs.Refusing.{first_refusal, refusal, no_cell, means_nothing, has_no_slot, is_stack_full}
+use Rattle.mm_model.specs.Refusing.{first_refusal, refusal, means_nothing, has_no_slot, is_stack_full}
 use Rattle.mm_model.specs.Effect.{Effect, pushes, with_some, plain_effect}
 use Rattle.mm_model.specs.Good.{IsReferring, IsGood}
 use Rattle.mm_model.specs.Step.{IsStepUnless, IsCarriedOut, IsStep}

@@ -25,7 +25,7 @@ use Rattle.mm_model.specs.Turns.{Born, born_at, births_if}
 use Rattle.mm_model.proofs.Lists.Replaced.{map-set_alike, map-map_alike}
 use Rattle.mm_laws.proofs.Keeping.Following.{Keeps}
 use Rattle.mm_laws.proofs.Keeping.FollowingSteps.{keeps-searched, strong-allowed, scanned-objects}
-use Rattle.mm_laws.proofs.Keeping.Seeing.{SeesSame, is_put, same-object, same-plain}
+use Rattle.mm_laws.proofs.Keeping.Seeing.{SeesSame, is_put, same-plain}
 
 -- a command that bears nothing, whatever it replies
 births_if-none : (a : State) (command : Command) → ((base : ℕ) → born_at a command base ≡ [])

@@ -1,5 +1,5 @@
 -- Each step keeps the settings and what is sticky, and `begin` alone begins a cycle.
-use Rattle.std.proofs.Common.{◌≡◌, ℕ, Bool, true, false, not, ◌⊎◌, ⊎_elim, List, [], ◌∷◌, ◌++◌, map, length, Option, Some, None, refl, sym, ap, ◌∙◌, subst}
+use Rattle.std.proofs.Common.{◌≡◌, ℕ, Bool, true, false, not, ⊎_elim, List, [], ◌∷◌, ◌++◌, map, length, Option, Some, None, refl, sym, ap, ◌∙◌, subst}
 use Rattle.std.proofs.lemmas.Bool.{cases_eq}
 use Rattle.std.proofs.lemmas.Option.{slice_get-map}
 use Rattle.std.specs.Prelude.{is_some, slice_get, slice_set, slice_index, nat_le, ◌||◌, ◌&&◌, ◌==◌, if◌then◌else◌}
@@ -18,14 +18,14 @@ use Rattle.mm_model.specs.Words.{SlotKind, slot_kind, cell_kind}
 use Rattle.mm_model.specs.Count.{refs, begins_counted, made_sticky, with_sticky}
 use Rattle.mm_model.specs.Meaning.{meant_at, object_meant}
 use Rattle.mm_model.specs.Areas.{area_at, with_changed_area}
-use Rattle.mm_model.specs.Marking.{grayed_cycle, with_grayed, is_raw, is_passed, barrier, part_done, part_slots, advanced, done_of}
+use Rattle.mm_model.specs.Marking.{grayed_cycle, with_grayed, is_raw, is_passed, barrier, part_done}
 use Rattle.mm_model.specs.Phase.{cycle_left, is_freed, unless_freed, after_release, reaped, collected}
 use Rattle.mm_model.specs.Store.{is_counted_slot, recounted, with_object, with_slot, with_cell, put_in_slot, put_in_cell}
 use Rattle.mm_model.specs.Search.{Searches, At_once, After_reap, After_collection}
 use Rattle.mm_model.specs.Scan.{AreScanned}
 use Rattle.mm_model.specs.Effect.{Effect, with_some, weak_shape, new_effect, weak_effect, weak_made, area_effect, look_effect, pushes_object, plain_effect}
 use Rattle.mm_model.specs.Refusing.{refusal}
-use Rattle.mm_model.specs.Step.{Makes, MakesWeak, Reaps, Carries, Ends, Refused_as_full, Below_threshold, At_threshold, IsStepUnless, IsStep}
+use Rattle.mm_model.specs.Step.{Makes, MakesWeak, Carries, Ends, Refused_as_full, Below_threshold, At_threshold, IsStepUnless, IsStep}
 use Rattle.mm_model.specs.Turns.{is_begin}
 use Rattle.mm_model.proofs.Lists.Growing.{get-front}
 use Rattle.mm_model.proofs.Lists.Replaced.{get-set_same, get-set_other}

@@ -1,13 +1,12 @@
 -- What turns tell of the state that they lead to.
-use Rattle.std.proofs.Common.{◌≡◌, ℕ, ◌+◌, ◌<◌, ◌≤◌, Bool, true, false, not, zero, suc, eqb-true, get_or, List, [], ◌∷◌, ◌++◌, map, length, Option, Some, None, refl, sym, ap, ◌∙◌, subst, ◌⊎◌, ⊎_elim, inl, inr, arith}
+use Rattle.std.proofs.Common.{◌≡◌, ℕ, ◌+◌, ◌<◌, ◌≤◌, Bool, true, false, zero, suc, eqb-true, get_or, List, [], ◌∷◌, ◌++◌, map, length, Option, Some, None, refl, sym, ap, ◌∙◌, subst, ⊎_elim, arith}
 use Rattle.std.proofs.lemmas.List.{append-nil, map-append, length-map, length-append, length-set, length-replicate}
 use Rattle.std.proofs.lemmas.List.Sums.{fold-append}
 use Rattle.std.proofs.lemmas.Grind.{flat_map-append}
 use Rattle.std.proofs.lemmas.Bool.{and_parts, eq-eqb}
 use Rattle.std.proofs.lemmas.Bool.Decides.{nat_tests}
 use Rattle.std.proofs.lemmas.Option.{slice_get-map, slice_get_within, slice_get_cases}
-use Rattle.std.specs.Prelude.{IsTrue, IfSome, is_some, slice_get, slice_set, replicate, ◌&&◌, ◌||◌, ◌==◌, if◌then◌else◌}
-use Rattle.std.specs.List.{flat_map, fold}
+use Rattle.std.specs.Prelude.{slice_get, slice_set, replicate, ◌&&◌, ◌||◌, ◌==◌, if◌then◌else◌}
 use Rattle.std.specs.Option.{option_map, option_map_or, option_and_then}
 use Rattle.mm_model.specs.declared.command.Command.{Command}
 use Rattle.mm_model.specs.declared.command.Command.TheVariants as commands
@@ -15,22 +14,20 @@ use Rattle.mm_model.specs.declared.object.Kind.{Kind}
 use Rattle.mm_model.specs.declared.object.Shape.{Shape}
 use Rattle.mm_model.specs.declared.refusal.Refusal.{Refusal}
 use Rattle.mm_model.specs.declared.refusal.Refusal.TheVariants as refusals
-use Rattle.mm_model.specs.declared.reply.Reply.{Reply}
 use Rattle.mm_model.specs.declared.reply.Reply.TheVariants as replies
 use Rattle.mm_model.specs.declared.line.Line.{Line}
-use Rattle.mm_model.specs.declared.settings.Settings.{Settings}
 use Rattle.mm_model.specs.SizeClass.{extent_of, object_bytes}
 use Rattle.mm_model.specs.Value.{Value, integer, words_of}
-use Rattle.mm_model.specs.Object.{Object, newborn, is_weak}
-use Rattle.mm_model.specs.State.{State, empty_state, one_more_command}
+use Rattle.mm_model.specs.Object.{Object}
+use Rattle.mm_model.specs.State.{State}
 use Rattle.mm_model.specs.Meaning.{meant_at, object_meant, stored}
 use Rattle.mm_model.specs.Words.{SlotKind, slot_kind}
 use Rattle.mm_model.specs.Store.{with_slot, is_loose, store_reply}
-use Rattle.mm_model.specs.Phase.{is_freed, unless_freed, after_release}
-use Rattle.mm_model.specs.Effect.{Effect, with_some, put_effect, plain_effect}
+use Rattle.mm_model.specs.Phase.{is_freed, unless_freed}
+use Rattle.mm_model.specs.Effect.{Effect, with_some, put_effect}
 use Rattle.mm_model.specs.Refusing.{refusal, word_at, no_cell, means_nothing, has_no_slot, refuses_in_slot}
 use Rattle.mm_model.specs.Step.{IsCarriedOut, IsStepUnless, IsStep}
-use Rattle.mm_model.specs.Turns.{Turn, Born, births_if, births_of, births_in, Write, write_in, write_of, word_after, last_written, was_refused, is_refusal, reply_in}
+use Rattle.mm_model.specs.Turns.{Turn, Born, births_if, births_of, births_in, write_in, write_of, word_after, last_written, was_refused, is_refusal, reply_in}
 use Rattle.mm_model.proofs.Lists.Replaced.{map-set}
 use Rattle.mm_model.proofs.Lists.Truth.{together, no_other}
 use Rattle.mm_model.proofs.Good.Allowed.{all_allowed, found_some, word_at-value}

@@ -1,5 +1,5 @@
 -- A step keeps what is promised of weak references.
-use Rattle.std.proofs.Common.{◌≡◌, ℕ, Bool, true, false, List, Option, Some, None, refl, sym, ap, ◌∙◌, subst}
+use Rattle.std.proofs.Common.{◌≡◌, ℕ, Bool, true, false, List, Some, sym, ap, ◌∙◌, subst}
 use Rattle.std.specs.Prelude.{slice_get, ◌↔◌}
 use Rattle.std.specs.Option.{option_and_then}
 use Rattle.mm_model.specs.declared.command.Command.{Command}
@@ -10,7 +10,7 @@ use Rattle.mm_model.specs.declared.line.Line.{Line}
 use Rattle.mm_model.specs.declared.settings.Settings.{Settings}
 use Rattle.mm_model.specs.Object.{Object}
 use Rattle.mm_model.specs.State.{State, Lives}
-use Rattle.mm_model.specs.Meaning.{meant_at, object_meant}
+use Rattle.mm_model.specs.Meaning.{meant_at}
 use Rattle.mm_model.specs.Course.{IsGone}
 use Rattle.mm_model.specs.Effect.{Effect, look_effect}
 use Rattle.mm_model.specs.Refusing.{is_stack_full}

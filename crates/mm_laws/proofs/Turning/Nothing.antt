@@ -14,9 +14,9 @@ use Rattle.mm_model.specs.declared.reply.Reply.{Reply}
 use Rattle.mm_model.specs.declared.reply.Reply.TheVariants as replies
 use Rattle.mm_model.specs.declared.line.Line.{Line}
 use Rattle.mm_model.specs.declared.line.Line.TheVariants as lines
-use Rattle.mm_model.specs.Value.{Value, reference}
-use Rattle.mm_model.specs.Object.{Object, is_weak}
-use Rattle.mm_model.specs.State.{State, Lives}
+use Rattle.mm_model.specs.Value.{reference}
+use Rattle.mm_model.specs.Object.{Object}
+use Rattle.mm_model.specs.State.{State}
 use Rattle.mm_model.specs.Words.{slot_kind}
 use Rattle.mm_model.specs.Store.{is_loose}
 use Rattle.mm_model.specs.Meaning.{meant_at, object_meant}
@@ -30,7 +30,7 @@ use Rattle.mm_model.proofs.Good.Meanings.{is_meant}
 use Rattle.mm_model.proofs.Good.Allowed.{all_allowed, found_some}
 use Rattle.mm_model.proofs.Good.Steps.{step_is_good}
 use Rattle.mm_model.proofs.Lists.Truth.{no_other}
-use Rattle.mm_laws.specs.Lines.{AreNothing, AreAlike, answered_nothing, refused_nothing}
+use Rattle.mm_laws.specs.Lines.{AreNothing, AreAlike}
 use Rattle.mm_laws.proofs.Keeping.FollowingSteps.{keeps-searched, strong-allowed}
 use Rattle.mm_model.proofs.Steps.Determining.{one_group_leads_to_one_state}
 use Rattle.mm_laws.proofs.Turning.Knowing.{put-allowed}

@@ -1,5 +1,5 @@
 -- The phases of a step are those of its turn: what each of them frees, and that nothing else is freed.
-use Rattle.std.proofs.Common.{◌≡◌, ℕ, ◌≤◌, Bool, true, false, not, ◌&&◌, List, [], ◌∷◌, ◌++◌, map, Option, Some, None, refl, sym, ap, ◌∙◌, subst, append_assoc, ◌⊎◌, ⊎_elim, inl, inr, zero, suc, arith}
+use Rattle.std.proofs.Common.{◌≡◌, ℕ, Bool, true, false, not, ◌&&◌, List, [], ◌∷◌, ◌++◌, map, Option, Some, None, refl, sym, ap, ◌∙◌, subst, append_assoc, ◌⊎◌, ⊎_elim, inl, inr, zero, suc, arith}
 use Rattle.std.proofs.lemmas.List.{append-nil}
 use Rattle.std.proofs.lemmas.Grind.{flat_map-append}
 use Rattle.std.proofs.lemmas.Bool.Decides.{nat_tests}
@@ -18,7 +18,7 @@ use Rattle.mm_model.specs.declared.line.Phase.TheVariants.{Reap, Collect}
 use Rattle.mm_model.specs.SizeClass.{object_bytes, area_bytes}
 use Rattle.mm_model.specs.Place.{Family, Objects, Areas}
 use Rattle.mm_model.specs.Object.{Object}
-use Rattle.mm_model.specs.State.{State, Lives}
+use Rattle.mm_model.specs.State.{State}
 use Rattle.mm_model.specs.Count.{zero_count}
 use Rattle.mm_model.specs.Good.{IsGood}
 use Rattle.mm_model.specs.Course.{IsGone}
@@ -26,11 +26,11 @@ use Rattle.mm_model.specs.Reapable.{IsReapable}
 use Rattle.mm_model.specs.Reached.{IsUnreached}
 use Rattle.mm_model.specs.Marking.{IsFreedAtFinish, part_done}
 use Rattle.mm_model.specs.Phase.{AreBasesOf, lists, is_freed, unless_freed, after_release, phase_lines, reaped, collected}
-use Rattle.mm_model.specs.Search.{place_now, place_grown, Searches, At_once, After_reap, After_collection}
+use Rattle.mm_model.specs.Search.{Searches, At_once, After_reap, After_collection}
 use Rattle.mm_model.specs.Scan.{AreScanned}
 use Rattle.mm_model.specs.Effect.{Effect, new_effect, weak_effect, area_effect, plain_effect}
-use Rattle.mm_model.specs.Refusing.{refusal, first_refusal}
-use Rattle.mm_model.specs.Step.{Makes, MakesWeak, Reaps, Carries, is_full, Ends, Refused_as_full, Below_threshold, At_threshold, IsCarriedOut, IsStepUnless, IsStep}
+use Rattle.mm_model.specs.Refusing.{refusal}
+use Rattle.mm_model.specs.Step.{Makes, MakesWeak, Carries, is_full, Ends, Refused_as_full, Below_threshold, At_threshold, IsStepUnless, IsStep}
 use Rattle.mm_model.specs.After.{freed_bases, phases_in, Row, row_after}
 use Rattle.mm_model.specs.Turns.{Born, Way, Reaping, Collecting, Finishing, PhaseOf, first_of, collection_unless, reap_unless, search_phases, weak_phases, row_phases, end_phases, phases_unless, Frees}
 use Rattle.mm_model.specs.Faithful.{IsFreedIn}
@@ -38,7 +38,7 @@ use Rattle.mm_model.proofs.Good.Allowed.{first_refusal-None}
 use Rattle.mm_model.proofs.Good.Living.{each_append}
 use Rattle.mm_model.proofs.Good.Phases.{reaped_is_good}
 use Rattle.mm_model.proofs.Good.Steps.{carries_stays}
-use Rattle.mm_model.proofs.Lists.Truth.{no_other, not_true}
+use Rattle.mm_model.proofs.Lists.Truth.{no_other}
 use Rattle.mm_laws.proofs.Keeping.Following.{get-released}
 use Rattle.mm_laws.proofs.Keeping.FollowingSteps.{keeps-searched, scanned-objects, strong-allowed}
 use Rattle.mm_laws.proofs.Keeping.Seeing.{SeesSame, same-object, same-plain}

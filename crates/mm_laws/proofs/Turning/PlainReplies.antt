@@ -1,5 +1,5 @@
 -- What a command without a search replies: a word, what is told of an object or the heap, `ok`, `loose` or `nothing`.
-use Rattle.std.proofs.Common.{◌≡◌, ℕ, ◌+◌, Bool, true, false, cond, List, Option, Some, None, refl}
+use Rattle.std.proofs.Common.{◌≡◌, ℕ, ◌+◌, Bool, true, false, cond, Option, Some, None}
 use Rattle.std.specs.Prelude.{slice_get}
 use Rattle.mm_model.specs.declared.command.Command.{Command}
 use Rattle.mm_model.specs.declared.command.Command.TheVariants as commands

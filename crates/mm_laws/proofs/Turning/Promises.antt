@@ -1,21 +1,19 @@
 -- A step keeps what is promised of phases: protected objects, full collections, cycles.
-use Rattle.std.proofs.Common.{◌≡◌, ℕ, Bool, true, false, not, ◌&&◌, List, [], ◌∷◌, Option, Some, None, refl, sym, ap, ◌∙◌, subst, ◌⊎◌, ⊎_elim, inl, inr}
-use Rattle.std.specs.Prelude.{IsTrue, is_some, slice_get, ◌↔◌}
-use Rattle.std.specs.List.{AllByRecursion}
+use Rattle.std.proofs.Common.{◌≡◌, ℕ, List, [], ◌∷◌, refl, sym, ap, ◌∙◌, subst}
+use Rattle.std.specs.Prelude.{IsTrue, is_some, ◌↔◌}
 use Rattle.mm_model.specs.declared.command.Command.{Command}
 use Rattle.mm_model.specs.declared.line.Line.{Line}
 use Rattle.mm_model.specs.declared.settings.Settings.{Settings}
 use Rattle.mm_model.specs.Object.{Object}
 use Rattle.mm_model.specs.State.{State, Lives}
-use Rattle.mm_model.specs.Good.{IsGood}
 use Rattle.mm_model.specs.Protected.{IsProtected}
 use Rattle.mm_model.specs.Reached.{IsReached, By_root, By_slot}
-use Rattle.mm_model.specs.Marking.{IsFreedAtFinish, IsMarked}
-use Rattle.mm_model.specs.Phase.{lists, AreFinished, AreBasesOf, collected}
+use Rattle.mm_model.specs.Marking.{IsMarked}
+use Rattle.mm_model.specs.Phase.{AreBasesOf}
 use Rattle.mm_model.specs.Throughout.{IsUnreachable, IsThroughout}
-use Rattle.mm_model.specs.Course.{AreGood, latest}
+use Rattle.mm_model.specs.Course.{latest}
 use Rattle.mm_model.specs.Step.{IsStep}
-use Rattle.mm_model.specs.Turns.{Turn, Way, Reaping, Collecting, Finishing, PhaseOf, phases_of, EachPhase, Frees, CycleStates}
+use Rattle.mm_model.specs.Turns.{Turn, Way, Reaping, Collecting, Finishing, PhaseOf, phases_of, Frees}
 use Rattle.mm_model.specs.Faithful.{SparesProtected, IsLeft, LeavesReached, EndsCycle, EndsCycles}
 use Rattle.mm_model.proofs.Cycle.Courses.{course_is_good, throughout_is_unmarked}
 use Rattle.mm_model.proofs.Cycle.Marked.{unmarked_iff_neither, unmarked_is_not_reached}
@@ -27,7 +25,7 @@ use Rattle.mm_laws.proofs.Phases.Leaving.{left-collected, lived-collected}
 use Rattle.mm_laws.proofs.Phases.Reaching.{reapable_is_not_protected, protected_is_reached}
 use Rattle.mm_laws.proofs.Turning.Knowing.{turn_of}
 use Rattle.mm_laws.proofs.Turning.Phases.{Dead, IsRight, right-step}
-use Rattle.mm_laws.proofs.Turning.Remembering.{HasCourse, Knows}
+use Rattle.mm_laws.proofs.Turning.Remembering.{Knows}
 
 lives-reached : (a : State) (birth : ℕ) → IsReached a birth → (object : Object) × Lives a birth object
 lives-reached a birth (By_root _ object lives named) = (object, lives)

@@ -1,9 +1,9 @@
 -- A step keeps what is promised of references: it acts on the object for which a reference was made, as it was born.
-use Rattle.std.proofs.Common.{◌≡◌, ℕ, ◌+◌, ◌<◌, ◌≤◌, Bool, true, false, not, cond, List, [], ◌∷◌, ◌++◌, map, length, Option, Some, None, refl, sym, ap, ◌∙◌, subst, ◌⊎◌, ⊎_elim, inl, inr, get_or, arith}
+use Rattle.std.proofs.Common.{◌≡◌, ℕ, ◌+◌, ◌<◌, ◌≤◌, Bool, true, false, not, List, [], ◌∷◌, map, length, Option, Some, None, refl, sym, ap, ◌∙◌, subst, ⊎_elim, get_or, arith}
 use Rattle.std.proofs.lemmas.Bool.Decides.{nat_tests}
 use Rattle.std.proofs.lemmas.Option.{slice_get-map, slice_get_cases}
-use Rattle.std.specs.Prelude.{IfSome, is_some, slice_get, nat_le, nat_lt, ◌↔◌, ◌||◌, if◌then◌else◌}
-use Rattle.std.specs.List.{AllByRecursion, flat_map}
+use Rattle.std.specs.Prelude.{IfSome, is_some, slice_get, nat_le, nat_lt, ◌||◌, if◌then◌else◌}
+use Rattle.std.specs.List.{AllByRecursion}
 use Rattle.std.specs.Option.{option_map, option_map_or, option_and_then, option_or}
 use Rattle.mm_model.specs.declared.command.Command.{Command}
 use Rattle.mm_model.specs.declared.command.Command.TheVariants as commands
@@ -17,13 +17,13 @@ use Rattle.mm_model.specs.SizeClass.{extent_of, object_bytes}
 use Rattle.mm_model.specs.Value.{Value, reference}
 use Rattle.mm_model.specs.Object.{Object, is_scanned, is_weak}
 use Rattle.mm_model.specs.State.{State, Lives}
-use Rattle.mm_model.specs.Words.{SlotKind, slot_kind_at, slot_kind, falls}
+use Rattle.mm_model.specs.Words.{slot_kind_at, slot_kind, falls}
 use Rattle.mm_model.specs.Meaning.{resolved, meant, meant_at, object_meant}
 use Rattle.mm_model.specs.Store.{refuses_word, store_reply}
 use Rattle.mm_model.specs.Good.{IsPaired, IsGood}
 use Rattle.mm_model.specs.Effect.{Effect, with_some, map_reply, pushes, put_effect, weak_effect, weak_made, pushes_object, plain_effect}
 use Rattle.mm_model.specs.Refusing.{first_refusal, refusal, no_cell, means_nothing, means_weak, is_outside, has_no_slot, refuses_in_slot, is_stack_full, word_at}
-use Rattle.mm_model.specs.Step.{MakesWeak, Carries, IsCarriedOut, IsStepUnless, IsStep}
+use Rattle.mm_model.specs.Step.{MakesWeak, Carries, IsStepUnless, IsStep}
 use Rattle.mm_model.specs.Turns.{Turn, Born, born_at, births_if, births_of, births_in, made_for, last_written, reply_in}
 use Rattle.mm_model.specs.Faithful.{unless_full, inner_answer, get_answer, map_answer, born_slot_kind, put_answer, HoldsReference, HasObject, HasWeak, ActsOnOrigin, ReadsThroughReferences}
 use Rattle.mm_model.proofs.Good.Allowed.{word_at-value}

@@ -1,9 +1,8 @@
 -- What turns tell of weak references, of cycles, and so of the state that they lead to.
-use Rattle.std.proofs.Common.{◌≡◌, ℕ, ◌≤◌, Bool, true, false, not, List, [], ◌∷◌, ◌++◌, map, length, Option, Some, None, refl, sym, ap, ◌∙◌, subst, ◌⊎◌, ⊎_elim, inl, inr, append_assoc}
+use Rattle.std.proofs.Common.{◌≡◌, ℕ, ◌≤◌, Bool, true, false, List, [], ◌∷◌, ◌++◌, length, Option, Some, None, refl, sym, ap, ◌∙◌, subst, ◌⊎◌, ⊎_elim, inl, inr, append_assoc}
 use Rattle.std.proofs.lemmas.List.{append-nil, length-map}
 use Rattle.std.proofs.lemmas.List.Sums.{fold-append}
-use Rattle.std.specs.Prelude.{IsTrue, is_some, slice_get, ◌||◌, if◌then◌else◌}
-use Rattle.std.specs.List.{fold}
+use Rattle.std.specs.Prelude.{is_some, slice_get, ◌||◌, if◌then◌else◌}
 use Rattle.std.specs.Option.{option_map, option_map_or}
 use Rattle.mm_model.specs.declared.command.Command.{Command}
 use Rattle.mm_model.specs.declared.command.Command.TheVariants as commands
@@ -20,7 +19,7 @@ use Rattle.mm_model.specs.State.{State, Cycle, empty_state}
 use Rattle.mm_model.specs.Meaning.{meant_at}
 use Rattle.mm_model.specs.Good.{IsGood}
 use Rattle.mm_model.specs.Effect.{Effect}
-use Rattle.mm_model.specs.Course.{IsBegun, GoesOn, IsCourse, latest}
+use Rattle.mm_model.specs.Course.{IsCourse, latest}
 use Rattle.mm_model.specs.Refusing.{refusal, is_bad_shape}
 use Rattle.mm_model.specs.Step.{IsCarriedOut, IsStepUnless, IsStep}
 use Rattle.mm_model.specs.Turns.{Turn, Born, born_at, births_if, births_of, births_in, reply_in, was_refused, is_refusal, CycleStates, is_begin, begins, and_then, cycle_after, latest_cycle, AreSteps}

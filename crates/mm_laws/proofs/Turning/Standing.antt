@@ -1,10 +1,10 @@
 -- A step keeps what is promised of places: blocks lie apart, and new ones where the log says.
-use Rattle.std.proofs.Common.{◌≡◌, ℕ, ◌+◌, ◌<◌, Bool, true, false, not, cond, zero, suc, eq-eqb, eqb-true, List, [], ◌∷◌, ◌++◌, map, length, Option, Some, None, refl, sym, ap, ◌∙◌, subst, ◌⊎◌, ⊎_elim, inl, inr, arith}
+use Rattle.std.proofs.Common.{◌≡◌, ℕ, ◌<◌, Bool, true, false, cond, zero, suc, eq-eqb, eqb-true, List, [], ◌∷◌, ◌++◌, map, length, Option, Some, None, refl, sym, ap, ◌∙◌, subst, ◌⊎◌, ⊎_elim, inl, inr, arith}
 use Rattle.std.proofs.lemmas.List.{length-map}
 use Rattle.std.proofs.lemmas.Option.{slice_get-map}
 use Rattle.std.specs.Prelude.{slice_get, nat_lt, ◌==◌}
-use Rattle.std.specs.List.{AllByRecursion, find}
-use Rattle.std.specs.Option.{option_map, option_and_then}
+use Rattle.std.specs.List.{find}
+use Rattle.std.specs.Option.{option_map}
 use Rattle.mm_model.specs.declared.command.Command.{Command}
 use Rattle.mm_model.specs.declared.command.Command.TheVariants as commands
 use Rattle.mm_model.specs.declared.object.Shape.{Shape}
@@ -14,28 +14,25 @@ use Rattle.mm_model.specs.declared.reply.Reply.TheVariants as replies
 use Rattle.mm_model.specs.declared.line.Line.{Line}
 use Rattle.mm_model.specs.declared.line.Line.TheVariants as lines
 use Rattle.mm_model.specs.declared.settings.Settings.{Settings}
-use Rattle.mm_model.specs.Place.{Family, live_pieces}
-use Rattle.mm_model.specs.Value.{Value, reference}
+use Rattle.mm_model.specs.Place.{live_pieces}
+use Rattle.mm_model.specs.Value.{reference}
 use Rattle.mm_model.specs.Object.{Object}
-use Rattle.mm_model.specs.State.{State, Area, Lives, one_more_command}
-use Rattle.mm_model.specs.Words.{SlotKind}
-use Rattle.mm_model.specs.Meaning.{meant_at, object_meant}
-use Rattle.mm_model.specs.Areas.{area_at, free_number, new_area, area_inserted}
-use Rattle.mm_model.specs.Store.{is_loose, store_reply}
+use Rattle.mm_model.specs.State.{State, Area}
+use Rattle.mm_model.specs.Meaning.{meant_at}
+use Rattle.mm_model.specs.Areas.{free_number, new_area, area_inserted}
 use Rattle.mm_model.specs.Phase.{IsAscending}
 use Rattle.mm_model.specs.Good.{IsGood, IsPlaced}
-use Rattle.mm_model.specs.Search.{Searches}
-use Rattle.mm_model.specs.Effect.{Effect, with_some, map_reply, new_effect, weak_effect, area_effect, look_effect, pushes_object, plain_effect, weak_made, weak_shape}
+use Rattle.mm_model.specs.Effect.{Effect, with_some, new_effect, weak_effect, area_effect, plain_effect, weak_made, weak_shape}
 use Rattle.mm_model.specs.Refusing.{refusal}
-use Rattle.mm_model.specs.Step.{Makes, MakesWeak, Carries, Ends, Refused_as_full, Below_threshold, At_threshold, IsCarriedOut, IsStepUnless, IsStep}
+use Rattle.mm_model.specs.Step.{MakesWeak, Ends, Refused_as_full, Below_threshold, At_threshold, IsCarriedOut, IsStepUnless, IsStep}
 use Rattle.mm_model.specs.Turns.{Turn, Born, births_if, births_of, reply_in}
-use Rattle.mm_model.specs.Faithful.{HasObject, HasArea, IsThere, KeepsApart}
+use Rattle.mm_model.specs.Faithful.{HasArea, IsThere, KeepsApart}
 use Rattle.mm_model.proofs.Good.Living.{each_get}
 use Rattle.mm_model.proofs.Good.Steps.{step_is_good}
 use Rattle.mm_model.proofs.Lists.Growing.{get-last}
 use Rattle.mm_laws.proofs.Keeping.FollowingSteps.{length-searched}
 use Rattle.mm_laws.proofs.Meaning.Referring.{lives-reference}
-use Rattle.mm_laws.proofs.Targets.WeakReferences.{stack-ended, made_at-step, IsMadeAt}
+use Rattle.mm_laws.proofs.Targets.WeakReferences.{stack-ended, made_at-step}
 use Rattle.mm_laws.proofs.Turning.Cycles.{follows-step}
 use Rattle.mm_laws.proofs.Turning.Knowing.{turn_of, Outline, outline, outline_of, outlines-step}
 use Rattle.mm_laws.proofs.Turning.Remembering.{Knows}
