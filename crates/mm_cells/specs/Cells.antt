@@ -1,7 +1,7 @@
 -- What callers see of the cells of a region: which are taken, and what is told of each.
 use Rattle.std.specs.Prelude.{◌≡◌, ◌+◌, ◌-◌, ◌*◌, ◌/◌, ◌<◌, ◌≤◌, ℕ, false, List, length, replicate, Option, Some, None, slice_get, slice_set}
 use Rattle.mm_model.specs.declared.object.Colour.{Colour}
-use Rattle.mm_words.specs.Place.{Place}
+use Rattle.mm_words.specs.Location.{Location}
 use Rattle.mm_cells.specs.declared.marks.CellBits.{CellBits}
 
 -- a taken cell: its bytes, the colour of the object in it, and what else is told of the object
@@ -12,12 +12,12 @@ pub record Taken : Type 0 where
 
 -- where the table lies, how many pages it is for, and for each multiple of 16 bytes the taken cell that begins there
 pub record Cells : Type 0 where
-  pub table : Place
+  pub table : Location
   pub pages : ℕ
   pub taken : List (Option Taken)
 
 -- no cell is taken
-abbrev pub fresh : Place → ℕ → Cells
+abbrev pub fresh : Location → ℕ → Cells
 fresh table pages = record { table = table; pages = pages; taken = replicate (256 * pages) None }
 
 -- the same, but that this cell begins at a base, or none does
@@ -46,7 +46,7 @@ pub record Covers (v : Cells) (word base : ℕ) (cell : Taken) : Type 0 where
   pub to : word < base + cell.extent
 
 -- cells are apart, leave out page 0, and end with the region
-pub record IsSound (v : Cells) : Type 0 where
+pub record IsSoundCells (v : Cells) : Type 0 where
   pub two : 2 ≤ v.pages
   pub most : v.pages ≤ 4096
   pub size : length v.taken ≡ 256 * v.pages

@@ -14,14 +14,14 @@ pub record IsFreeCell (v : Cells) (extent page number : ℕ) : Type 0 where
   pub free : (cell : Taken) → Begins v (4096 * page + number * extent) cell → ⊥
 
 -- a page of cells of this size that has a free one
-pub record HasRoom (v : Cells) (extent page : ℕ) : Type 0 where
+pub record HasFreeCell (v : Cells) (extent page : ℕ) : Type 0 where
   pub is_page : IsPageOf v extent page
   pub number : ℕ
   pub free : IsFreeCell v extent page number
 
 -- no page has room for a cell that is so large
 abbrev pub NoRoom : Cells → ℕ → Type 0
-NoRoom v extent = (page : ℕ) → HasRoom v extent page → ⊥
+NoRoom v extent = (page : ℕ) → HasFreeCell v extent page → ⊥
 
 -- the lowest free cell of the lowest page that has room
 pub record IsLowestCell (v : Cells) (extent base : ℕ) : Type 0 where
@@ -31,7 +31,7 @@ pub record IsLowestCell (v : Cells) (extent base : ℕ) : Type 0 where
   pub is_page : IsPageOf v extent page
   pub free : IsFreeCell v extent page number
   pub lowest_cell : (other : ℕ) → IsFreeCell v extent page other → number ≤ other
-  pub lowest_page : (other : ℕ) → HasRoom v extent other → page ≤ other
+  pub lowest_page : (other : ℕ) → HasFreeCell v extent other → page ≤ other
 
 -- A cell of this size is taken at the base, and the page heap is left so. It is the lowest free cell of the lowest page
 -- that has room, or else the first one of the lowest free page. Whole pages are the lowest free run.

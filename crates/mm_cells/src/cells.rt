@@ -1,12 +1,12 @@
 // The cells of a region: which are taken, and what is told of the objects in them.
 ghost use Rattle.std.specs.Prelude.{◌≡◌, ◌≢◌, ◌+◌, ◌*◌, ◌/◌, ◌<◌, ◌≤◌, ℕ, length, MatchOption, Some};
-ghost use Rattle.mm_words.specs.Place.{place_of};
+ghost use Rattle.mm_words.specs.Location.{location_of};
 ghost use Rattle.mm_pages.specs.Pages.{Pages};
 ghost use Rattle.mm_cells.specs.Parking.{Fits};
 ghost use Rattle.mm_cells.specs.Map.{table_size, use_at, mark_at};
-ghost use Rattle.mm_cells.specs.Cells.{Taken, fresh, with_cell, Begins, IsTaken, Covers, HasNoCell, IsSound};
+ghost use Rattle.mm_cells.specs.Cells.{Taken, fresh, with_cell, Begins, IsTaken, Covers, HasNoCell, IsSoundCells};
 ghost use Rattle.mm_cells.specs.Cells.{IsNextTaken, NoneTakenFrom, IsWalk};
-ghost use Rattle.mm_cells.specs.Kept.{class_size, cells_in, cells_of, IsKept};
+ghost use Rattle.mm_cells.specs.Kept.{class_size, cells_in, cells_of, KeepsCells};
 ghost use Rattle.mm_cells.specs.Seats.{IsSeatOf, NoneInPage, IsLowestInPage, IsTakenIn, NoneIn, IsLowestIn};
 
 use crate::class::{PAGE_BYTES, cells_per_page, extent_of};
@@ -30,13 +30,13 @@ pub struct Cells {
 
 impl Model for Cells {
     ghost use Rattle.mm_cells.specs.Cells;
-    ghost use Rattle.mm_cells.specs.Kept.{cells_of, IsKept};
+    ghost use Rattle.mm_cells.specs.Kept.{cells_of, KeepsCells};
 
     ghost Value = { Cells.Cells };
 
     ghost view = { λ c. cells_of c.table };
 
-    ghost invariant = { λ c. IsKept c.table };
+    ghost invariant = { λ c. KeepsCells c.table };
 }
 
 /// The room of a taken cell, in bytes.
@@ -61,7 +61,7 @@ impl Cells {
         requires two { 2 ≤ pages }
         requires most { pages ≤ 4096 }
         requires room { table_size pages ≤ length table.words }
-        ensures value { result ≡ fresh (place_of table) pages }
+        ensures value { result ≡ fresh (location_of table) pages }
         ensures fits { (heap : Pages) → heap.pages ≤ pages → Fits result heap }
     {
         Cells {
@@ -72,7 +72,7 @@ impl Cells {
     /// Gives the table's words back, which may hold anything.
     pub fn close(self) -> Words
         requires { HasNoCell self }
-        ensures { place_of result ≡ self.table }
+        ensures { location_of result ≡ self.table }
     {
         let Cells { table } = self;
         table.into_words()
@@ -83,7 +83,7 @@ impl Cells {
         ensures cell { MatchOption result
             ((base : ℕ) (cell : Taken) → Covers self.now word base cell → ⊥)
             (λ found. (cell : Taken) × Covers self.now word found.base cell × (cell.extent ≡ found.extent)) }
-        ensures sound { IsSound self.now }
+        ensures sound { IsSoundCells self.now }
         ensures cost { steps.new ≡ steps.old + 1 }
     {
         steps.tick();
@@ -226,7 +226,7 @@ fn cell_from(table: &Table, page: u32) -> Cell
 
 /// Where the mark of the taken cell stands that begins at a base.
 fn seat_of(table: &Table, base: u32) -> Seat
-    requires kept { IsKept table.now }
+    requires kept { KeepsCells table.now }
     requires taken { IsTaken (cells_of table.now) base }
     ensures { IsSeatOf table.now result.page result.number base }
 {
@@ -253,7 +253,7 @@ fn told_at(table: &Table, seat: Seat) -> Told
 
 /// The least base at `from` or above of the taken cells that begin in a page.
 fn lowest_in_page(table: &Table, page: u32, from: u32) -> Option<u32>
-    requires kept { IsKept table.now }
+    requires kept { KeepsCells table.now }
     requires page { page < table.now.pages }
     ensures { let v = cells_of table.now in
         MatchOption result (NoneInPage v page from) (λ base. IsLowestInPage v page from base) }

@@ -37,17 +37,17 @@ pub(crate) struct Table {
 }
 
 impl Model for Table {
-    ghost use Rattle.mm_cells.specs.Map.{Map, map_of, HasRoom};
+    ghost use Rattle.mm_cells.specs.Map.{Map, map_of, FitsTable};
 
     ghost Value = { Map };
 
     ghost view = { λ t. map_of t.words t.pages };
 
-    ghost invariant = { λ t. HasRoom t.words t.pages };
+    ghost invariant = { λ t. FitsTable t.words t.pages };
 }
 
 impl Table {
-    ghost use Rattle.mm_words.specs.Place.{place_of};
+    ghost use Rattle.mm_words.specs.Location.{location_of};
     ghost use Rattle.mm_cells.specs.Map.{table_size, IsUntouched};
 
     /// A table of unused pages. The words may hold anything.
@@ -55,7 +55,7 @@ impl Table {
         requires two { 2 ≤ pages }
         requires most { pages ≤ 4096 }
         requires room { table_size pages ≤ length words.words }
-        ensures { IsUntouched (place_of words) pages result }
+        ensures { IsUntouched (location_of words) pages result }
     {
         let mut words = words;
         words.fill(0, pages, 0);
@@ -65,7 +65,7 @@ impl Table {
 
     /// The words, which may hold anything.
     pub fn into_words(self) -> Words
-        ensures { place_of result ≡ self.place }
+        ensures { location_of result ≡ self.location }
     {
         let Table { words, pages: _ } = self;
         words

@@ -1,10 +1,10 @@
 // The pages of a region: which are free, and the runs that are out or parked.
 ghost use Rattle.std.specs.Prelude.{◌≡◌, ◌↔◌, ℕ, ◌-◌, ◌*◌, ◌^◌, ◌<◌, ◌≤◌};
 ghost use Rattle.std.specs.Prelude.{length, slice_index, IfOk, OnErr, IsTrue};
-ghost use Rattle.mm_words.specs.Place.{place_of};
+ghost use Rattle.mm_words.specs.Location.{location_of};
 ghost use Rattle.mm_pages.specs.Pages.{fresh, with_out, with_parked, run_of, is_free_page, count_below, table_size};
 ghost use Rattle.mm_pages.specs.Pages.{IsFreePage, IsFreeRun, IsLowestRun, IsOut, HasNoRun, IsHighestUsed};
-ghost use Rattle.mm_pages.specs.Pages.{EndsBy, IsSound, IsQuick};
+ghost use Rattle.mm_pages.specs.Pages.{EndsBy, IsSoundHeap, IsQuick};
 
 use crate::node::span_of;
 use crate::page_run::PageRun;
@@ -30,13 +30,13 @@ pub struct PageHeap {
 
 impl Model for PageHeap {
     ghost use Rattle.mm_pages.specs.Pages.{Pages};
-    ghost use Rattle.mm_pages.specs.Kept.{pages_of, IsKept};
+    ghost use Rattle.mm_pages.specs.Kept.{pages_of, KeepsTree};
 
     ghost Value = { Pages };
 
     ghost view = { λ h. pages_of h.table h.limit };
 
-    ghost invariant = { λ h. IsKept h.table h.limit h.free };
+    ghost invariant = { λ h. KeepsTree h.table h.limit h.free };
 }
 
 /// How many words the table of a page heap must have: for each page two that tell the runs which begin there, and at
@@ -66,7 +66,7 @@ impl PageHeap {
         requires two { 2 ≤ pages }
         requires most { pages ≤ 4096 }
         requires room { table_size pages ≤ length table.words }
-        ensures { result ≡ fresh (place_of table) pages }
+        ensures { result ≡ fresh (location_of table) pages }
     {
         let height = height_over(pages);
         PageHeap {
@@ -79,7 +79,7 @@ impl PageHeap {
     /// Gives the table's words back, which may hold anything.
     pub fn close(self) -> Words
         requires { HasNoRun self }
-        ensures { place_of result ≡ self.table }
+        ensures { location_of result ≡ self.table }
     {
         let PageHeap {
             table,
@@ -98,7 +98,7 @@ impl PageHeap {
         ensures taken { IfOk result (λ run. self.new ≡ with_out self.old run.first k) }
         ensures none { OnErr result ((p : ℕ) → ¬ IsFreeRun self.old p k) }
         ensures unchanged { OnErr result (self.new ≡ self.old) }
-        ensures sound { IsSound self.new }
+        ensures sound { IsSoundHeap self.new }
         ensures cost { IsQuick self.old.pages steps.old steps.new }
     {
         steps.tick();
@@ -195,7 +195,7 @@ impl PageHeap {
     /// The page below which pages may be free.
     pub fn limit(&self) -> u32
         ensures value { result ≡ self.now.limit }
-        ensures sound { IsSound self.now }
+        ensures sound { IsSoundHeap self.now }
     {
         self.limit
     }

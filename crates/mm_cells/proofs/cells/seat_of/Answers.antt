@@ -1,6 +1,6 @@
 use Rattle.std.proofs.Common.{ℕ, ◌/◌, ◌%◌, sym, ◌∙◌, subst}
 use Rattle.mm_cells.specs.Seats.{IsSeatOf}
-use Rattle.mm_cells.proofs.Seats.{taken-page, seat-class, seat-whole}
+use Rattle.mm_cells.proofs.Region.Seats.{taken-page, seat-class, seat-whole}
 use Rattle.mm_cells.proofs.cells.seat_of.Goals as goal
 
 pub use_at-requires : goal.use_at-requires

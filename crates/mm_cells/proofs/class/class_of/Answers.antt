@@ -3,7 +3,7 @@ use Rattle.std.proofs.Common.{◌≡◌, true, ap, arith}
 use Rattle.std.proofs.lemmas.Bool.Decides.{nat_tests}
 use Rattle.std.specs.Prelude.{nat_le}
 use Rattle.mm_model.specs.declared.object.Size.TheVariants.{Small}
-use Rattle.mm_cells.proofs.Classes.{class_by_units, class_by_units-lt}
+use Rattle.mm_cells.proofs.Sizes.Classes.{class_by_units, class_by_units-lt}
 use Rattle.mm_cells.proofs.class.class_of.Goals as goal
 
 pub returns-then-bytes-le-LARGEST_CELL-clause-value :

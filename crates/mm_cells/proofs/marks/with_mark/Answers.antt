@@ -2,7 +2,7 @@
 use Rattle.std.proofs.Common.{◌≡◌, ◌+◌, ◌-◌, ◌*◌, ◌/◌, ◌%◌, ◌^◌, ◌<◌, ℕ, ap, arith}
 use Rattle.std.proofs.lemmas.Nat.{mod_below}
 use Rattle.mm_cells.specs.Marks.{mark_of, code_in}
-use Rattle.mm_cells.proofs.Codes.{Replaces, replaces, code-le, code-shifted}
+use Rattle.mm_cells.proofs.Bits.Codes.{Replaces, replaces, code-le, code-shifted}
 use Rattle.mm_cells.proofs.marks.with_mark.Goals as goal
 
 replaced : (word place old code : ℕ) → old ≡ code_in word place → code < 16 → place < 8 →

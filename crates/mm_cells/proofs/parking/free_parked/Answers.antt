@@ -1,7 +1,7 @@
 -- What was noted as parked is noted as out in between.
 use Rattle.std.proofs.Common.{◌≡◌, ℕ, ◌∙◌, ap, slice_index}
 use Rattle.mm_pages.specs.Pages.{Pages, Run, with_out}
-use Rattle.mm_cells.proofs.Heaps.{given-unparked}
+use Rattle.mm_cells.proofs.Region.Heaps.{given-unparked}
 use Rattle.mm_cells.proofs.parking.free_parked.Goals as goal
 
 pub returns-clause-freed : goal.returns-clause-freed

@@ -1,7 +1,7 @@
 -- What was noted as out is noted as parked at once.
 use Rattle.std.proofs.Common.{◌≡◌, ℕ, ◌∙◌, ap, sym, arith}
 use Rattle.mm_pages.specs.Pages.{Pages, Run, with_parked, with_out}
-use Rattle.mm_cells.proofs.Heaps.{parked-taken}
+use Rattle.mm_cells.proofs.Region.Heaps.{parked-taken}
 use Rattle.mm_cells.proofs.parking.park_lowest.Goals as goal
 
 pub returns-clause-parked : goal.returns-clause-parked

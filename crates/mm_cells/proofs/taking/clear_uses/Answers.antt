@@ -1,6 +1,6 @@
 use Rattle.std.proofs.Common.{◌+◌, refl, arith}
 use Rattle.mm_cells.specs.declared.page_use.PageUse.TheVariants.{Unused}
-use Rattle.mm_cells.proofs.Spans.{SetsUses-none, SetsUses-more}
+use Rattle.mm_cells.proofs.Tables.Spans.{SetsUses-none, SetsUses-more}
 use Rattle.mm_cells.proofs.taking.clear_uses.Goals as goal
 
 pub loop-distance-init : goal.loop-distance-init

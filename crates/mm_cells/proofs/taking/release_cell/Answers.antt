@@ -3,11 +3,11 @@ use Rattle.mm_cells.specs.declared.marks.Mark.TheVariants as marks
 use Rattle.mm_cells.specs.Marks.{AllFreeFrom, IsLowestTaken}
 use Rattle.mm_cells.specs.Map.{Map, mark_at, SetsMark}
 use Rattle.mm_cells.specs.Kept.{class_size, cells_in}
-use Rattle.mm_cells.proofs.ClassSizes.{cells_in-most}
-use Rattle.mm_cells.proofs.Blocks.{use_at-same}
-use Rattle.mm_cells.proofs.Placed.{cells_of-cell}
-use Rattle.mm_cells.proofs.Released.{IsNumberOf, IsTaken-number, class-within, IsKept-stays, IsKept-goes, cells_of-goes, use_at-goes}
-use Rattle.mm_cells.proofs.PageCells.{class-IsPageOf, unused-none_begins}
+use Rattle.mm_cells.proofs.Sizes.ClassSizes.{cells_in-most}
+use Rattle.mm_cells.proofs.Tables.Blocks.{use_at-same}
+use Rattle.mm_cells.proofs.Tables.Placed.{cells_of-cell}
+use Rattle.mm_cells.proofs.Region.Released.{IsNumberOf, IsTaken-number, class-within, KeepsCells-stays, KeepsCells-goes, cells_of-goes, use_at-goes}
+use Rattle.mm_cells.proofs.Region.PageCells.{class-IsPageOf, unused-none_begins}
 use Rattle.mm_cells.proofs.taking.release_cell.Goals as goal
 
 pub extent_of-requires : goal.extent_of-requires
@@ -66,7 +66,7 @@ returns-in-Some-clause-kept c =
     let taken : IsLowestTaken (mark_at b c.args.page) 0 (cells_in c.args.class) c.in-Some.field-0 =
     subst (λ (n : ℕ). IsLowestTaken (mark_at b c.args.page) 0 n c.in-Some.field-0) c.cells_per_page.ensures
     c.in-Some.ensures in
-    IsKept-stays a b c.set_room.new.self c.args.page c.args.class (c.args.offset / class_size c.args.class)
+    KeepsCells-stays a b c.set_room.new.self c.args.page c.args.class (c.args.offset / class_size c.args.class)
     c.in-Some.field-0 c.requires.kept c.requires.used number.within marked taken c.set_room.ensures
 
 pub returns-in-Some-clause-stays : goal.returns-in-Some-clause-stays
@@ -93,7 +93,7 @@ returns-in-None-clause-gone c =
 
 pub returns-in-None-clause-kept : goal.returns-in-None-clause-kept
 returns-in-None-clause-kept c =
-    IsKept-goes c.args.table.now c.set_mark.new.self c.set_use.new.self c.set_room-in-None.new.self c.args.page
+    KeepsCells-goes c.args.table.now c.set_mark.new.self c.set_use.new.self c.set_room-in-None.new.self c.args.page
     c.args.class (c.args.offset / c.extent_of.result) c.requires.kept c.requires.used c.set_mark.ensures
     c.set_use.ensures c.set_room-in-None.ensures
 

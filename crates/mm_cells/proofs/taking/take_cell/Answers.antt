@@ -4,10 +4,10 @@ use Rattle.mm_cells.specs.Marks.{IsLowestFree, NoneFree}
 use Rattle.mm_cells.specs.Map.{Map, mark_at}
 use Rattle.mm_cells.specs.Cells.{with_cell}
 use Rattle.mm_cells.specs.Kept.{class_size, cells_in, taken_as, cells_of}
-use Rattle.mm_cells.proofs.ClassSizes.{cells_in-most}
-use Rattle.mm_cells.proofs.Placed.{IsKept-cell, cells_of-cell}
-use Rattle.mm_cells.proofs.Released.{class-within}
-use Rattle.mm_cells.proofs.PageCells.{IsLowestRoom-class, IsLowestCell-lowest}
+use Rattle.mm_cells.proofs.Sizes.ClassSizes.{cells_in-most}
+use Rattle.mm_cells.proofs.Tables.Placed.{KeepsCells-cell, cells_of-cell}
+use Rattle.mm_cells.proofs.Region.Released.{class-within}
+use Rattle.mm_cells.proofs.Region.PageCells.{IsLowestRoom-class, IsLowestCell-lowest}
 use Rattle.mm_cells.proofs.taking.take_cell.Goals as goal
 
 pub lowest_free-requires-clause-cells : goal.lowest_free-requires-clause-cells
@@ -52,7 +52,7 @@ returns-in-Some-clause-kept c =
     c.in-Some.ensures in
     let used = IsLowestRoom-class a c.args.class c.args.page c.requires.kept c.requires.class c.requires.lowest in
     let place = class-within a c.args.page c.args.class c.requires.kept used.0 in
-    IsKept-cell a c.set_mark.new.self c.set_room.new.self c.args.page c.args.class c.in-Some.cell c.new_mark.result
+    KeepsCells-cell a c.set_mark.new.self c.set_room.new.self c.args.page c.args.class c.in-Some.cell c.new_mark.result
     c.has_room-has_room.result c.requires.kept c.requires.class used.0 place.1 place.0 c.set_mark.ensures
     (record {
       cell = c.in-Some.cell;

@@ -3,7 +3,7 @@ use Rattle.mm_cells.specs.declared.marks.Mark.{Mark}
 use Rattle.mm_cells.specs.Map.{Map}
 use Rattle.mm_cells.specs.Cells.{with_cell}
 use Rattle.mm_cells.specs.Kept.{class_size, taken_as, cells_of}
-use Rattle.mm_cells.proofs.Placed.{FillsPage, FillsPage-steps, IsKept-fresh, cells_of-fresh_page}
+use Rattle.mm_cells.proofs.Tables.Placed.{FillsPage, FillsPage-steps, KeepsCells-fresh, cells_of-fresh_page}
 use Rattle.mm_cells.proofs.taking.take_fresh_page.Goals as goal
 
 pub returns-clause-taken : goal.returns-clause-taken
@@ -21,7 +21,7 @@ returns-clause-taken c =
 pub returns-clause-kept : goal.returns-clause-kept
 returns-clause-kept c =
     let a : Map = c.args.table.now in
-    IsKept-fresh a c.set_room.new.self c.args.page c.args.class c.new_mark.result c.requires.kept c.requires.class
+    KeepsCells-fresh a c.set_room.new.self c.args.page c.args.class c.new_mark.result c.requires.kept c.requires.class
     c.requires.off_zero c.requires.within c.requires.unused
     (λ free. absurd (let e = sym c.new_mark.ensures ∙ free in cc))
     (FillsPage-steps a c.free_page.new.self c.set_use.new.self c.set_mark.new.self c.set_room.new.self c.args.page

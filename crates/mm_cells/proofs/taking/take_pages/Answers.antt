@@ -3,7 +3,7 @@ use Rattle.mm_cells.specs.declared.marks.Mark.{Mark}
 use Rattle.mm_cells.specs.Map.{Map}
 use Rattle.mm_cells.specs.Cells.{with_cell}
 use Rattle.mm_cells.specs.Kept.{taken_as, cells_of}
-use Rattle.mm_cells.proofs.Placed.{IsKept-pages, cells_of-pages}
+use Rattle.mm_cells.proofs.Tables.Placed.{KeepsCells-pages, cells_of-pages}
 use Rattle.mm_cells.proofs.taking.take_pages.Goals as goal
 
 pub returns-clause-taken : goal.returns-clause-taken
@@ -16,6 +16,6 @@ returns-clause-taken c =
 
 pub returns-clause-kept : goal.returns-clause-kept
 returns-clause-kept c =
-    IsKept-pages c.args.table.now c.fill_uses.new.table c.set_mark.new.self c.args.first c.args.count
+    KeepsCells-pages c.args.table.now c.fill_uses.new.table c.set_mark.new.self c.args.first c.args.count
     c.new_mark.result c.requires.kept c.requires.some c.requires.off_zero c.requires.within c.requires.unused
     (λ free. absurd (let e = sym c.new_mark.ensures ∙ free in cc)) c.fill_uses.ensures c.set_mark.ensures

@@ -1,8 +1,8 @@
 use Rattle.std.proofs.Common.{arith, sym, ap, subst}
 use Rattle.mm_cells.specs.Cells.{Cells}
 use Rattle.mm_cells.specs.Seats.{NoneInPage, IsLowestInPage}
-use Rattle.mm_cells.proofs.Lowest.{NoneBefore, NoneBefore-first, NoneBefore-more, IsNextTaken-lowest}
-use Rattle.mm_cells.proofs.Lowest.{NoneTakenFrom-before}
+use Rattle.mm_cells.proofs.Region.Lowest.{NoneBefore, NoneBefore-first, NoneBefore-more, IsNextTaken-lowest}
+use Rattle.mm_cells.proofs.Region.Lowest.{NoneTakenFrom-before}
 use Rattle.mm_cells.proofs.cells.Cells.next_taken.Goals as goal
 
 pub loop-page-init : goal.loop-page-init

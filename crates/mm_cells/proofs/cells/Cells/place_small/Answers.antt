@@ -6,9 +6,9 @@ use Rattle.mm_cells.specs.Cells.{Cells, newly_taken}
 use Rattle.mm_cells.specs.Kept.{class_size, cells_of}
 use Rattle.mm_cells.specs.Parking.{Fits}
 use Rattle.mm_cells.specs.Placing.{IsPlaced, NoRoom, Into_page, Into_fresh_page, No_cell}
-use Rattle.mm_cells.proofs.ClassSizes.{class_size-most}
-use Rattle.mm_cells.proofs.Fitting.{Fits-page, Fits-fresh, OnErr-any}
-use Rattle.mm_cells.proofs.PageCells.{NoRoom-none, IsLowestCell-page, run-within, free-unused}
+use Rattle.mm_cells.proofs.Sizes.ClassSizes.{class_size-most}
+use Rattle.mm_cells.proofs.Region.Fitting.{Fits-page, Fits-fresh, OnErr-any}
+use Rattle.mm_cells.proofs.Region.PageCells.{NoRoom-none, IsLowestCell-page, run-within, free-unused}
 use Rattle.mm_cells.proofs.cells.Cells.place_small.Goals as goal
 
 pub returns-in_err-page-in-None-clause-none : goal.returns-in_err-page-in-None-clause-none

@@ -6,8 +6,8 @@ use Rattle.mm_cells.specs.Cells.{Cells, newly_taken}
 use Rattle.mm_cells.specs.Kept.{cells_of}
 use Rattle.mm_cells.specs.Parking.{Fits}
 use Rattle.mm_cells.specs.Placing.{IsPlaced, Into_whole_pages, No_pages}
-use Rattle.mm_cells.proofs.Fitting.{Fits-fresh, OnErr-any}
-use Rattle.mm_cells.proofs.PageCells.{run-within, free-unused}
+use Rattle.mm_cells.proofs.Region.Fitting.{Fits-fresh, OnErr-any}
+use Rattle.mm_cells.proofs.Region.PageCells.{run-within, free-unused}
 use Rattle.mm_cells.proofs.cells.Cells.place_whole.Goals as goal
 
 pub returns-in_err-first-clause-none : goal.returns-in_err-first-clause-none

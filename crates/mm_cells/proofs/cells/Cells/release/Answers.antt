@@ -8,9 +8,9 @@ use Rattle.mm_cells.specs.Cells.{Taken, Cells, with_cell, Begins, IsTaken}
 use Rattle.mm_cells.specs.Kept.{class_size, cells_of}
 use Rattle.mm_cells.specs.Parking.{IsPageOf, Fits}
 use Rattle.mm_cells.specs.Placing.{IsReleased, Page_stays, Page_goes}
-use Rattle.mm_cells.proofs.Fitting.{Fits-stays, Fits-goes}
-use Rattle.mm_cells.proofs.PageCells.{class-parked, whole-parked, Begins-class_extent}
-use Rattle.mm_cells.proofs.Released.{IsTaken-within, IsTaken-used, IsTaken-first}
+use Rattle.mm_cells.proofs.Region.Fitting.{Fits-stays, Fits-goes}
+use Rattle.mm_cells.proofs.Region.PageCells.{class-parked, whole-parked, Begins-class_extent}
+use Rattle.mm_cells.proofs.Region.Released.{IsTaken-within, IsTaken-used, IsTaken-first}
 use Rattle.mm_cells.proofs.cells.Cells.release.Goals as goal
 
 -- a cell goes with its page, where no other cell begins in it

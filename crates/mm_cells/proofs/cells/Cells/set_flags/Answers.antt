@@ -1,11 +1,11 @@
 use Rattle.std.proofs.Common.{refl, sym, subst}
 use Rattle.mm_cells.specs.Parking.{Fits}
-use Rattle.mm_cells.proofs.Fitting.{Fits-told}
-use Rattle.mm_cells.proofs.Seats.{IsKept-told, cells_of-flagged}
+use Rattle.mm_cells.proofs.Region.Fitting.{Fits-told}
+use Rattle.mm_cells.proofs.Region.Seats.{KeepsCells-told, cells_of-flagged}
 use Rattle.mm_cells.proofs.cells.Cells.set_flags.Goals as goal
 
 pub invariant_of-self : goal.invariant_of-self
-invariant_of-self g c = IsKept-told c.self.inside.table c.set_mark.new.self c.seat_of-seat.result.page
+invariant_of-self g c = KeepsCells-told c.self.inside.table c.set_mark.new.self c.seat_of-seat.result.page
     c.seat_of-seat.result.number c.args.base c.told_at-told.result.colour c.args.flags c.self.invariant
     c.seat_of-seat.ensures c.set_mark.ensures
 

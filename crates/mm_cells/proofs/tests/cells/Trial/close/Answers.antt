@@ -1,6 +1,6 @@
 -- No cell is taken at 0 or above, and no page above page 0 is used.
 use Rattle.std.proofs.Common.{◌-◌, arith}
-use Rattle.mm_cells.proofs.Empty.{HasNoRun-unused}
+use Rattle.mm_cells.proofs.Region.Empty.{HasNoRun-unused}
 use Rattle.mm_cells.proofs.tests.cells.Trial.close.Goals as goal
 
 pub close-requires : goal.close-requires

@@ -1,6 +1,6 @@
 -- The table stays where it is.
 use Rattle.std.proofs.Common.{◌+◌, ap, arith, subst, ◌∙◌}
-use Rattle.mm_words.specs.Place.{Place}
+use Rattle.mm_words.specs.Location.{Location}
 use Rattle.mm_cells.specs.Cells.{Cells, Begins}
 use Rattle.mm_cells.proofs.tests.cells.Trial.paint.Goals as goal
 
@@ -12,6 +12,6 @@ invariant_of-self g c =
     record {
       fits = c.set_colour.ensures.fits c.args.self.now.heap c.args.self.now.fits;
       heap_own = c.args.self.now.heap_own;
-      cells_own = ap (λ (p : Place). p.arena) cells ∙ c.args.self.now.cells_own;
-      owed = let size = ap (λ (p : Place). p.size) cells in omega (arith, c.args.self.now.owed, size);
+      cells_own = ap (λ (p : Location). p.arena) cells ∙ c.args.self.now.cells_own;
+      owed = let size = ap (λ (p : Location). p.size) cells in omega (arith, c.args.self.now.owed, size);
     }

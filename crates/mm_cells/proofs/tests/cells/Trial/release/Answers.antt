@@ -1,8 +1,8 @@
 -- The tables stay where they are.
 use Rattle.std.proofs.Common.{◌≡◌, ◌+◌, ap, arith, subst, ◌∙◌}
-use Rattle.mm_words.specs.Place.{Place}
+use Rattle.mm_words.specs.Location.{Location}
 use Rattle.mm_cells.specs.Cells.{Cells, Begins}
-use Rattle.mm_cells.proofs.Empty.{table-released}
+use Rattle.mm_cells.proofs.Region.Empty.{table-released}
 use Rattle.mm_cells.proofs.tests.cells.Trial.release.Goals as goal
 
 pub invariant_of-self : goal.invariant_of-self
@@ -14,10 +14,10 @@ invariant_of-self g c =
     let cells = ap (λ (v : Cells). v.table) c.release.ensures.gone in
     record {
       fits = c.release.ensures.fits;
-      heap_own = ap (λ (p : Place). p.arena) heap ∙ c.args.self.now.heap_own;
-      cells_own = ap (λ (p : Place). p.arena) cells ∙ c.args.self.now.cells_own;
+      heap_own = ap (λ (p : Location). p.arena) heap ∙ c.args.self.now.heap_own;
+      cells_own = ap (λ (p : Location). p.arena) cells ∙ c.args.self.now.cells_own;
       owed =
-          let first = ap (λ (p : Place). p.size) heap in
-          let second = ap (λ (p : Place). p.size) cells in
+          let first = ap (λ (p : Location). p.size) heap in
+          let second = ap (λ (p : Location). p.size) cells in
           omega (arith, c.args.self.now.owed, first, second);
     }

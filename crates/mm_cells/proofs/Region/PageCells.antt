@@ -1,0 +1,349 @@
+-- The pages of a class as callers see them.
+use Rattle.std.proofs.Common.{◌≡◌, ◌≢◌, ℕ, ◌+◌, ◌-◌, ◌*◌, ◌/◌, ◌<◌, ◌≤◌, slice_index, inl, inr, Bool, true, false, refl, arith, sym, ◌∙◌, ap, subst}
+use Rattle.std.specs.Prelude.{Some, None, nat_eq}
+use Rattle.std.proofs.lemmas.Bool.{cases_lt, agree_below_at, eqb-true}
+use Rattle.mm_model.specs.SizeClass.{class_sizes, class_index}
+use Rattle.mm_pages.specs.Pages as heaps
+use Rattle.mm_pages.specs.Pages.{IsFreePage, IsFreeRun, IsSoundHeap}
+use Rattle.mm_cells.specs.declared.page_use.PageUse.{PageUse}
+use Rattle.mm_cells.specs.declared.page_use.PageUse.TheVariants.{Unused, Class, First, Later}
+use Rattle.mm_cells.specs.declared.marks.Mark.{Mark}
+use Rattle.mm_cells.specs.declared.marks.Mark.TheVariants as marks
+use Rattle.mm_cells.specs.Marks.{IsLowestFree}
+use Rattle.mm_cells.specs.Map.{Map, use_at, mark_at, room_at, NoPageWithRoom, IsLowestRoom}
+use Rattle.mm_cells.specs.Cells.{Taken, Begins, IsTaken}
+use Rattle.mm_cells.specs.Kept.{class_size, cells_in, taken_as, cells_of, KeepsCells, HasFree}
+use Rattle.mm_cells.specs.Parking.{IsPageOf, Page_of_cells, Whole_pages, Fits}
+use Rattle.mm_cells.specs.Placing.{IsFreeCell, HasFreeCell, NoRoom, IsLowestCell}
+use Rattle.mm_cells.proofs.Sizes.ClassSizes.{class_size-least, class_size-most, cells_in-fit}
+use Rattle.mm_cells.proofs.Sizes.Grains.{cell-fits, div-whole}
+use Rattle.mm_cells.proofs.Region.Begins.{IsCellOf, small, whole, Begins-cell, cell-Begins}
+use Rattle.mm_cells.proofs.Region.Sound.{taken_as-extent}
+
+-- a mark that isn't free is that of a taken cell
+pub taken-mark : (extent : ℕ) (mark : Mark) → mark ≢ marks.Free → (cell : Taken) × (taken_as extent mark ≡ Some cell)
+taken-mark extent marks.Free taken = absurd (taken refl)
+taken-mark extent (marks.Taken colour flags) taken =
+    (record { extent = extent; colour = colour; flags = flags }, refl)
+
+-- no two classes have cells of one size
+class_size-index : (class : ℕ) → class < 19 → class_index (class_size class) ≡ class
+unfolding class_sizes
+class_size-index class within =
+    eqb-true (class_index (class_size class)) class
+    (agree_below_at (λ n. nat_eq (class_index (class_size n)) n) (λ _. true) 19 class refl within)
+
+pub class_size-apart : (low high : ℕ) → low < 19 → high < 19 → class_size low ≡ class_size high → low ≡ high
+class_size-apart low high below above same =
+    sym (class_size-index low below) ∙ ap class_index same ∙ class_size-index high above
+
+-- where a cell of a page begins
+pub cell-page : (page number class : ℕ) → class < 19 → number < cells_in class →
+    (4096 * page + number * class_size class) / 4096 ≡ page
+cell-page page number class known within =
+    let fits : number * class_size class + class_size class ≤ 4096 =
+    cell-fits number (cells_in class) (class_size class) within (cells_in-fit class) in
+    let least : 16 ≤ class_size class = class_size-least class known in
+    omega arith
+
+-- cells of one page begin at one place only if they have one number
+number-same : (low high size : ℕ) → 0 < size → low * size ≡ high * size → low ≡ high
+number-same low high size some same =
+    sym (div-whole low size some) ∙ ap (λ (x : ℕ). x / size) same ∙ div-whole high size some
+
+-- a mark tells of a taken cell
+pub marked-Begins : (m : Map) (page class number : ℕ) → KeepsCells m → use_at m page ≡ Class class →
+    number < cells_in class → mark_at m page number ≢ marks.Free →
+    (cell : Taken) × (Begins (cells_of m) (4096 * page + number * class_size class) cell)
+    × (cell.extent ≡ class_size class)
+marked-Begins m page class number kept used within taken =
+    let size : ℕ = class_size class in
+    let found = taken-mark size (mark_at m page number) taken in
+    let base : ℕ = 4096 * page + number * size in
+    let page_within : page < m.pages = elim (cases_lt page m.pages) [
+      | inl h ↦ h
+      | inr h ↦ absurd (let none = kept.inside page h in cc)
+    ] in (
+      found.0,
+      cell-Begins m base found.0 kept (small page class number (record {
+        page_within = page_within;
+        used = used;
+        number_within = within;
+        begins = refl;
+        taken = found.1;
+      })),
+      taken_as-extent size (mark_at m page number) found.0 found.1,
+    )
+
+-- a page of a class is one of cells of its size
+pub class-IsPageOf : (m : Map) (page class : ℕ) → KeepsCells m → use_at m page ≡ Class class →
+    IsPageOf (cells_of m) (class_size class) page
+class-IsPageOf m page class kept used =
+    let known = kept.classes page class used in
+    let number : ℕ = known.1.cell in
+    let found = marked-Begins m page class number kept used known.1.within known.1.taken in
+    record {
+      base = 4096 * page + number * class_size class;
+      cell = found.0;
+      begins = found.1;
+      inside = cell-page page number class known.0 known.1.within;
+      same = found.2;
+      small = omega (arith, class_size-most class known.0);
+    }
+
+-- and the other way round
+page-class : (m : Map) (page class base : ℕ) (cell : Taken) → KeepsCells m → class < 19 → IsCellOf m base cell →
+    base / 4096 ≡ page → cell.extent ≡ class_size class → use_at m page ≡ Class class
+page-class m page class base cell kept known (small p c number s) inside same =
+    let low : c < 19 = (kept.classes p c s.used).0 in
+    let extent : cell.extent ≡ class_size c = taken_as-extent (class_size c) (mark_at m p number) cell s.taken in
+    let is : c ≡ class = class_size-apart c class low known (sym extent ∙ same) in
+    let at : p ≡ page = sym (cell-page p number c low s.number_within) ∙ ap (λ (b : ℕ). b / 4096) (sym s.begins) ∙ inside in
+    ap (use_at m) (sym at) ∙ s.used ∙ ap Class is
+page-class m page class base cell kept known (whole p count w) inside same =
+    let extent : cell.extent ≡ 4096 * count = taken_as-extent (4096 * count) (mark_at m p 0) cell w.taken in
+    absurd (omega (arith, class_size-most class known, (kept.wholes p count w.used).some))
+
+pub IsPageOf-class : (m : Map) (page class : ℕ) → KeepsCells m → class < 19 →
+    IsPageOf (cells_of m) (class_size class) page → use_at m page ≡ Class class
+IsPageOf-class m page class kept known p =
+    page-class m page class p.base p.cell kept known (Begins-cell m p.base p.cell p.begins) p.inside p.same
+
+-- the mark of the cell that begins there
+free-cell : (m : Map) (page class number base : ℕ) (cell : Taken) → KeepsCells m → use_at m page ≡ Class class →
+    number < cells_in class → mark_at m page number ≡ marks.Free → base ≡ 4096 * page + number * class_size class →
+    IsCellOf m base cell → ⊥
+free-cell m page class number base cell kept used within free at (small p c n s) =
+    let known : class < 19 = (kept.classes page class used).0 in
+    let low : c < 19 = (kept.classes p c s.used).0 in
+    let same_page : p ≡ page = sym (cell-page p n c low s.number_within) ∙ ap (λ (b : ℕ). b / 4096) (sym s.begins ∙ at)
+    ∙ cell-page page number class known within in
+    let used_there : use_at m p ≡ Class class = ap (use_at m) same_page ∙ used in
+    let used_so : use_at m p ≡ Class c = s.used in
+    let same_class : c ≡ class = cc in
+    let size : class_size c ≡ class_size class = ap class_size same_class in
+    let places : n * class_size class ≡ number * class_size class =
+    ap (λ (x : ℕ). n * x) (sym size) ∙ omega (arith, s.begins) in
+    let same_number : n ≡ number =
+    number-same n number (class_size class) (omega (arith, class_size-least class known)) places in
+    let mark : mark_at m p n ≡ marks.Free =
+    ap (λ (q : ℕ). mark_at m q n) same_page ∙ ap (λ (k : ℕ). mark_at m page k) same_number ∙ free in
+    let none : taken_as (class_size c) (mark_at m p n) ≡ None = ap (λ (k : Mark). taken_as (class_size c) k) mark in
+    let some : taken_as (class_size c) (mark_at m p n) ≡ Some cell = s.taken in
+    cc
+free-cell m page class number base cell kept used within free at (whole p count w) =
+    let known : class < 19 = (kept.classes page class used).0 in
+    let same_page : p ≡ page = omega (arith, w.begins, cell-page page number class known within) in
+    let used_there : use_at m p ≡ Class class = ap (use_at m) same_page ∙ used in
+    let used_so : use_at m p ≡ First count = w.used in
+    cc
+
+pub free-IsFreeCell : (m : Map) (page class number : ℕ) → KeepsCells m → use_at m page ≡ Class class →
+    number < cells_in class → mark_at m page number ≡ marks.Free →
+    IsFreeCell (cells_of m) (class_size class) page number
+free-IsFreeCell m page class number kept used within free = record {
+  within = within;
+  free = λ cell begins.
+      let base : ℕ = 4096 * page + number * class_size class in
+      free-cell m page class number base cell kept used within free refl (Begins-cell m base cell begins);
+}
+
+pub IsFreeCell-free : (m : Map) (page class number : ℕ) → KeepsCells m → use_at m page ≡ Class class →
+    IsFreeCell (cells_of m) (class_size class) page number → mark_at m page number ≡ marks.Free
+IsFreeCell-free m page class number kept used f =
+    let mark : Mark = mark_at m page number in
+    elim (mark_at m page number) as (λ (k : Mark). mark_at m page number ≡ k → k ≡ marks.Free) [
+      | marks.Free ↦ λ e. refl
+      | marks.Taken colour flags ↦ λ e.
+          let found = marked-Begins m page class number kept used f.within (λ free. absurd (cc)) in
+          absurd (f.free found.0 found.1)
+    ] refl
+
+-- a page of callers that has room is one that the set of its class has
+pub HasFreeCell-room : (m : Map) (page class : ℕ) → KeepsCells m → class < 19 → HasFreeCell (cells_of m) (class_size class) page →
+    (page < m.pages) × (room_at m class page ≡ true)
+HasFreeCell-room m page class kept known has =
+    let used : use_at m page ≡ Class class = IsPageOf-class m page class kept known has.is_page in
+    let within : page < m.pages = elim (cases_lt page m.pages) [
+      | inl h ↦ h
+      | inr h ↦ absurd (let none = kept.inside page h in cc)
+    ] in (
+      within,
+      (kept.rooms class page known within).1 (
+        used,
+        record {
+          cell = has.number;
+          within = has.free.within;
+          free = IsFreeCell-free m page class has.number kept used has.free;
+        },
+      ),
+    )
+
+pub NoRoom-none : (m : Map) (class : ℕ) → KeepsCells m → class < 19 → NoPageWithRoom m class →
+    NoRoom (cells_of m) (class_size class)
+NoRoom-none m class kept known none page has =
+    let found = HasFreeCell-room m page class kept known has in
+    let no : room_at m class page ≡ false = none page found.0 in
+    let yes : room_at m class page ≡ true = found.1 in
+    cc
+
+-- where a test is not false it is true
+not_false : (test : Bool) → (test ≡ false → ⊥) → test ≡ true
+not_false true f = refl
+not_false false f = absurd (f refl)
+
+-- the lowest page that has room
+pub IsLowestRoom-class : (m : Map) (class page : ℕ) → KeepsCells m → class < 19 → IsLowestRoom m class page →
+    (use_at m page ≡ Class class) × HasFree m page class
+IsLowestRoom-class m class page kept known lowest =
+    (kept.rooms class page known lowest.within).0 (not_false (room_at m class page) lowest.has_room)
+
+pub IsLowestCell-lowest : (m : Map) (class page number base : ℕ) → KeepsCells m → class < 19 → IsLowestRoom m class page →
+    IsLowestFree (mark_at m page) (cells_in class) number → base ≡ 4096 * page + number * class_size class →
+    IsLowestCell (cells_of m) (class_size class) base
+IsLowestCell-lowest m class page number base kept known lowest free at =
+    let used : use_at m page ≡ Class class = (IsLowestRoom-class m class page kept known lowest).0 in
+    record {
+      page = page;
+      number = number;
+      at = at;
+      is_page = class-IsPageOf m page class kept used;
+      free = free-IsFreeCell m page class number kept used free.within free.free;
+      lowest_cell = λ other f. elim (cases_lt other number) [
+        | inl below ↦ absurd (free.lowest other below (IsFreeCell-free m page class other kept used f))
+        | inr above ↦ above
+      ];
+      lowest_page = λ other has. elim (cases_lt other page) [
+        | inl below ↦
+            let no : room_at m class other ≡ false = lowest.lowest other below in
+            let yes : room_at m class other ≡ true = (HasFreeCell-room m other class kept known has).1 in
+            absurd (cc)
+        | inr above ↦ above
+      ];
+    }
+
+-- no cell begins in an unused page
+unused-cell : (m : Map) (page base : ℕ) (cell : Taken) → KeepsCells m → use_at m page ≡ Unused → base / 4096 ≡ page →
+    IsCellOf m base cell → ⊥
+unused-cell m page base cell kept unused inside (small p c n s) =
+    let low : c < 19 = (kept.classes p c s.used).0 in
+    let at : p ≡ page = sym (cell-page p n c low s.number_within) ∙ ap (λ (b : ℕ). b / 4096) (sym s.begins) ∙ inside in
+    let none : use_at m p ≡ Unused = ap (use_at m) at ∙ unused in
+    let some : use_at m p ≡ Class c = s.used in
+    cc
+unused-cell m page base cell kept unused inside (whole p count w) =
+    let at : p ≡ page = omega (arith, w.begins) in
+    let none : use_at m p ≡ Unused = ap (use_at m) at ∙ unused in
+    let some : use_at m p ≡ First count = w.used in
+    cc
+
+pub unused-none_begins : (m : Map) (page base : ℕ) (cell : Taken) → KeepsCells m → use_at m page ≡ Unused →
+    Begins (cells_of m) base cell → base / 4096 ≢ page
+unused-none_begins m page base cell kept unused begins inside =
+    unused-cell m page base cell kept unused inside (Begins-cell m base cell begins)
+
+-- the taken cell of whole pages
+pub whole-Begins : (m : Map) (page count : ℕ) → KeepsCells m → use_at m page ≡ First count →
+    (cell : Taken) × (Begins (cells_of m) (4096 * page) cell) × (cell.extent ≡ 4096 * count)
+whole-Begins m page count kept used =
+    let found = taken-mark (4096 * count) (mark_at m page 0) (kept.wholes page count used).taken in (
+      found.0,
+      cell-Begins m (4096 * page) found.0 kept
+          (whole page count (record { used = used; begins = refl; taken = found.1 })),
+      taken_as-extent (4096 * count) (mark_at m page 0) found.0 found.1,
+    )
+
+pub whole-parked : (m : Map) (heap : heaps.Pages) (page count : ℕ) → KeepsCells m → Fits (cells_of m) heap →
+    use_at m page ≡ First count → slice_index heap.parked page ≡ count
+whole-parked m heap page count kept fits used =
+    let found = whole-Begins m page count kept used in
+    fits.parked page count (Whole_pages count found.0 found.1 found.2 (omega (arith, (kept.wholes page count used).some)))
+
+pub class-parked : (m : Map) (heap : heaps.Pages) (page class : ℕ) → KeepsCells m → Fits (cells_of m) heap →
+    use_at m page ≡ Class class → slice_index heap.parked page ≡ 1
+class-parked m heap page class kept fits used =
+    fits.parked page 1 (Page_of_cells (class_size class) (class-IsPageOf m page class kept used))
+
+-- a page that is free in the page heap is unused in the table
+used-covered : (m : Map) (heap : heaps.Pages) (page : ℕ) (page_use : PageUse) → KeepsCells m → Fits (cells_of m) heap →
+    IsFreePage heap page → use_at m page ≡ page_use → page_use ≡ Unused
+used-covered m heap page Unused kept fits free used = refl
+used-covered m heap page (Class class) kept fits free used =
+    absurd (free.not_parked (record {
+      first = page;
+      begins = omega arith;
+      reaches = omega (arith, class-parked m heap page class kept fits used);
+    }))
+used-covered m heap page (First count) kept fits free used =
+    absurd (free.not_parked (record {
+      first = page;
+      begins = omega arith;
+      reaches = omega (arith, whole-parked m heap page count kept fits used, (kept.wholes page count used).some);
+    }))
+used-covered m heap page (Later distance) kept fits free used =
+    let later = kept.laters page distance used in
+    absurd (free.not_parked (record {
+      first = page - distance;
+      begins = omega arith;
+      reaches = omega (
+        arith,
+        whole-parked m heap (page - distance) later.count kept fits later.first,
+        later.behind,
+        later.within,
+      );
+    }))
+
+pub free-unused : (m : Map) (heap : heaps.Pages) (page : ℕ) → KeepsCells m → Fits (cells_of m) heap →
+    IsFreePage heap page → use_at m page ≡ Unused
+free-unused m heap page kept fits free = used-covered m heap page (use_at m page) kept fits free refl
+
+-- free pages are pages of the table
+pub run-within : (heap : heaps.Pages) (first count pages : ℕ) → 1 ≤ count → IsSoundHeap heap →
+    IsFreeRun heap first count → heap.pages ≤ pages → first + count ≤ pages
+run-within heap first count pages some sound free most =
+    let last = free (first + count - 1) (omega arith) (omega arith) in
+    omega (arith, last.below_limit, sound.limit)
+
+-- the page in which a taken cell begins
+pub data IsPageOfTaken (m : Map) (base : ℕ) : Type 0 where
+  of_class : (class : ℕ) → use_at m (base / 4096) ≡ Class class → IsPageOfTaken m base
+  of_whole : (count : ℕ) → use_at m (base / 4096) ≡ First count → base ≡ 4096 * (base / 4096) → IsPageOfTaken m base
+
+cell-page_of : (m : Map) (base : ℕ) (cell : Taken) → KeepsCells m → IsCellOf m base cell → IsPageOfTaken m base
+cell-page_of m base cell kept (small p c n s) =
+    let low : c < 19 = (kept.classes p c s.used).0 in
+    let at : base / 4096 ≡ p = ap (λ (b : ℕ). b / 4096) s.begins ∙ cell-page p n c low s.number_within in
+    of_class c (ap (use_at m) at ∙ s.used)
+cell-page_of m base cell kept (whole p count w) =
+    let at : base / 4096 ≡ p = omega (arith, w.begins) in
+    of_whole count (ap (use_at m) at ∙ w.used) (omega (arith, w.begins))
+
+pub IsTaken-page : (m : Map) (base : ℕ) → KeepsCells m → IsTaken (cells_of m) base → IsPageOfTaken m base
+IsTaken-page m base kept taken = cell-page_of m base taken.0 kept (Begins-cell m base taken.0 taken.1)
+
+-- a cell of a page of a class has the bytes of the class
+class-extent : (m : Map) (base class : ℕ) (cell : Taken) → KeepsCells m → use_at m (base / 4096) ≡ Class class →
+    IsCellOf m base cell → cell.extent ≡ class_size class
+class-extent m base class cell kept used (small p c n s) =
+    let low : c < 19 = (kept.classes p c s.used).0 in
+    let at : base / 4096 ≡ p = ap (λ (b : ℕ). b / 4096) s.begins ∙ cell-page p n c low s.number_within in
+    let used_so : use_at m (base / 4096) ≡ Class c = ap (use_at m) at ∙ s.used in
+    let same : c ≡ class = cc in
+    taken_as-extent (class_size c) (mark_at m p n) cell s.taken ∙ ap class_size same
+class-extent m base class cell kept used (whole p count w) =
+    let at : base / 4096 ≡ p = omega (arith, w.begins) in
+    let used_so : use_at m (base / 4096) ≡ First count = ap (use_at m) at ∙ w.used in
+    absurd (cc)
+
+pub Begins-class_extent : (m : Map) (base class : ℕ) (cell : Taken) → KeepsCells m →
+    use_at m (base / 4096) ≡ Class class → Begins (cells_of m) base cell → cell.extent ≡ class_size class
+Begins-class_extent m base class cell kept used begins =
+    class-extent m base class cell kept used (Begins-cell m base cell begins)
+
+-- the lowest cell with room lies in its page
+pub IsLowestCell-page : (m : Map) (class base : ℕ) → class < 19 → IsLowestCell (cells_of m) (class_size class) base →
+    IsPageOf (cells_of m) (class_size class) (base / 4096)
+IsLowestCell-page m class base known lowest =
+    subst (λ (page : ℕ). IsPageOf (cells_of m) (class_size class) page)
+    (sym (ap (λ (b : ℕ). b / 4096) lowest.at ∙ cell-page lowest.page lowest.number class known lowest.free.within))
+    lowest.is_page
