@@ -66,7 +66,8 @@ impl PageHeap {
         requires two { 2 ≤ pages }
         requires most { pages ≤ 4096 }
         requires room { table_size pages ≤ length table.words }
-        ensures { result ≡ fresh (location_of table) pages }
+        ensures value { result ≡ fresh (location_of table) pages }
+        ensures sound { IsSoundHeap result }
     {
         let height = height_over(pages);
         PageHeap {
@@ -123,6 +124,7 @@ impl PageHeap {
     pub fn give<L: Ledger>(&mut self, run: PageRun, steps: &mut Steps<L>)
         requires { IsOut self.old run }
         ensures given { self.new ≡ with_out self.old run.first 0 }
+        ensures sound { IsSoundHeap self.new }
         ensures cost { IsQuick self.old.pages steps.old steps.new }
     {
         let PageRun {
@@ -138,7 +140,8 @@ impl PageHeap {
     /// Keeps a run inside the page heap, which hands it out again by `unpark`.
     pub fn park(&mut self, run: PageRun)
         requires { IsOut self.old run }
-        ensures { self.new ≡ with_parked (with_out self.old run.first 0) run.first run.len }
+        ensures parked { self.new ≡ with_parked (with_out self.old run.first 0) run.first run.len }
+        ensures sound { IsSoundHeap self.new }
     {
         let PageRun {
             first,
@@ -152,9 +155,11 @@ impl PageHeap {
     /// Hands out the run that is parked at `first`.
     pub fn unpark(&mut self, first: u32) -> PageRun
         requires { 0 < slice_index self.old.parked first }
+        ensures not_out { slice_index self.old.out first ≡ 0 }
         ensures run { result ≡ run_of self.old first (slice_index self.old.parked first) }
         ensures out { IsOut self.new result }
         ensures moved { self.new ≡ with_out (with_parked self.old first 0) first (slice_index self.old.parked first) }
+        ensures sound { IsSoundHeap self.new }
     {
         let len = self.table.parked_at(first);
         self.table.set_parked(first, 0);
@@ -187,7 +192,8 @@ impl PageHeap {
         requires two { 2 ≤ limit }
         requires most { limit ≤ self.old.pages }
         requires clear { EndsBy self.old limit }
-        ensures { self.new ≡ record self.old { limit = limit } }
+        ensures limit { self.new ≡ record self.old { limit = limit } }
+        ensures sound { IsSoundHeap self.new }
     {
         self.limit = limit;
     }
@@ -204,6 +210,7 @@ impl PageHeap {
     pub fn top(&self) -> u32
         ensures some { 0 < result }
         ensures highest { IsHighestUsed self.now (result - 1) }
+        ensures sound { IsSoundHeap self.now }
     {
         self.table.span() - self.table.last_run()
     }

@@ -10,7 +10,7 @@ returns-clause-parked g c =
     let count : ℕ = c.args.count in
     let first : ℕ = c.in_ok-run.run'.first in
     let len : c.in_ok-run.run'.len ≡ count = ap (λ (r : Run). r.len) c.in_ok-run.ensures.run in
-    c.park.ensures
+    c.park.ensures.parked
     ∙ ap (λ (v : Pages). with_parked (with_out v first 0) first c.in_ok-run.run'.len) c.in_ok-run.ensures.taken
     ∙ ap (λ (n : ℕ). with_parked (with_out (with_out heap first count) first 0) first n) len
     ∙ parked-taken heap first count (omega (arith, c.requires)) c.in_ok-run.ensures.lowest.free

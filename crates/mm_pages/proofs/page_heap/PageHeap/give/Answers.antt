@@ -26,3 +26,6 @@ returns-clause-cost g c = subst (λ (v : Pages). IsQuick v.pages c.args.steps.no
     (IsQuick-height c.self.inside.table.pages c.self.inside.table.height c.args.steps.now c.mark.new.steps
     (omega (arith, c.self.invariant.sound.two, c.self.invariant.sound.limit)) c.self.invariant.tight
     (omega (arith, c.mark.ensures.visits.any)))
+
+pub returns-clause-sound : goal.returns-clause-sound
+returns-clause-sound g c = (invariant_of-self g c).sound

@@ -8,3 +8,6 @@ invariant_of-result c = KeepsTree-fresh c.make.result _ c.args.pages c.height_ov
     c.requires.two c.requires.most
     c.height_over-height.ensures.wide c.height_over-height.ensures.tight
     (omega (arith, c.span_of.ensures, pow_pos c.height_over-height.result)) c.make.ensures.shows
+
+pub returns-clause-sound : goal.returns-clause-sound
+returns-clause-sound c = (invariant_of-result c).sound

@@ -15,3 +15,6 @@ invariant_of-self c =
     rw now (KeepsTree-moved c.self.inside.table c.self.inside.limit c.self.inside.free c.run.inside.first 0
     c.run.inside.len c.self.invariant
     (omega (arith, whole, out.some)) (omega (arith, whole)) (inl refl))
+
+pub returns-clause-sound : goal.returns-clause-sound
+returns-clause-sound c = (invariant_of-self c).sound

@@ -8,3 +8,6 @@ invariant_of-self c = KeepsTree-limit c.self.inside.table c.self.inside.limit c.
     c.self.invariant c.requires.two
     (omega (arith, ap (λ (v : Pages). v.pages) c.self.view_is))
     (subst (λ (v : Pages). EndsBy v c.args.limit) (sym c.self.view_is) c.requires.clear)
+
+pub returns-clause-sound : goal.returns-clause-sound
+returns-clause-sound c = (invariant_of-self c).sound
