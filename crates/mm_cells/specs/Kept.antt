@@ -1,7 +1,8 @@
 -- Which cells a table says are taken, and what holds of it between calls.
-use Rattle.std.specs.Prelude.{◌≡◌, ◌≢◌, ◌+◌, ◌-◌, ◌*◌, ◌/◌, ◌%◌, ◌<◌, ◌≤◌, ◌↔◌, ◌==◌, ◌&&◌, ℕ, true, if◌then◌else◌, nat_lt, map, Option, Some, None, slice_index}
+use Rattle.std.specs.Prelude.{◌≡◌, ◌≢◌, ◌+◌, ◌-◌, ◌*◌, ◌/◌, ◌%◌, ◌<◌, ◌≤◌, ◌↔◌, ◌==◌, ◌&&◌, ℕ, true, if◌then◌else◌, nat_lt, map, List, Option, Some, None}
 use Rattle.std.specs.List.{range_with_len}
-use Rattle.mm_model.specs.SizeClass.{class_sizes}
+use Rattle.mm_model.specs.declared.object.Size.TheVariants.{Small}
+use Rattle.mm_model.specs.SizeClass.{extent_of_size}
 use Rattle.mm_cells.specs.declared.page_use.PageUse.{PageUse}
 use Rattle.mm_cells.specs.declared.page_use.PageUse.TheVariants.{Unused, Class, First, Later}
 use Rattle.mm_cells.specs.declared.marks.Mark.{Mark}
@@ -11,7 +12,7 @@ use Rattle.mm_cells.specs.Cells.{Taken, Cells}
 
 -- the bytes of a cell of a class, and how many of them a page has
 abbrev pub class_size : ℕ → ℕ
-class_size class = slice_index class_sizes class
+class_size class = extent_of_size (Small class)
 
 abbrev pub cells_in : ℕ → ℕ
 cells_in class = 4096 / class_size class
@@ -34,10 +35,25 @@ taken_in (Later distance) cell_marks offset = None
 abbrev pub taken_at : Map → ℕ → Option Taken
 taken_at m grain = taken_in (use_at m (grain / 256)) (mark_at m (grain / 256)) (16 * (grain % 256))
 
+-- the length of the run of pages that begins with a page of this use
+abbrev pub run_of : PageUse → ℕ
+run_of Unused = 0
+run_of (Class class) = 1
+run_of (First count) = count
+run_of (Later distance) = 0
+
+abbrev pub runs_of : Map → List ℕ
+runs_of m = map (λ page. run_of (use_at m page)) (range_with_len 0 m.pages)
+
 -- what callers see
 abbrev pub cells_of : Map → Cells
 cells_of m =
-    record { table = m.place; pages = m.pages; taken = map (taken_at m) (range_with_len 0 (256 * m.pages)) }
+    record {
+      table = m.location;
+      pages = m.pages;
+      taken = map (taken_at m) (range_with_len 0 (256 * m.pages));
+      runs = runs_of m;
+    }
 
 -- a page of a class has a taken cell
 pub record HasTaken (m : Map) (page class : ℕ) : Type 0 where
@@ -67,7 +83,7 @@ pub record IsLater (m : Map) (page distance : ℕ) : Type 0 where
   pub within : distance < count
 
 -- page 0 is never used, no page is used without a taken cell, and the sets have exactly the pages with a free cell
-pub record IsKept (m : Map) : Type 0 where
+pub record KeepsCells (m : Map) : Type 0 where
   pub two : 2 ≤ m.pages
   pub most : m.pages ≤ 4096
   pub off_zero : use_at m 0 ≡ Unused

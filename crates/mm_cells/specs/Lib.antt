@@ -1,10 +1,10 @@
 pub mod Cells
+pub mod Indexes
 pub mod Kept
+pub mod Looking
 pub mod Map
 pub mod Marks
-pub mod Parking
 pub mod Placing
-pub mod Seats
 pub mod Sizes
 pub mod Spans
 pub mod Uses

@@ -1,7 +1,7 @@
 -- The parts of a table of cells, and what the calls on them change.
 use Rattle.std.specs.Prelude.{◌≡◌, ◌≢◌, ◌+◌, ◌*◌, ◌<◌, ◌≤◌, ◌⊎◌, ℕ, Bool, false, List, length, slice_index, take, drop}
 use Rattle.mm_words.specs.Piece.{Piece}
-use Rattle.mm_words.specs.Place.{Place, place_of}
+use Rattle.mm_words.specs.Location.{Location, location_of}
 use Rattle.mm_sets.specs.Set.{set_size, members, IsSet}
 use Rattle.mm_cells.specs.declared.page_use.PageUse.{PageUse}
 use Rattle.mm_cells.specs.declared.page_use.PageUse.TheVariants.{Unused}
@@ -13,7 +13,7 @@ use Rattle.mm_cells.specs.Uses.{use_of}
 -- where the table lies, how many pages it is for, the words of the pages' uses, those of their cells' marks, and those of
 -- the sets of pages that have room, one for each class
 pub record Map : Type 0 where
-  pub place : Place
+  pub location : Location
   pub pages : ℕ
   pub uses : List ℕ
   pub marks : List ℕ
@@ -27,7 +27,7 @@ table_size pages = 33 * pages + 19 * set_size pages
 abbrev pub map_of : Piece → ℕ → Map
 map_of p pages =
     record {
-      place = place_of p;
+      location = location_of p;
       pages = pages;
       uses = take pages p.words;
       marks = take (32 * pages) (drop pages p.words);
@@ -51,7 +51,7 @@ abbrev pub room_at : Map → ℕ → ℕ → Bool
 room_at m class page = members (room_set m class) page
 
 -- there is room for all of it, and the sets are sets of pages
-pub record HasRoom (p : Piece) (pages : ℕ) : Type 0 where
+pub record FitsTable (p : Piece) (pages : ℕ) : Type 0 where
   pub two : 2 ≤ pages
   pub most : pages ≤ 4096
   pub room : table_size pages ≤ length p.words
@@ -59,12 +59,12 @@ pub record HasRoom (p : Piece) (pages : ℕ) : Type 0 where
 
 -- the same table, for the same pages
 pub record IsSame (a b : Map) : Type 0 where
-  pub place : b.place ≡ a.place
+  pub location : b.location ≡ a.location
   pub pages : b.pages ≡ a.pages
 
 -- no page is used, and none has room
-pub record IsUntouched (place : Place) (pages : ℕ) (m : Map) : Type 0 where
-  pub same_place : m.place ≡ place
+pub record IsUntouched (location : Location) (pages : ℕ) (m : Map) : Type 0 where
+  pub same_location : m.location ≡ location
   pub same_pages : m.pages ≡ pages
   pub unused : (page : ℕ) → use_at m page ≡ Unused
   pub no_room : (class page : ℕ) → class < 19 → page < pages → room_at m class page ≡ false

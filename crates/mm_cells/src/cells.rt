@@ -1,18 +1,19 @@
 // The cells of a region: which are taken, and what is told of the objects in them.
 ghost use Rattle.std.specs.Prelude.{◌≡◌, ◌≢◌, ◌+◌, ◌*◌, ◌/◌, ◌<◌, ◌≤◌, ℕ, length, MatchOption, Some};
-ghost use Rattle.mm_words.specs.Place.{place_of};
+ghost use Rattle.mm_words.specs.Location.{location_of};
 ghost use Rattle.mm_pages.specs.Pages.{Pages};
-ghost use Rattle.mm_cells.specs.Parking.{Fits};
+ghost use Rattle.mm_pages.specs.Parked.{AreParked};
 ghost use Rattle.mm_cells.specs.Map.{table_size, use_at, mark_at};
-ghost use Rattle.mm_cells.specs.Cells.{Taken, fresh, with_cell, Begins, IsTaken, Covers, HasNoCell, IsSound};
+ghost use Rattle.mm_cells.specs.Marks.{IsFlags};
+ghost use Rattle.mm_cells.specs.Cells.{Taken, fresh, with_cell, Begins, IsTaken, Covers, HasNoCell, IsSoundCells};
 ghost use Rattle.mm_cells.specs.Cells.{IsNextTaken, NoneTakenFrom, IsWalk};
-ghost use Rattle.mm_cells.specs.Kept.{class_size, cells_in, cells_of, IsKept};
-ghost use Rattle.mm_cells.specs.Seats.{IsSeatOf, NoneInPage, IsLowestInPage, IsTakenIn, NoneIn, IsLowestIn};
+ghost use Rattle.mm_cells.specs.Kept.{class_size, cells_in, cells_of, KeepsCells};
+ghost use Rattle.mm_cells.specs.Indexes.{IsMarkIndex, NoneInPage, IsLowestInPage, IsTakenIn, NoneIn, IsLowestIn};
 
 use crate::class::{PAGE_BYTES, cells_per_page, extent_of};
 use crate::marks::{CellBits, Mark};
 use crate::page_use::PageUse;
-use crate::table::Table;
+use crate::table::{CLASSES, PAGE_WORDS, Table};
 use mm_model::{Colour, Size};
 use mm_sets::set_words;
 use mm_steps::Steps;
@@ -30,13 +31,13 @@ pub struct Cells {
 
 impl Model for Cells {
     ghost use Rattle.mm_cells.specs.Cells;
-    ghost use Rattle.mm_cells.specs.Kept.{cells_of, IsKept};
+    ghost use Rattle.mm_cells.specs.Kept.{cells_of, KeepsCells};
 
     ghost Value = { Cells.Cells };
 
     ghost view = { λ c. cells_of c.table };
 
-    ghost invariant = { λ c. IsKept c.table };
+    ghost invariant = { λ c. KeepsCells c.table };
 }
 
 /// The room of a taken cell, in bytes.
@@ -52,7 +53,7 @@ pub fn cells_words(pages: u32) -> u32
     requires most { pages ≤ 4096 }
     ensures { result ≡ table_size pages }
 {
-    33 * pages + 19 * set_words(pages)
+    PAGE_WORDS * pages + CLASSES * set_words(pages)
 }
 
 impl Cells {
@@ -61,8 +62,9 @@ impl Cells {
         requires two { 2 ≤ pages }
         requires most { pages ≤ 4096 }
         requires room { table_size pages ≤ length table.words }
-        ensures value { result ≡ fresh (place_of table) pages }
-        ensures fits { (heap : Pages) → heap.pages ≤ pages → Fits result heap }
+        ensures value { result ≡ fresh (location_of table) pages }
+        ensures parked { (heap : Pages) → heap.pages ≤ pages → AreParked result.runs heap }
+        ensures sound { IsSoundCells result }
     {
         Cells {
             table: Table::make(table, pages),
@@ -72,7 +74,7 @@ impl Cells {
     /// Gives the table's words back, which may hold anything.
     pub fn close(self) -> Words
         requires { HasNoCell self }
-        ensures { place_of result ≡ self.table }
+        ensures { location_of result ≡ self.table }
     {
         let Cells { table } = self;
         table.into_words()
@@ -83,7 +85,7 @@ impl Cells {
         ensures cell { MatchOption result
             ((base : ℕ) (cell : Taken) → Covers self.now word base cell → ⊥)
             (λ found. (cell : Taken) × Covers self.now word found.base cell × (cell.extent ≡ found.extent)) }
-        ensures sound { IsSound self.now }
+        ensures sound { IsSoundCells self.now }
         ensures cost { steps.new ≡ steps.old + 1 }
     {
         steps.tick();
@@ -103,53 +105,57 @@ impl Cells {
     pub fn colour<L: Ledger>(&self, base: u32, steps: &mut Steps<L>) -> Colour
         requires { IsTaken self.now base }
         ensures colour { (cell : Taken) → Begins self.now base cell → result ≡ cell.colour }
+        ensures sound { IsSoundCells self.now }
         ensures cost { steps.new ≡ steps.old + 1 }
     {
         steps.tick();
-        told_at(&self.table, seat_of(&self.table, base)).colour
+        object_mark_at(&self.table, mark_index_of(&self.table, base)).colour
     }
 
     pub fn set_colour<L: Ledger>(&mut self, base: u32, colour: Colour, steps: &mut Steps<L>)
         requires { IsTaken self.old base }
         ensures colour { (cell : Taken) → Begins self.old base cell
             → self.new ≡ with_cell self.old base (Some (record cell { colour = colour })) }
-        ensures fits { (heap : Pages) → Fits self.old heap → Fits self.new heap }
+        ensures sound { IsSoundCells self.new }
         ensures cost { steps.new ≡ steps.old + 1 }
     {
         steps.tick();
-        let seat = seat_of(&self.table, base);
-        let told = told_at(&self.table, seat);
+        let index = mark_index_of(&self.table, base);
+        let told = object_mark_at(&self.table, index);
         self.table
-            .set_mark(seat.page, seat.number, Mark::Taken(colour, told.flags));
+            .set_mark(index.page, index.number, Mark::Taken(colour, told.flags));
     }
 
     /// What else is told of the object in a taken cell.
     pub fn flags<L: Ledger>(&self, base: u32, steps: &mut Steps<L>) -> CellBits
         requires { IsTaken self.now base }
         ensures flags { (cell : Taken) → Begins self.now base cell → result ≡ cell.flags }
+        ensures sound { IsSoundCells self.now }
         ensures cost { steps.new ≡ steps.old + 1 }
     {
         steps.tick();
-        told_at(&self.table, seat_of(&self.table, base)).flags
+        object_mark_at(&self.table, mark_index_of(&self.table, base)).flags
     }
 
     pub fn set_flags<L: Ledger>(&mut self, base: u32, flags: CellBits, steps: &mut Steps<L>)
-        requires { IsTaken self.old base }
+        requires taken { IsTaken self.old base }
+        requires known { IsFlags flags }
         ensures flags { (cell : Taken) → Begins self.old base cell
             → self.new ≡ with_cell self.old base (Some (record cell { flags = flags })) }
-        ensures fits { (heap : Pages) → Fits self.old heap → Fits self.new heap }
+        ensures sound { IsSoundCells self.new }
         ensures cost { steps.new ≡ steps.old + 1 }
     {
         steps.tick();
-        let seat = seat_of(&self.table, base);
-        let told = told_at(&self.table, seat);
+        let index = mark_index_of(&self.table, base);
+        let told = object_mark_at(&self.table, index);
         self.table
-            .set_mark(seat.page, seat.number, Mark::Taken(told.colour, flags));
+            .set_mark(index.page, index.number, Mark::Taken(told.colour, flags));
     }
 
     /// The least base of a taken cell that is at least `from`. A page without taken cells costs one step.
     pub fn next_taken<L: Ledger>(&self, from: u32, steps: &mut Steps<L>) -> Option<u32>
         ensures base { MatchOption result (NoneTakenFrom self.now from) (λ base. IsNextTaken self.now from base) }
+        ensures sound { IsSoundCells self.now }
         ensures cost { IsWalk self.now from result steps.old steps.new }
     {
         for page in from / PAGE_BYTES..self.table.pages() {
@@ -164,16 +170,16 @@ impl Cells {
 
 /// Where the mark of a cell stands.
 #[derive(Clone, Copy)]
-struct Seat {
-    page: u32,
-    number: u32,
+pub(crate) struct MarkIndex {
+    pub(crate) page: u32,
+    pub(crate) number: u32,
 }
 
 /// What is told of the object in a taken cell.
 #[derive(Clone, Copy)]
-struct Told {
-    colour: Colour,
-    flags: CellBits,
+pub(crate) struct ObjectMark {
+    pub(crate) colour: Colour,
+    pub(crate) flags: CellBits,
 }
 
 /// The cell of a page of a class that has the byte which is so many bytes into the page, if it is taken.
@@ -225,35 +231,36 @@ fn cell_from(table: &Table, page: u32) -> Cell
 }
 
 /// Where the mark of the taken cell stands that begins at a base.
-fn seat_of(table: &Table, base: u32) -> Seat
-    requires kept { IsKept table.now }
+pub(crate) fn mark_index_of(table: &Table, base: u32) -> MarkIndex
+    requires kept { KeepsCells table.now }
     requires taken { IsTaken (cells_of table.now) base }
-    ensures { IsSeatOf table.now result.page result.number base }
+    ensures { IsMarkIndex table.now result.page result.number base }
 {
     let page = base / PAGE_BYTES;
     let number = match table.use_at(page) {
         PageUse::Class(class) => base % PAGE_BYTES / extent_of(Size::Small(class)),
         _ => 0,
     };
-    Seat { page, number }
+    MarkIndex { page, number }
 }
 
 /// What the mark of a taken cell tells.
-fn told_at(table: &Table, seat: Seat) -> Told
-    requires page { seat.page < table.now.pages }
-    requires number { seat.number < 256 }
-    requires taken { mark_at table.now seat.page seat.number ≢ Mark.Free }
-    ensures { mark_at table.now seat.page seat.number ≡ Mark.Taken result.colour result.flags }
+pub(crate) fn object_mark_at(table: &Table, index: MarkIndex) -> ObjectMark
+    requires page { index.page < table.now.pages }
+    requires number { index.number < 256 }
+    requires taken { mark_at table.now index.page index.number ≢ Mark.Free }
+    ensures mark { mark_at table.now index.page index.number ≡ Mark.Taken result.colour result.flags }
+    ensures known { IsFlags result.flags }
 {
-    match table.mark_at(seat.page, seat.number) {
-        Mark::Taken(colour, flags) => Told { colour, flags },
+    match table.mark_at(index.page, index.number) {
+        Mark::Taken(colour, flags) => ObjectMark { colour, flags },
         Mark::Free => unreachable!(),
     }
 }
 
 /// The least base at `from` or above of the taken cells that begin in a page.
-fn lowest_in_page(table: &Table, page: u32, from: u32) -> Option<u32>
-    requires kept { IsKept table.now }
+pub(crate) fn lowest_in_page(table: &Table, page: u32, from: u32) -> Option<u32>
+    requires kept { KeepsCells table.now }
     requires page { page < table.now.pages }
     ensures { let v = cells_of table.now in
         MatchOption result (NoneInPage v page from) (λ base. IsLowestInPage v page from base) }

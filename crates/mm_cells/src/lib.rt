@@ -3,15 +3,17 @@
 
 mod cells;
 mod class;
+mod lookups;
 mod marks;
 mod page_use;
-mod parking;
 mod placing;
 mod table;
 mod taking;
 #[cfg(test)]
 mod tests;
+mod walks;
 
 pub use cells::{Cell, Cells, cells_words};
 pub use class::{PAGE_BYTES, cells_per_page, class_of, extent_of};
+pub use lookups::FoundCell;
 pub use marks::CellBits;

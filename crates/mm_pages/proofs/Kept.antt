@@ -6,18 +6,18 @@ use Rattle.std.proofs.lemmas.List.{length-set, get_or-set_same, get_or-set_other
 use Rattle.std.proofs.lemmas.List.{length-replicate, get_or_past}
 use Rattle.mm_pages.specs.Free.{Marks, AllFree, IsFreeButFirst, LowestFit, Sums, beyond, marked}
 use Rattle.mm_pages.specs.Tree.{Shows}
-use Rattle.mm_words.specs.Place.{Place}
+use Rattle.mm_words.specs.Location.{Location}
 use Rattle.mm_pages.specs.Entries.{Entries, BeginsEmpty}
 use Rattle.mm_pages.specs.Pages.{Pages, Run, run_at, unused, is_free_page, count_below, IsFreePage, IsFreeRun}
-use Rattle.mm_pages.specs.Pages.{IsLowestRun, IsOut, IsUsed, IsHighestUsed, EndsBy, IsSound}
-use Rattle.mm_pages.specs.Kept.{pages_of, IsKept}
+use Rattle.mm_pages.specs.Pages.{IsLowestRun, IsOut, IsUsed, IsHighestUsed, EndsBy, IsSoundHeap}
+use Rattle.mm_pages.specs.Kept.{pages_of, KeepsTree}
 use Rattle.mm_pages.proofs.Joins.{clash}
 use Rattle.mm_pages.proofs.Trees.{Shows-same}
 use Rattle.mm_pages.proofs.Unused.{reached, used-to, used-from, unused-above, unused-off_zero, unused-from}
 use Rattle.mm_pages.proofs.Unused.{unused-ext, unused-taken, unused-given}
 use Rattle.mm_pages.proofs.Counts.{count_below-same, count_below-all, count_below-none, count_below-add}
 use Rattle.mm_pages.proofs.Counts.{count_below-taken, count_below-given, count_below-le}
-use Rattle.mm_pages.proofs.Sound.{Changes, Clear, Clear-free, Clear-none, Clear-run, IsSound-changes, here_at}
+use Rattle.mm_pages.proofs.Sound.{Changes, Clear, Clear-free, Clear-none, Clear-run, IsSoundHeap-changes, here_at}
 use Rattle.mm_pages.proofs.Sound.{others_at}
 
 -- a page below the limit is free where no run that begins at or below it reaches it
@@ -29,7 +29,7 @@ IsFreePage-unused v p u h = record {
   not_parked = λ c. omega (arith, c.begins, c.reaches, unused-above (run_at v) p c.first u c.begins);
 }
 
-pub unused-IsFreePage : (v : Pages) (p : ℕ) → IsSound v → IsFreePage v p → unused (run_at v) p ≡ true
+pub unused-IsFreePage : (v : Pages) (p : ℕ) → IsSoundHeap v → IsFreePage v p → unused (run_at v) p ≡ true
 unused-IsFreePage v p s f = unused-from (run_at v) p f.off_zero
     (λ first b. elim (cases_lt p (first + run_at v first)) [
       | inr a ↦ a
@@ -47,7 +47,7 @@ unused-IsFreePage v p s f = unused-from (run_at v) p f.off_zero
     ])
 
 -- so free runs are runs of pages that the tree shows as free
-pub AllFree-run : (v : Pages) (p k : ℕ) → IsSound v → IsFreeRun v p k → AllFree (unused (run_at v)) p k
+pub AllFree-run : (v : Pages) (p k : ℕ) → IsSoundHeap v → IsFreeRun v p k → AllFree (unused (run_at v)) p k
 AllFree-run v p k s f = record { each = λ j a b. unused-IsFreePage v j s (f j a b) }
 
 pub IsFreeRun-all : (v : Pages) (p k : ℕ) → AllFree (unused (run_at v)) p k → p + k ≤ v.limit → IsFreeRun v p k
@@ -57,7 +57,7 @@ pub IsFreeRun-within : (v : Pages) (p k : ℕ) → 0 < k → IsFreeRun v p k →
 IsFreeRun-within v p k h f = omega (arith, (f (p + k - 1) (omega arith) (omega arith)).below_limit)
 
 -- the lowest place of the tree is the lowest run, where it ends by the limit
-pub IsLowestRun-fit : (v : Pages) (span p k : ℕ) → IsSound v → v.limit ≤ span → 0 < k →
+pub IsLowestRun-fit : (v : Pages) (span p k : ℕ) → IsSoundHeap v → v.limit ≤ span → 0 < k →
     LowestFit (unused (run_at v)) span k p → p + k ≤ v.limit → IsLowestRun v p k
 IsLowestRun-fit v span p k s wide some f w = record {
   free = IsFreeRun-all v p k f.fits w;
@@ -65,14 +65,14 @@ IsLowestRun-fit v span p k s wide some f w = record {
 }
 
 -- and where it doesn't there is none
-pub none-past : (v : Pages) (span p k : ℕ) → IsSound v → v.limit ≤ span → 0 < k →
+pub none-past : (v : Pages) (span p k : ℕ) → IsSoundHeap v → v.limit ≤ span → 0 < k →
     LowestFit (unused (run_at v)) span k p → v.limit < p + k → (q : ℕ) → IsFreeRun v q k → ⊥
 none-past v span p k s wide some f w q g =
     let within : q + k ≤ v.limit = IsFreeRun-within v q k some g in
     omega (arith, f.lowest q (AllFree-run v q k s g) (omega arith))
 
 -- nor where the longest run is too short
-pub none-short : (v : Pages) (span m l r k : ℕ) → IsSound v → v.limit ≤ span → 0 < k →
+pub none-short : (v : Pages) (span m l r k : ℕ) → IsSoundHeap v → v.limit ≤ span → 0 < k →
     Sums (unused (run_at v)) span m l r → m < k → (q : ℕ) → IsFreeRun v q k → ⊥
 none-short v span m l r k s wide some u short q g =
     let within : q + k ≤ v.limit = IsFreeRun-within v q k some g in
@@ -107,11 +107,11 @@ Changes-both v p n m h g = record {
 }
 
 -- a run is taken
-pub IsKept-taken : (e : Entries) (limit free p k : ℕ) (tree : List ℕ) → IsKept e limit free →
+pub KeepsTree-taken : (e : Entries) (limit free p k : ℕ) (tree : List ℕ) → KeepsTree e limit free →
     LowestFit (unused (run_at (pages_of e limit))) (2 ^ e.height) k p → 0 < k → p + k ≤ limit →
     ((pages : Marks) → Shows pages e.height e.tree → Shows (marked pages p (p + k) false) e.height tree) →
-    IsKept (record e { tree = tree; out = set e.out p k }) limit (free - k)
-IsKept-taken e limit free p k tree kept fit some within shows =
+    KeepsTree (record e { tree = tree; out = set e.out p k }) limit (free - k)
+KeepsTree-taken e limit free p k tree kept fit some within shows =
     let v : Pages = pages_of e limit in
     let v' : Pages = record v { out = set e.out p k } in
     let runs : ℕ → ℕ = run_at v in
@@ -126,7 +126,7 @@ IsKept-taken e limit free p k tree kept fit some within shows =
     λ i. unused-taken runs (run_at v') p k i fit.fits some at
     (λ f d. others_at v v' p k (slice_index e.parked p) change f d) in
     record {
-      sound = IsSound-changes v v' p k (slice_index e.parked p) kept.sound change (inr (omega arith)) clear;
+      sound = IsSoundHeap-changes v v' p k (slice_index e.parked p) kept.sound change (inr (omega arith)) clear;
       wide = kept.wide;
       tight = kept.tight;
       shows = Shows-same e.height (marked (unused runs) p (p + k) false) (unused (run_at v')) tree (λ i h. now i)
@@ -140,11 +140,11 @@ IsKept-taken e limit free p k tree kept fit some within shows =
     }
 
 -- a run is given back
-pub IsKept-given : (e : Entries) (limit free p k : ℕ) (tree : List ℕ) → IsKept e limit free → 0 < k →
+pub KeepsTree-given : (e : Entries) (limit free p k : ℕ) (tree : List ℕ) → KeepsTree e limit free → 0 < k →
     slice_index e.out p ≡ k →
     ((pages : Marks) → Shows pages e.height e.tree → Shows (marked pages p (p + k) true) e.height tree) →
-    IsKept (record e { tree = tree; out = set e.out p 0 }) limit (free + k)
-IsKept-given e limit free p k tree kept some there shows =
+    KeepsTree (record e { tree = tree; out = set e.out p 0 }) limit (free + k)
+KeepsTree-given e limit free p k tree kept some there shows =
     let v : Pages = pages_of e limit in
     let v' : Pages = record v { out = set e.out p 0 } in
     let runs : ℕ → ℕ = run_at v in
@@ -162,7 +162,7 @@ IsKept-given e limit free p k tree kept some there shows =
     (λ f d. others_at v v' p 0 (slice_index e.parked p) change f d)
     (λ f l r. clear.below f l (omega arith) r) (λ f l r. omega (arith, clear.above f l (omega arith) r)) in
     record {
-      sound = IsSound-changes v v' p 0 (slice_index e.parked p) kept.sound change (inl refl) gone;
+      sound = IsSoundHeap-changes v v' p 0 (slice_index e.parked p) kept.sound change (inl refl) gone;
       wide = kept.wide;
       tight = kept.tight;
       shows = Shows-same e.height (marked (unused runs) p (p + k) true) (unused (run_at v')) tree (λ i h. now i)
@@ -177,10 +177,10 @@ IsKept-given e limit free p k tree kept some there shows =
     }
 
 -- a run goes from those out to those parked, or back
-pub IsKept-moved : (e : Entries) (limit free p n m : ℕ) → IsKept e limit free → 0 < run_at (pages_of e limit) p →
+pub KeepsTree-moved : (e : Entries) (limit free p n m : ℕ) → KeepsTree e limit free → 0 < run_at (pages_of e limit) p →
     n + m ≡ run_at (pages_of e limit) p → (n ≡ 0) ⊎ (m ≡ 0) →
-    IsKept (record e { out = set e.out p n; parked = set e.parked p m }) limit free
-IsKept-moved e limit free p n m kept some same kind =
+    KeepsTree (record e { out = set e.out p n; parked = set e.parked p m }) limit free
+KeepsTree-moved e limit free p n m kept some same kind =
     let v : Pages = pages_of e limit in
     let v' : Pages = record v { out = set e.out p n; parked = set e.parked p m } in
     let within : p + run_at v p ≤ limit = kept.sound.within p some in
@@ -193,7 +193,7 @@ IsKept-moved e limit free p n m kept some same kind =
     let now : (i : ℕ) → unused (run_at v) i ≡ unused (run_at v') i =
     λ i. unused-ext (run_at v) (run_at v') i runs in
     record {
-      sound = IsSound-changes v v' p n m kept.sound change kind
+      sound = IsSoundHeap-changes v v' p n m kept.sound change kind
           (subst (λ (x : ℕ). Clear v p x) (sym same) (Clear-run v p kept.sound));
       wide = kept.wide;
       tight = kept.tight;
@@ -210,10 +210,10 @@ index-zeros n f = elim (cases_lt f n) [
 ]
 
 -- a page heap without runs
-pub IsKept-fresh : (e : Entries) (place : Place) (pages height free : ℕ) → BeginsEmpty place pages height e →
+pub KeepsTree-fresh : (e : Entries) (location : Location) (pages height free : ℕ) → BeginsEmpty location pages height e →
     2 ≤ pages → pages ≤ 4096 → pages ≤ 2 ^ height → 2 ^ height < 2 * pages → free + 1 ≡ 2 ^ height →
-    ((test : Marks) → IsFreeButFirst test (2 ^ height) → Shows test height e.tree) → IsKept e pages free
-IsKept-fresh e place pages height free b two most wide tight counted shows =
+    ((test : Marks) → IsFreeButFirst test (2 ^ height) → Shows test height e.tree) → KeepsTree e pages free
+KeepsTree-fresh e location pages height free b two most wide tight counted shows =
     let v : Pages = pages_of e pages in
     let none : (f : ℕ) → run_at v f ≡ 0 = λ f. omega (
       arith,
@@ -253,11 +253,11 @@ IsKept-fresh e place pages height free b two most wide tight counted shows =
     }
 
 -- the limit moves
-pub IsKept-limit : (e : Entries) (limit limit' free : ℕ) → IsKept e limit free → 2 ≤ limit' → limit' ≤ e.pages →
-    EndsBy (pages_of e limit) limit' → IsKept e limit' free
-IsKept-limit e limit limit' free kept two most ends =
+pub KeepsTree-limit : (e : Entries) (limit limit' free : ℕ) → KeepsTree e limit free → 2 ≤ limit' → limit' ≤ e.pages →
+    EndsBy (pages_of e limit) limit' → KeepsTree e limit' free
+KeepsTree-limit e limit limit' free kept two most ends =
     let v : Pages = pages_of e limit in
-    let s : IsSound v = kept.sound in
+    let s : IsSoundHeap v = kept.sound in
     record {
       sound = record {
         two = two;
@@ -295,18 +295,18 @@ IsKept-limit e limit limit' free kept two most ends =
     }
 
 -- past the limit no page lies in a run
-unused-past : (v : Pages) (p : ℕ) → IsSound v → v.limit ≤ p → unused (run_at v) p ≡ true
+unused-past : (v : Pages) (p : ℕ) → IsSoundHeap v → v.limit ≤ p → unused (run_at v) p ≡ true
 unused-past v p s h = unused-from (run_at v) p (omega (arith, s.two)) (λ f l. elim (cases_eq (run_at v f) 0) [
   | inl z ↦ omega arith
   | inr n ↦ omega (arith, s.within f (omega arith))
 ])
 
 -- how many pages are free
-pub count_below-free : (e : Entries) (limit free : ℕ) → IsKept e limit free →
+pub count_below-free : (e : Entries) (limit free : ℕ) → KeepsTree e limit free →
     count_below (is_free_page (pages_of e limit)) e.pages + (2 ^ e.height - limit) ≡ free
 count_below-free e limit free kept =
     let v : Pages = pages_of e limit in
-    let s : IsSound v = kept.sound in
+    let s : IsSoundHeap v = kept.sound in
     let span : limit + (2 ^ e.height - limit) ≡ 2 ^ e.height = omega (arith, kept.wide, s.limit) in
     let pages : limit + (e.pages - limit) ≡ e.pages = omega (arith, s.limit) in
     let tree : count_below (unused (run_at v)) (2 ^ e.height) ≡ count_below (unused (run_at v)) limit + count_below
@@ -330,7 +330,7 @@ count_below-free e limit free kept =
     omega (arith, kept.counted)
 
 -- a page that the tree shows as taken is used
-pub IsUsed-taken : (v : Pages) (p : ℕ) → IsSound v → unused (run_at v) p ≡ false → IsUsed v p
+pub IsUsed-taken : (v : Pages) (p : ℕ) → IsSoundHeap v → unused (run_at v) p ≡ false → IsUsed v p
 IsUsed-taken v p s u = elim (used-to (run_at v) p u) [
   | inl z ↦ inl z
   | inr r ↦ elim r [
@@ -349,7 +349,7 @@ IsUsed-taken v p s u = elim (used-to (run_at v) p u) [
 ]
 
 -- a used page is one that the tree shows as taken, and lies below the limit
-taken-IsUsed : (v : Pages) (p : ℕ) → IsSound v → IsUsed v p → (unused (run_at v) p ≡ false) × (p < v.limit)
+taken-IsUsed : (v : Pages) (p : ℕ) → IsSoundHeap v → IsUsed v p → (unused (run_at v) p ≡ false) × (p < v.limit)
 taken-IsUsed v p s (inl z) = (subst (λ (x : ℕ). unused (run_at v) x ≡ false) (sym z) refl, omega (arith, s.two))
 taken-IsUsed v p s (inr (inl c)) = (
   used-from (run_at v) p c.first c.begins (omega (arith, c.reaches)),
@@ -369,7 +369,7 @@ last_run-short v span m l r u some = elim (cases_lt r span) [
 ]
 
 -- the highest used page is the one below the free pages at the end
-pub IsHighestUsed-last : (v : Pages) (span m l r : ℕ) → IsSound v → Sums (unused (run_at v)) span m l r →
+pub IsHighestUsed-last : (v : Pages) (span m l r : ℕ) → IsSoundHeap v → Sums (unused (run_at v)) span m l r →
     v.limit ≤ span → 0 < span → IsHighestUsed v (span - r - 1)
 IsHighestUsed-last v span m l r s u wide some =
     let short : r < span = last_run-short v span m l r u some in
@@ -385,7 +385,7 @@ IsHighestUsed-last v span m l r s u wide some =
     }
 
 -- the length of a run that is out
-pub out-whole : (e : Entries) (limit free : ℕ) (run : Run) → IsKept e limit free → IsOut (pages_of e limit) run →
+pub out-whole : (e : Entries) (limit free : ℕ) (run : Run) → KeepsTree e limit free → IsOut (pages_of e limit) run →
     run_at (pages_of e limit) run.first ≡ run.len
 out-whole e limit free run kept out = omega (
   arith,
@@ -394,7 +394,7 @@ out-whole e limit free run kept out = omega (
 )
 
 -- the pages of a run that is out and the free ones are no more than the tree's
-pub given-small : (e : Entries) (limit free : ℕ) (run : Run) → IsKept e limit free → IsOut (pages_of e limit) run →
+pub given-small : (e : Entries) (limit free : ℕ) (run : Run) → KeepsTree e limit free → IsOut (pages_of e limit) run →
     free + run.len < 2 ^ 32
 given-small e limit free run kept out =
     let whole : run_at (pages_of e limit) run.first ≡ run.len = out-whole e limit free run kept out in
@@ -409,7 +409,7 @@ given-small e limit free run kept out =
     )
 
 -- the length of a run that is parked
-pub parked-whole : (v : Pages) (p : ℕ) → IsSound v → 0 < slice_index v.parked p →
+pub parked-whole : (v : Pages) (p : ℕ) → IsSoundHeap v → 0 < slice_index v.parked p →
     run_at v p ≡ slice_index v.parked p
 parked-whole v p s h = elim (cases_eq (slice_index v.out p) 0) [
   | inl z ↦ omega arith

@@ -2,7 +2,7 @@
 use Rattle.std.proofs.Common.{◌≡◌, ℕ, ◌+◌, ◌<◌, ◌≤◌, ◌⊎◌, inl, inr, length, slice_index, arith, sym, ◌∙◌, ap}
 use Rattle.std.proofs.lemmas.Bool.{cases_lt, cases_eq}
 use Rattle.mm_pages.specs.Free.{AllFree}
-use Rattle.mm_pages.specs.Pages.{Pages, run_at, unused, IsSound}
+use Rattle.mm_pages.specs.Pages.{Pages, run_at, unused, IsSoundHeap}
 use Rattle.mm_pages.proofs.Unused.{unused-above, unused-off_zero}
 
 -- at page p a run of o pages is out and one of q pages is parked, and all else is as it was
@@ -29,9 +29,9 @@ pub record Clear (v : Pages) (p n : ℕ) : Type 0 where
   pub below : (f : ℕ) → f < p → 0 < n → 0 < run_at v f → f + run_at v f ≤ p
   pub above : (f : ℕ) → p < f → 0 < n → 0 < run_at v f → p + n ≤ f
 
-pub IsSound-changes : (v v' : Pages) (p o q : ℕ) → IsSound v → Changes v v' p o q → (o ≡ 0) ⊎ (q ≡ 0) →
-    Clear v p (o + q) → IsSound v'
-IsSound-changes v v' p o q s c kind clear =
+pub IsSoundHeap-changes : (v v' : Pages) (p o q : ℕ) → IsSoundHeap v → Changes v v' p o q → (o ≡ 0) ⊎ (q ≡ 0) →
+    Clear v p (o + q) → IsSoundHeap v'
+IsSoundHeap-changes v v' p o q s c kind clear =
     let here : run_at v' p ≡ o + q = here_at v v' p o q c in
     record {
       two = omega (arith, s.two, c.limit);
@@ -114,7 +114,7 @@ Clear-none v p = record {
 }
 
 -- a run is clear of the others
-pub Clear-run : (v : Pages) (p : ℕ) → IsSound v → Clear v p (run_at v p)
+pub Clear-run : (v : Pages) (p : ℕ) → IsSoundHeap v → Clear v p (run_at v p)
 Clear-run v p s = record {
   off_zero = λ h. elim (cases_eq p 0) [
     | inl e ↦ absurd (omega (arith, s.off_zero, ap (λ (x : ℕ). run_at v x) e))

@@ -1,12 +1,12 @@
 use Rattle.std.specs.Prelude.{ℕ, ◌+◌, ◌*◌, ◌≤◌, ◌≡◌, replicate, List, length, take, drop}
 use Rattle.mm_words.specs.Piece.{Piece}
-use Rattle.mm_words.specs.Place.{Place, place_of}
+use Rattle.mm_words.specs.Location.{Location, location_of}
 use Rattle.mm_pages.specs.Tree.{tree_words}
 
 -- the parts of a table: for each page the length of the run out that begins there and that of the run parked there,
 -- 0 where none does, and the tree
 pub record Entries : Type 0 where
-  pub place : Place
+  pub location : Location
   pub pages : ℕ
   pub height : ℕ
   pub out : List ℕ
@@ -16,7 +16,7 @@ pub record Entries : Type 0 where
 -- they stand one after another
 abbrev pub entries_of : Piece → ℕ → ℕ → Entries
 entries_of p pages height = record {
-  place = place_of p;
+  location = location_of p;
   pages = pages;
   height = height;
   out = take pages p.words;
@@ -25,15 +25,15 @@ entries_of p pages height = record {
 }
 
 -- a table of that many pages in which no run begins
-pub record BeginsEmpty (place : Place) (pages height : ℕ) (e : Entries) : Type 0 where
-  pub same_place : e.place ≡ place
+pub record BeginsEmpty (location : Location) (pages height : ℕ) (e : Entries) : Type 0 where
+  pub same_location : e.location ≡ location
   pub same_pages : e.pages ≡ pages
   pub same_height : e.height ≡ height
   pub none_out : e.out ≡ replicate pages 0
   pub none_parked : e.parked ≡ replicate pages 0
 
 -- and they all fit
-pub record HasRoom (p : Piece) (pages height : ℕ) : Type 0 where
+pub record FitsIn (p : Piece) (pages height : ℕ) : Type 0 where
   pub pages_small : pages ≤ 4096
   pub height_small : height ≤ 12
   pub room : 2 * pages + tree_words height ≤ length p.words

@@ -1,12 +1,12 @@
 use Rattle.std.specs.Prelude.{◌≡◌, ℕ, zero, suc, ◌+◌, ◌*◌, ◌^◌, ◌<◌, ◌≤◌, ◌⊎◌, Bool, false, ◌&&◌, ◌||◌, not, nat_lt}
 use Rattle.std.specs.Prelude.{if◌then◌else◌, List, length, replicate, slice_index, slice_set}
-use Rattle.mm_words.specs.Place.{Place}
+use Rattle.mm_words.specs.Location.{Location}
 use Rattle.mm_pages.specs.Free.{Marks}
 
 -- what callers see of a page heap: where its table lies, how many pages it has, below which page pages may be free, and
 -- for each page the length of the run out that begins there and of the run parked there, 0 where none does
 pub record Pages : Type 0 where
-  pub table : Place
+  pub table : Location
   pub pages : ℕ
   pub limit : ℕ
   pub out : List ℕ
@@ -14,7 +14,7 @@ pub record Pages : Type 0 where
 
 -- a run of pages, with the table of the page heap that it is of
 pub record Run : Type 0 where
-  pub heap : Place
+  pub heap : Location
   pub first : ℕ
   pub len : ℕ
 
@@ -23,7 +23,7 @@ abbrev pub table_size : ℕ → ℕ
 table_size pages = 14 * pages
 
 -- a page heap without runs
-abbrev pub fresh : Place → ℕ → Pages
+abbrev pub fresh : Location → ℕ → Pages
 fresh table pages = record {
   table = table;
   pages = pages;
@@ -96,7 +96,7 @@ abbrev pub run_at : Pages → ℕ → ℕ
 run_at v p = slice_index v.out p + slice_index v.parked p
 
 -- what holds of the runs of every page heap: they are apart, leave out page 0, and end by the limit
-pub record IsSound (v : Pages) : Type 0 where
+pub record IsSoundHeap (v : Pages) : Type 0 where
   pub two : 2 ≤ v.limit
   pub limit : v.limit ≤ v.pages
   pub pages : v.pages ≤ 4096

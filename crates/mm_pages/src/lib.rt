@@ -4,6 +4,7 @@
 mod node;
 mod page_heap;
 mod page_run;
+mod parking;
 mod runs;
 mod table;
 #[cfg(test)]

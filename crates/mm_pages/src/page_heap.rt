@@ -1,10 +1,10 @@
 // The pages of a region: which are free, and the runs that are out or parked.
 ghost use Rattle.std.specs.Prelude.{◌≡◌, ◌↔◌, ℕ, ◌-◌, ◌*◌, ◌^◌, ◌<◌, ◌≤◌};
 ghost use Rattle.std.specs.Prelude.{length, slice_index, IfOk, OnErr, IsTrue};
-ghost use Rattle.mm_words.specs.Place.{place_of};
+ghost use Rattle.mm_words.specs.Location.{location_of};
 ghost use Rattle.mm_pages.specs.Pages.{fresh, with_out, with_parked, run_of, is_free_page, count_below, table_size};
 ghost use Rattle.mm_pages.specs.Pages.{IsFreePage, IsFreeRun, IsLowestRun, IsOut, HasNoRun, IsHighestUsed};
-ghost use Rattle.mm_pages.specs.Pages.{EndsBy, IsSound, IsQuick};
+ghost use Rattle.mm_pages.specs.Pages.{EndsBy, IsSoundHeap, IsQuick};
 
 use crate::node::span_of;
 use crate::page_run::PageRun;
@@ -30,13 +30,13 @@ pub struct PageHeap {
 
 impl Model for PageHeap {
     ghost use Rattle.mm_pages.specs.Pages.{Pages};
-    ghost use Rattle.mm_pages.specs.Kept.{pages_of, IsKept};
+    ghost use Rattle.mm_pages.specs.Kept.{pages_of, KeepsTree};
 
     ghost Value = { Pages };
 
     ghost view = { λ h. pages_of h.table h.limit };
 
-    ghost invariant = { λ h. IsKept h.table h.limit h.free };
+    ghost invariant = { λ h. KeepsTree h.table h.limit h.free };
 }
 
 /// How many words the table of a page heap must have: for each page two that tell the runs which begin there, and at
@@ -66,7 +66,8 @@ impl PageHeap {
         requires two { 2 ≤ pages }
         requires most { pages ≤ 4096 }
         requires room { table_size pages ≤ length table.words }
-        ensures { result ≡ fresh (place_of table) pages }
+        ensures value { result ≡ fresh (location_of table) pages }
+        ensures sound { IsSoundHeap result }
     {
         let height = height_over(pages);
         PageHeap {
@@ -79,7 +80,7 @@ impl PageHeap {
     /// Gives the table's words back, which may hold anything.
     pub fn close(self) -> Words
         requires { HasNoRun self }
-        ensures { place_of result ≡ self.table }
+        ensures { location_of result ≡ self.table }
     {
         let PageHeap {
             table,
@@ -98,7 +99,7 @@ impl PageHeap {
         ensures taken { IfOk result (λ run. self.new ≡ with_out self.old run.first k) }
         ensures none { OnErr result ((p : ℕ) → ¬ IsFreeRun self.old p k) }
         ensures unchanged { OnErr result (self.new ≡ self.old) }
-        ensures sound { IsSound self.new }
+        ensures sound { IsSoundHeap self.new }
         ensures cost { IsQuick self.old.pages steps.old steps.new }
     {
         steps.tick();
@@ -123,6 +124,7 @@ impl PageHeap {
     pub fn give<L: Ledger>(&mut self, run: PageRun, steps: &mut Steps<L>)
         requires { IsOut self.old run }
         ensures given { self.new ≡ with_out self.old run.first 0 }
+        ensures sound { IsSoundHeap self.new }
         ensures cost { IsQuick self.old.pages steps.old steps.new }
     {
         let PageRun {
@@ -138,7 +140,8 @@ impl PageHeap {
     /// Keeps a run inside the page heap, which hands it out again by `unpark`.
     pub fn park(&mut self, run: PageRun)
         requires { IsOut self.old run }
-        ensures { self.new ≡ with_parked (with_out self.old run.first 0) run.first run.len }
+        ensures parked { self.new ≡ with_parked (with_out self.old run.first 0) run.first run.len }
+        ensures sound { IsSoundHeap self.new }
     {
         let PageRun {
             first,
@@ -152,9 +155,11 @@ impl PageHeap {
     /// Hands out the run that is parked at `first`.
     pub fn unpark(&mut self, first: u32) -> PageRun
         requires { 0 < slice_index self.old.parked first }
+        ensures not_out { slice_index self.old.out first ≡ 0 }
         ensures run { result ≡ run_of self.old first (slice_index self.old.parked first) }
         ensures out { IsOut self.new result }
         ensures moved { self.new ≡ with_out (with_parked self.old first 0) first (slice_index self.old.parked first) }
+        ensures sound { IsSoundHeap self.new }
     {
         let len = self.table.parked_at(first);
         self.table.set_parked(first, 0);
@@ -187,7 +192,8 @@ impl PageHeap {
         requires two { 2 ≤ limit }
         requires most { limit ≤ self.old.pages }
         requires clear { EndsBy self.old limit }
-        ensures { self.new ≡ record self.old { limit = limit } }
+        ensures limit { self.new ≡ record self.old { limit = limit } }
+        ensures sound { IsSoundHeap self.new }
     {
         self.limit = limit;
     }
@@ -195,7 +201,7 @@ impl PageHeap {
     /// The page below which pages may be free.
     pub fn limit(&self) -> u32
         ensures value { result ≡ self.now.limit }
-        ensures sound { IsSound self.now }
+        ensures sound { IsSoundHeap self.now }
     {
         self.limit
     }
@@ -204,6 +210,7 @@ impl PageHeap {
     pub fn top(&self) -> u32
         ensures some { 0 < result }
         ensures highest { IsHighestUsed self.now (result - 1) }
+        ensures sound { IsSoundHeap self.now }
     {
         self.table.span() - self.table.last_run()
     }

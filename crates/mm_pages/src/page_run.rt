@@ -13,12 +13,12 @@ pub struct PageRun {
 }
 
 impl Model for PageRun {
-    ghost use Rattle.mm_words.specs.Place.{place_of};
+    ghost use Rattle.mm_words.specs.Location.{location_of};
     ghost use Rattle.mm_pages.specs.Pages.{Run};
 
     ghost Value = { Run };
 
-    ghost view = { λ r. record { heap = place_of r.heap.value; first = r.first; len = r.len } };
+    ghost view = { λ r. record { heap = location_of r.heap.value; first = r.first; len = r.len } };
 }
 
 impl PageRun {

@@ -20,17 +20,17 @@ pub(crate) struct Table {
 }
 
 impl Model for Table {
-    ghost use Rattle.mm_pages.specs.Entries.{Entries, entries_of, HasRoom};
+    ghost use Rattle.mm_pages.specs.Entries.{Entries, entries_of, FitsIn};
 
     ghost Value = { Entries };
 
     ghost view = { λ t. entries_of t.words t.pages t.height };
 
-    ghost invariant = { λ t. HasRoom t.words t.pages t.height };
+    ghost invariant = { λ t. FitsIn t.words t.pages t.height };
 }
 
 impl Table {
-    ghost use Rattle.mm_words.specs.Place.{place_of};
+    ghost use Rattle.mm_words.specs.Location.{location_of};
     ghost use Rattle.mm_pages.specs.Entries.{BeginsEmpty};
     ghost use Rattle.std.specs.Prelude.{replicate};
 
@@ -39,7 +39,7 @@ impl Table {
         requires pages { pages ≤ 4096 }
         requires height { height ≤ 12 }
         requires room { 2 * pages + tree_words height ≤ length words.words }
-        ensures fresh { BeginsEmpty (place_of words) pages height result }
+        ensures fresh { BeginsEmpty (location_of words) pages height result }
         ensures shows { (free : Marks) → IsFreeButFirst free (2 ^ height) → Shows free height result.tree }
     {
         let mut words = words;
@@ -54,7 +54,7 @@ impl Table {
 
     /// The words, which may hold anything.
     pub fn into_words(self) -> Words
-        ensures { place_of result ≡ self.place }
+        ensures { location_of result ≡ self.location }
     {
         let Table {
             words,
@@ -66,7 +66,7 @@ impl Table {
 
     /// Which words these are, as contracts see it.
     pub fn identity(&self) -> Snapshot<Words>
-        ensures { place_of result.value ≡ self.now.place }
+        ensures { location_of result.value ≡ self.now.location }
     {
         Snapshot::of(&self.words)
     }

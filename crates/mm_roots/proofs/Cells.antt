@@ -5,7 +5,7 @@ use Rattle.std.proofs.lemmas.List.{length-reverse, length-take-le, length-drop, 
 use Rattle.std.proofs.lemmas.List.{take-append-drop, take-take, drop_at}
 use Rattle.std.proofs.lemmas.List.Elements.{All-drop}
 use Rattle.mm_words.specs.Piece.{Piece}
-use Rattle.mm_roots.specs.Stack.{cells_of, popped, IsKept}
+use Rattle.mm_roots.specs.Stack.{cells_of, popped, KeepsStack}
 
 -- the words before the last k
 reverse-take : (k n : ℕ) (xs : List ℕ) → length xs ≡ n + k → reverse (take n xs) ≡ drop k (reverse xs)
@@ -16,7 +16,7 @@ reverse-take k n xs size =
     omega (arith, length-reverse (drop n xs), length-drop n xs) in
     sym (ap (drop k) parts ∙ drop_at (reverse (drop n xs)) (reverse (take n xs)) k top)
 
-module _ (p : Piece) (depth limit : ℕ) (kept : IsKept p depth limit) where
+module _ (p : Piece) (depth limit : ℕ) (kept : KeepsStack p depth limit) where
   within : depth ≤ length p.words
   within = omega (arith, kept.within, kept.room)
 
@@ -36,8 +36,8 @@ module _ (p : Piece) (depth limit : ℕ) (kept : IsKept p depth limit) where
     pub cells_of-less : cells_of p (depth - k) limit ≡ popped (cells_of p depth limit) k
     cells_of-less = ap (λ (ws : List ℕ). record (cells_of p depth limit) { words = ws }) words-less
 
-    pub IsKept-less : IsKept p (depth - k) limit
-    IsKept-less = record {
+    pub KeepsStack-less : KeepsStack p (depth - k) limit
+    KeepsStack-less = record {
       within = omega (arith, kept.within);
       room = kept.room;
       small = kept.small;

@@ -1,7 +1,7 @@
 // The stack of words, in one piece of an arena.
 ghost use Rattle.std.specs.Prelude.{◌≡◌, ◌+◌, ◌<◌, ◌≤◌, length, reverse, slice_index, IfOk, OnErr};
-ghost use Rattle.mm_words.specs.Place.{place_of};
-ghost use Rattle.mm_roots.specs.Stack.{empty, pushed, popped, IsSound};
+ghost use Rattle.mm_words.specs.Location.{location_of};
+ghost use Rattle.mm_roots.specs.Stack.{empty, pushed, popped, IsSoundStack};
 
 use mm_steps::Steps;
 use mm_words::Words;
@@ -23,20 +23,20 @@ pub struct Stack {
 }
 
 impl Model for Stack {
-    ghost use Rattle.mm_roots.specs.Stack.{Cells, cells_of, IsKept};
+    ghost use Rattle.mm_roots.specs.Stack.{Cells, cells_of, KeepsStack};
 
     ghost Value = { Cells };
 
     ghost view = { λ s. cells_of s.cells s.depth s.limit };
 
-    ghost invariant = { λ s. IsKept s.cells s.depth s.limit };
+    ghost invariant = { λ s. KeepsStack s.cells s.depth s.limit };
 }
 
 impl Stack {
     /// An empty stack of at most `limit` cells. The words may hold anything.
     pub fn make(cells: Words, limit: u32) -> Stack
         requires { limit ≤ length cells.words }
-        ensures { result ≡ empty (place_of cells) limit }
+        ensures { result ≡ empty (location_of cells) limit }
     {
         Stack {
             cells,
@@ -47,7 +47,7 @@ impl Stack {
 
     /// Gives the words back, which may hold anything.
     pub fn close(self) -> Words
-        ensures { place_of result ≡ self.place }
+        ensures { location_of result ≡ self.location }
     {
         let Stack {
             cells,
@@ -60,7 +60,7 @@ impl Stack {
     /// The number of cells.
     pub fn depth(&self) -> u32
         ensures value { result ≡ length self.now.words }
-        ensures sound { IsSound self.now }
+        ensures sound { IsSoundStack self.now }
     {
         self.depth
     }

@@ -13,8 +13,8 @@ use std::test::Fail;
 struct Trial {
     arena: Arena,
     stack: Stack,
-    ghost own: { stack.place.arena ≡ arena.name },
-    ghost owed: { arena.out ≡ stack.place.size },
+    ghost own: { stack.location.arena ≡ arena.name },
+    ghost owed: { arena.out ≡ stack.location.size },
 }
 
 impl Trial {

@@ -14,7 +14,7 @@ const SUMMARY: u32 = 4;
 const PLACES: u32 = 32 * SUMMARY;
 
 // Where in the words the bit of a number stands.
-fn place_of(n: u32) -> u32
+fn member_bit(n: u32) -> u32
     requires { n < 4096 }
     ensures { result ≡ 128 + n }
 {
@@ -45,7 +45,7 @@ pub fn contains(set: &[u32], n: u32) -> bool
     requires { Admits n set.now }
     ensures { result ≡ members set.now n }
 {
-    test_bit(set, place_of(n))
+    test_bit(set, member_bit(n))
 }
 
 /// Makes a number a member.
@@ -56,7 +56,7 @@ pub fn insert(set: &mut [u32], n: u32)
     ensures set { (limit : ℕ) → n < limit → IsSet limit set.old → IsSet limit set.new }
     ensures behind { (limit : ℕ) → n < limit → drop (set_size limit) set.new ≡ drop (set_size limit) set.old }
 {
-    set_bit(set, place_of(n));
+    set_bit(set, member_bit(n));
     set_bit(set, n / 32);
 }
 
@@ -68,7 +68,7 @@ pub fn remove(set: &mut [u32], n: u32)
     ensures set { (limit : ℕ) → n < limit → IsSet limit set.old → IsSet limit set.new }
     ensures behind { (limit : ℕ) → n < limit → drop (set_size limit) set.new ≡ drop (set_size limit) set.old }
 {
-    clear_bit(set, place_of(n));
+    clear_bit(set, member_bit(n));
     if set[(SUMMARY + n / 32) as usize] == 0 {
         clear_bit(set, n / 32);
     }
@@ -111,7 +111,7 @@ fn lowest_beside(set: &[u32], from: u32) -> Option<u32>
     if !test_bit(set, place) {
         return None;
     }
-    match lowest_bit(set, place_of(from), SUMMARY + place + 1) {
+    match lowest_bit(set, member_bit(from), SUMMARY + place + 1) {
         None => None,
         Some(found) => Some(found - PLACES),
     }

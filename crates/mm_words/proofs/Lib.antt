@@ -1,6 +1,6 @@
 mod Debts
 mod Lodging
-mod Lots
+mod Runs
 mod Values
 mod Walks
 pub mod Writes

@@ -19,7 +19,7 @@ use denote.Steps.{nothing}
 use Rattle.std_alloc.specs.Vec.Ownership.{lodged}
 use Rattle.std_collections.proofs.TreeMemory.Lodging.{Row, row_laws, Lodges, at_lodge}
 use Rattle.mm_words.specs.Ownership.{word}
-use Rattle.mm_words.proofs.Lots.{word_laws}
+use Rattle.mm_words.proofs.Runs.{word_laws}
 
 -- a vector of words
 abbrev pub Vector : RattleType

@@ -21,7 +21,7 @@ slot_at k [] = plain (λ _. unit)
 slot_at zero (s ∷ ss) = s
 slot_at (suc k) (s ∷ ss) = slot_at k ss
 
--- a `Lot` or a `Deed`
+-- a `Run` or a `Loan`
 abbrev pub run_val : Ptr → ℕ → Val
 run_val p n = vstruct (vcons (ptr_val p) (vcons (vint w32 n) vnil))
 
@@ -36,24 +36,24 @@ pub run_made : {M : Type 1} {𝓤 : Ura M} (𝓛 : Logic 𝓤) (p : Ptr) (n : �
 run_made 𝓛 p n f = makes_shadow 𝓛 (run_own p n (run_val p n ∷ [])) (λ _. (tt, (tt, ((tt, tt), tt))))
     ((ptr_val p ∷ [], (vint w32 n ∷ [], tt)), (refl, (refl, ((refl, f), tt))))
 
--- a `Charter`
-abbrev pub charter_val : Ptr → ℕ → Val
-charter_val p n = vstruct (vcons (ptr_val p) (vcons (vint w32 n) (vcons (vstruct vnil) vnil)))
+-- a `Allocation`
+abbrev pub allocation_val : Ptr → ℕ → Val
+allocation_val p n = vstruct (vcons (ptr_val p) (vcons (vint w32 n) (vcons (vstruct vnil) vnil)))
 
-abbrev pub charter_own : Ptr → ℕ → List Val → Fml
-charter_own p n = (plainly (RawPtr ∷ u32 ∷ plainly [] ∷ [])).own_val (p, (n, (tt, tt)))
+abbrev pub allocation_own : Ptr → ℕ → List Val → Fml
+allocation_own p n = (plainly (RawPtr ∷ u32 ∷ plainly [] ∷ [])).own_val (p, (n, (tt, tt)))
 
-pub charter_told : (p : Ptr) (n : ℕ) (vs : List Val) → shadow (charter_own p n vs)
-    → (vs ≡ charter_val p n ∷ []) × (n < 2 ^ 32)
-charter_told p n vs s = (
+pub allocation_told : (p : Ptr) (n : ℕ) (vs : List Val) → shadow (allocation_own p n vs)
+    → (vs ≡ allocation_val p n ∷ []) × (n < 2 ^ 32)
+allocation_told p n vs s = (
   s.1.0 ∙ (λ i. vstruct (of_list (s.1.1.0 i ++ (s.1.1.1.0.0 i ++
       (s.1.1.1.1.0.1.0 i ++ [])))) ∷ []),
   s.1.1.1.0.1,
 )
 
-pub charter_made : {M : Type 1} {𝓤 : Ura M} (𝓛 : Logic 𝓤) (p : Ptr) (n : ℕ) → (n < 2 ^ 32)
-    → ent 𝓤 (emp 𝓤) (sem 𝓛 (charter_own p n (charter_val p n ∷ [])))
-charter_made 𝓛 p n f = makes_shadow 𝓛 (charter_own p n (charter_val p n ∷ []))
+pub allocation_made : {M : Type 1} {𝓤 : Ura M} (𝓛 : Logic 𝓤) (p : Ptr) (n : ℕ) → (n < 2 ^ 32)
+    → ent 𝓤 (emp 𝓤) (sem 𝓛 (allocation_own p n (allocation_val p n ∷ [])))
+allocation_made 𝓛 p n f = makes_shadow 𝓛 (allocation_own p n (allocation_val p n ∷ []))
     (λ _. (tt, (tt, ((tt, tt), ((λ _. (tt, tt)), tt))))) (
       (
         ptr_val p ∷ [],

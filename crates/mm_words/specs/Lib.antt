@@ -1,10 +1,10 @@
+pub mod Arena
 pub mod Kept
 pub mod Lending
+pub mod Location
 pub mod Ownership
 pub mod Piece
-pub mod Place
 pub mod Runs
 pub mod Seated
-pub mod Stock
 pub mod Tally
 pub mod Writes

@@ -48,13 +48,13 @@ module _ (a : Name) where
   debt x (suc n) = fsep (word_debt x) (debt (suc x) n)
 
   -- n words from x on, of which the first hold these values, and the debt for them
-  abbrev pub lot_owns : ℕ → ℕ → List ℕ → Fml
-  lot_owns x n ws =
+  abbrev pub run_owns : ℕ → ℕ → List ℕ → Fml
+  run_owns x n ws =
       fsep (lies_at (Array word (length ws)) full_share (at_place x) ws)
       (fsep (words_room (x + length ws) (n - length ws)) (debt x n))
 
   -- the parts of the token that are not out, the way back to the room, and the right to free it
-  abbrev pub charter_owns : (Ty → Ptr → Fml) → ℕ → ℕ → Fml
-  charter_owns t total owing =
+  abbrev pub allocation_owns : (Ty → Ptr → Fml) → ℕ → ℕ → Fml
+  allocation_owns t total owing =
       fsep (parts (2 ^ 33 - owing))
       (fsep (flent (a.life ∷ []) (words_room 0 total)) (t (words_type total) (at_place 0)))

@@ -1,13 +1,13 @@
--- An arena's numbers, as its uncut words and its charter have them.
+-- An arena's numbers, as its uncut words and its allocation have them.
 use Rattle.std.specs.Prelude.{◌-◌}
-use Rattle.mm_words.specs.Stock.{Stock}
-use Rattle.mm_words.specs.declared.held.Held.{Held}
+use Rattle.mm_words.specs.Arena.{Arena}
+use Rattle.mm_words.specs.declared.backing.Backing.{Backing}
 
-abbrev pub stock_of : Held → Stock
-stock_of h = record {
-  name = h.charter.arena;
-  total = h.charter.total;
+abbrev pub arena_of : Backing → Arena
+arena_of h = record {
+  name = h.allocation.arena;
+  total = h.allocation.total;
   spare = h.rest.len;
-  out = h.charter.owing -
+  out = h.allocation.owing -
       h.rest.len;
 }

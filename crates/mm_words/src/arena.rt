@@ -1,11 +1,11 @@
 ghost use Rattle.std.specs.Prelude.{◌≡◌, ◌+◌, ◌-◌, ◌^◌, ◌<◌, ◌≤◌, [], IfOk, length, take};
 ghost use Rattle.mm_words.specs.Piece.{with_words};
-ghost use Rattle.mm_words.specs.Runs.{IsLot};
-ghost use Rattle.mm_words.specs.Stock.{whole, blank_piece, with_cut, with_uncut, with_back, IsLast};
+ghost use Rattle.mm_words.specs.Runs.{IsRun};
+ghost use Rattle.mm_words.specs.Arena.{whole, blank_piece, with_cut, with_uncut, with_back, IsLast};
 
 use crate::NoMemory;
-use crate::held::Held;
-use crate::lot::Lot;
+use crate::backing::Backing;
+use crate::run::Run;
 use crate::words::Words;
 use core::mem::replace_with;
 use std::alloc::Global;
@@ -14,23 +14,23 @@ use std::marker::Model;
 /// One allocation of words, from which pieces are cut one behind the other. Words that came back are
 /// not cut again. It ends by `close`, and can't be dropped.
 pub struct Arena {
-    // `held.rest.len`, where a method can read it.
+    // `backing.rest.len`, where a method can read it.
     spare: u32,
-    held: Held,
+    backing: Backing,
     alloc: Global,
 }
 
 impl Model for Arena {
-    ghost use Rattle.mm_words.specs.Stock.{Stock};
+    ghost use Rattle.mm_words.specs.Arena;
 
-    ghost Value = { Stock };
+    ghost Value = { Arena.Arena };
 
     ghost use Rattle.std.specs.Prelude.{◌≡◌};
-    ghost use Rattle.mm_words.specs.Tally.{stock_of};
+    ghost use Rattle.mm_words.specs.Tally.{arena_of};
 
-    ghost view = { λ a. stock_of a.held };
+    ghost view = { λ a. arena_of a.backing };
 
-    ghost invariant = { λ a. a.spare ≡ (stock_of a.held).spare };
+    ghost invariant = { λ a. a.spare ≡ (arena_of a.backing).spare };
 }
 
 impl Arena {
@@ -38,10 +38,10 @@ impl Arena {
     pub fn make(alloc: Global, total: u32) -> Result<Arena, NoMemory>
         ensures { IfOk result (λ a. a ≡ whole a.name total) }
     {
-        let held = Held::make(&alloc, total)?;
+        let backing = Backing::make(&alloc, total)?;
         Ok(Arena {
             spare: total,
-            held,
+            backing,
             alloc,
         })
     }
@@ -54,14 +54,14 @@ impl Arena {
         self.spare
     }
 
-    fn cut(&mut self, n: u32) -> Lot
+    fn cut(&mut self, n: u32) -> Run
         requires { n ≤ self.old.spare }
         ensures arena { self.new ≡ with_cut self.old n }
-        ensures lot { IsLot result self.old.name (self.old.total - self.old.spare) n [] }
+        ensures run { IsRun result self.old.name (self.old.total - self.old.spare) n [] }
         ensures small { self.old.total < 2 ^ 32 }
     {
         self.spare -= n;
-        replace_with(&mut self.held, n, Held::cut)
+        replace_with(&mut self.backing, n, Backing::cut)
     }
 
     /// Cuts the next `n` words.
@@ -70,8 +70,8 @@ impl Arena {
         ensures piece { result ≡ blank_piece self.old n }
         ensures arena { self.new ≡ with_cut self.old n }
     {
-        let lot = self.cut(n);
-        Words::blank(lot, n)
+        let run = self.cut(n);
+        Words::blank(run, n)
     }
 
     /// The words of a piece come back. The order in which pieces come back is free.
@@ -80,8 +80,8 @@ impl Arena {
         ensures was_out { length w.words ≤ self.old.out }
         ensures arena { self.new ≡ with_back self.old (length w.words) }
     {
-        let lot = w.into_lot();
-        replace_with(&mut self.held, lot, Held::settle);
+        let run = w.into_run();
+        replace_with(&mut self.backing, run, Backing::take_back);
     }
 
     /// Gives the memory back. A piece of no words holds none of it.
@@ -90,10 +90,10 @@ impl Arena {
     {
         let Arena {
             spare: _,
-            held,
+            backing,
             alloc,
         } = self;
-        held.end(&alloc);
+        backing.end(&alloc);
     }
 
     /// Adds the next `n` words to the piece that was cut last. They may hold any values.
@@ -105,8 +105,8 @@ impl Arena {
         ensures words { take (length w.old.words) w.new.words ≡ w.old.words }
         ensures longer { length w.new.words ≡ length w.old.words + n }
     {
-        let lot = self.cut(n);
-        w.grow(lot, n);
+        let run = self.cut(n);
+        w.grow(run, n);
     }
 
     /// Takes the last `n` words of the piece that was cut last.
@@ -116,8 +116,8 @@ impl Arena {
         ensures arena { self.new ≡ with_uncut self.old n }
         ensures piece { w.new ≡ with_words w.old (take (length w.old.words - n) w.old.words) }
     {
-        let lot = w.shrink(n);
-        replace_with(&mut self.held, lot, Held::uncut);
+        let run = w.shrink(n);
+        replace_with(&mut self.backing, run, Backing::uncut);
         self.spare += n;
     }
 }

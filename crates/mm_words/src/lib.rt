@@ -1,11 +1,11 @@
 //! One allocation of 32-bit words, cut into pieces that own their words.
 #![tactic(auto)]
 
+mod allocation;
 mod arena;
-mod charter;
-mod deed;
-mod held;
-mod lot;
+mod backing;
+mod loan;
+mod run;
 #[cfg(test)]
 mod tests;
 mod words;

@@ -3,11 +3,11 @@ ghost use Rattle.std.specs.Prelude.{length, take, replicate, slice_index, slice_
 ghost use Rattle.std.specs.Borrow.{sem};
 ghost use Rattle.std_alloc.specs.Vec.{vec_ptr, vec_len, vec_capacity};
 ghost use Rattle.mm_words.specs.Piece.{with_words, Apart};
-ghost use Rattle.mm_words.specs.Runs.{IsLot};
+ghost use Rattle.mm_words.specs.Runs.{IsRun};
 ghost use Rattle.mm_words.specs.Writes.{written};
 
-use crate::deed::Deed;
-use crate::lot::Lot;
+use crate::loan::Loan;
+use crate::run::Run;
 use core::mem::replace_with;
 use std::marker::Model;
 use std_alloc::vec::{Lodged, Vec};
@@ -15,7 +15,7 @@ use std_alloc::vec::{Lodged, Vec};
 /// Words that were cut from an arena. They go back by `Arena::take_back`, and can't be dropped.
 pub struct Words {
     row: Vec<u32, Lodged>,
-    deed: Deed,
+    loan: Loan,
 }
 
 impl Model for Words {
@@ -25,9 +25,9 @@ impl Model for Words {
 
     ghost use Rattle.mm_words.specs.Seated.{IsFull};
 
-    ghost view = { λ w. record { arena = w.deed.arena; place = w.deed.place; words = w.row.items } };
+    ghost view = { λ w. record { arena = w.loan.arena; place = w.loan.place; words = w.row.items } };
 
-    ghost invariant = { λ w. IsFull w.row w.deed };
+    ghost invariant = { λ w. IsFull w.row w.loan };
 }
 
 impl Words {
@@ -88,67 +88,67 @@ impl Words {
         ensures apart { Apart self other }
     {
         let (len, more) = (self.len(), other.len());
-        let (lot, next) = self.into_lot().apart(other.into_lot());
-        let (row, deed) = lot.open(len);
-        let words = Words { row, deed };
-        let (row, deed) = next.open(more);
-        (words, Words { row, deed })
+        let (run, next) = self.into_run().apart(other.into_run());
+        let (row, loan) = run.open(len);
+        let words = Words { row, loan };
+        let (row, loan) = next.open(more);
+        (words, Words { row, loan })
     }
 
-    // The words of the lot, all 0.
-    pub(crate) fn blank(lot: Lot, n: u32) -> Words
-        requires { (lot.words ≡ []) × (lot.len ≡ n) }
-        ensures place { (result.arena ≡ lot.arena) × (result.place ≡ lot.place) }
+    // The words of the run, all 0.
+    pub(crate) fn blank(run: Run, n: u32) -> Words
+        requires { (run.words ≡ []) × (run.len ≡ n) }
+        ensures place { (result.arena ≡ run.arena) × (result.place ≡ run.place) }
         ensures words { result.words ≡ replicate n 0 }
     {
-        let (row, deed) = lot.open(0);
+        let (row, loan) = run.open(0);
         let row = with_zeros(row, n as usize);
-        Words { row, deed }
+        Words { row, loan }
     }
 
-    pub(crate) fn into_lot(self) -> Lot
-        ensures { IsLot result self.arena self.place (length self.words) self.words }
+    pub(crate) fn into_run(self) -> Run
+        ensures { IsRun result self.arena self.place (length self.words) self.words }
     {
-        let Words { row, deed } = self;
-        Lot::close(row, deed)
+        let Words { row, loan } = self;
+        Run::close(row, loan)
     }
 
-    // The lot lies right behind the words.
-    fn with_lot(self, lot: (Lot, u32)) -> (Words, ())
-        requires beside { (lot.0.arena ≡ self.arena) × (lot.0.place ≡ self.place + length self.words) }
-        requires fits { (lot.0.len ≡ lot.1) × (length self.words + lot.1 < 2 ^ 32) }
-        ensures { result.0 ≡ with_words self (self.words ++ replicate lot.1 0) }
+    // The run lies right behind the words.
+    fn with_run(self, run: (Run, u32)) -> (Words, ())
+        requires beside { (run.0.arena ≡ self.arena) × (run.0.place ≡ self.place + length self.words) }
+        requires fits { (run.0.len ≡ run.1) × (length self.words + run.1 < 2 ^ 32) }
+        ensures { result.0 ≡ with_words self (self.words ++ replicate run.1 0) }
     {
-        let (next, n) = lot;
+        let (next, n) = run;
         let len = self.len();
-        let (row, deed) = self.into_lot().join(next).open(len);
+        let (row, loan) = self.into_run().join(next).open(len);
         let row = with_zeros(row, n as usize);
-        (Words { row, deed }, ())
+        (Words { row, loan }, ())
     }
 
-    pub(crate) fn grow(&mut self, lot: Lot, n: u32)
-        requires beside { (lot.arena ≡ self.old.arena) × (lot.place ≡ self.old.place + length self.old.words) }
-        requires fits { (lot.len ≡ n) × (length self.old.words + n < 2 ^ 32) }
+    pub(crate) fn grow(&mut self, run: Run, n: u32)
+        requires beside { (run.arena ≡ self.old.arena) × (run.place ≡ self.old.place + length self.old.words) }
+        requires fits { (run.len ≡ n) × (length self.old.words + n < 2 ^ 32) }
         ensures { self.new ≡ with_words self.old (self.old.words ++ replicate n 0) }
     {
-        replace_with(self, (lot, n), Words::with_lot);
+        replace_with(self, (run, n), Words::with_run);
     }
 
-    fn without_last(self, n: u32) -> (Words, Lot)
+    fn without_last(self, n: u32) -> (Words, Run)
         requires { n ≤ length self.words }
         ensures words { result.0 ≡ with_words self (take (length self.words - n) self.words) }
-        ensures lot { IsLot result.1 self.arena (self.place + (length self.words - n)) n [] }
+        ensures run { IsRun result.1 self.arena (self.place + (length self.words - n)) n [] }
     {
         let len = self.len() - n;
-        let (last, first) = self.into_lot().cut(len);
-        let (row, deed) = first.open(len);
-        (Words { row, deed }, last)
+        let (last, first) = self.into_run().cut(len);
+        let (row, loan) = first.open(len);
+        (Words { row, loan }, last)
     }
 
-    pub(crate) fn shrink(&mut self, n: u32) -> Lot
+    pub(crate) fn shrink(&mut self, n: u32) -> Run
         requires { n ≤ length self.old.words }
         ensures words { self.new ≡ with_words self.old (take (length self.old.words - n) self.old.words) }
-        ensures lot { IsLot result self.old.arena (self.old.place + (length self.old.words - n)) n [] }
+        ensures run { IsRun result self.old.arena (self.old.place + (length self.old.words - n)) n [] }
     {
         replace_with(self, n, Words::without_last)
     }

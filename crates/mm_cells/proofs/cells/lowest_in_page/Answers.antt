@@ -1,7 +1,7 @@
 use Rattle.std.proofs.Common.{◌≡◌, ◌-◌, ◌*◌, inl, inr, arith, sym, ◌∙◌}
 use Rattle.mm_cells.specs.declared.page_use.PageUse.TheVariants.{Unused, Class, First, Later}
-use Rattle.mm_cells.proofs.Covering.{MatchOption-map}
-use Rattle.mm_cells.proofs.Lowest.{NoneInPage-other, NoneInPage-class, IsLowestInPage-class, whole-answer}
+use Rattle.mm_cells.proofs.Region.Covering.{MatchOption-map}
+use Rattle.mm_cells.proofs.Region.Lowest.{NoneInPage-other, NoneInPage-class, IsLowestInPage-class, whole-answer}
 use Rattle.mm_cells.proofs.cells.lowest_in_page.Goals as goal
 
 pub lowest_small-requires-clause-class : goal.lowest_small-requires-clause-class

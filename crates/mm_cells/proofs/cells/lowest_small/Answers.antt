@@ -1,6 +1,6 @@
 use Rattle.std.proofs.Common.{arith}
-use Rattle.mm_cells.proofs.ClassSizes.{cells_in-most}
-use Rattle.mm_cells.proofs.Grains.{div_ceil-below, div_ceil-reaches}
+use Rattle.mm_cells.proofs.Sizes.ClassSizes.{cells_in-most}
+use Rattle.mm_cells.proofs.Sizes.Grains.{div_ceil-below, div_ceil-reaches}
 use Rattle.mm_cells.proofs.cells.lowest_small.Goals as goal
 
 pub lowest_taken-requires-clause-cells : goal.lowest_taken-requires-clause-cells

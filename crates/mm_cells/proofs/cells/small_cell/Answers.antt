@@ -1,5 +1,5 @@
 use Rattle.std.proofs.Common.{arith}
-use Rattle.mm_cells.proofs.ClassSizes.{cells_in-most}
+use Rattle.mm_cells.proofs.Sizes.ClassSizes.{cells_in-most}
 use Rattle.mm_cells.proofs.cells.small_cell.Goals as goal
 
 pub mark_at-requires-clause-cell : goal.mark_at-requires-clause-cell

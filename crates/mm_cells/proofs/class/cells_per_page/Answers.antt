@@ -1,5 +1,5 @@
 -- The table is tried at each class.
-use Rattle.mm_cells.proofs.Classes.{cells-class}
+use Rattle.mm_cells.proofs.Sizes.Classes.{cells-class}
 use Rattle.mm_cells.proofs.class.cells_per_page.Goals as goal
 
 pub returns : goal.returns

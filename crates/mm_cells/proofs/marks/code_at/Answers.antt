@@ -1,5 +1,5 @@
 -- The mask leaves one digit.
-use Rattle.mm_cells.proofs.Codes.{code_in-mask}
+use Rattle.mm_cells.proofs.Bits.Codes.{code_in-mask}
 use Rattle.mm_cells.proofs.marks.code_at.Goals as goal
 
 pub returns-clause-value : goal.returns-clause-value

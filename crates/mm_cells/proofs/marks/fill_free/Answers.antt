@@ -2,8 +2,8 @@
 use Rattle.std.proofs.Common.{◌≡◌, ◌+◌, ◌*◌, ◌/◌, ◌%◌, get_or, inl, inr, sym, ap, ◌∙◌, arith}
 use Rattle.mm_cells.specs.declared.marks.TheConstants.{ALL_FREE}
 use Rattle.mm_cells.specs.Marks.{mark_in, page_marks}
-use Rattle.mm_cells.proofs.Free.{ALL_FREE-free}
-use Rattle.mm_cells.proofs.Pages.{page_marks-word}
+use Rattle.mm_cells.proofs.Bits.Free.{ALL_FREE-free}
+use Rattle.mm_cells.proofs.Bits.Pages.{page_marks-word}
 use Rattle.mm_cells.proofs.marks.fill_free.Goals as goal
 
 pub returns-clause-page : goal.returns-clause-page

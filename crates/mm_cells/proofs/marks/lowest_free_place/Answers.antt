@@ -1,6 +1,6 @@
 -- The bits that are left stand for the free cells.
 use Rattle.std.proofs.Common.{arith}
-use Rattle.mm_cells.proofs.Free.{NoneFree-word, IsLowestFree-word}
+use Rattle.mm_cells.proofs.Bits.Free.{NoneFree-word, IsLowestFree-word}
 use Rattle.mm_cells.proofs.marks.lowest_free_place.Goals as goal
 
 pub returns-then-free-eq0 : goal.returns-then-free-eq0

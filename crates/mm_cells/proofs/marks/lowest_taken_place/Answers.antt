@@ -1,6 +1,6 @@
 -- The bits that are left stand for the taken cells.
 use Rattle.std.proofs.Common.{arith}
-use Rattle.mm_cells.proofs.Taken.{AllFreeFrom-word, IsLowestTaken-word}
+use Rattle.mm_cells.proofs.Bits.Taken.{AllFreeFrom-word, IsLowestTaken-word}
 use Rattle.mm_cells.proofs.marks.lowest_taken_place.Goals as goal
 
 pub returns-then-taken-eq0 : goal.returns-then-taken-eq0

@@ -1,13 +1,13 @@
 use Rattle.std.proofs.Common.{◌+◌, refl, arith}
 use Rattle.mm_cells.specs.declared.page_use.PageUse.TheVariants.{Unused}
-use Rattle.mm_cells.proofs.Spans.{SetsUses-none, SetsUses-more}
+use Rattle.mm_cells.proofs.Tables.Spans.{SetsUses-none, SetsUses-more}
 use Rattle.mm_cells.proofs.taking.clear_uses.Goals as goal
 
 pub loop-distance-init : goal.loop-distance-init
 loop-distance-init c = SetsUses-none c.args.table.now c.args.first (λ distance. Unused)
 
 pub set_use-requires-clause-within : goal.set_use-requires-clause-within
-set_use-requires-clause-within c = omega (arith, c.requires, c.loop-distance.invariant.same.pages)
+set_use-requires-clause-within c = omega (arith, c.requires.within, c.loop-distance.invariant.same.pages)
 
 pub loop-distance-preserved : goal.loop-distance-preserved
 loop-distance-preserved c =

@@ -1,5 +1,5 @@
 use Rattle.std.proofs.Common.{arith}
-use Rattle.mm_cells.proofs.ClassSizes.{cells_in-most}
+use Rattle.mm_cells.proofs.Sizes.ClassSizes.{cells_in-most}
 use Rattle.mm_cells.proofs.taking.has_room.Goals as goal
 
 pub lowest_free-requires-clause-cells : goal.lowest_free-requires-clause-cells

@@ -3,11 +3,11 @@ use Rattle.mm_cells.specs.declared.marks.Mark.TheVariants as marks
 use Rattle.mm_cells.specs.Marks.{AllFreeFrom, IsLowestTaken}
 use Rattle.mm_cells.specs.Map.{Map, mark_at, SetsMark}
 use Rattle.mm_cells.specs.Kept.{class_size, cells_in}
-use Rattle.mm_cells.proofs.ClassSizes.{cells_in-most}
-use Rattle.mm_cells.proofs.Blocks.{use_at-same}
-use Rattle.mm_cells.proofs.Placed.{cells_of-cell}
-use Rattle.mm_cells.proofs.Released.{IsNumberOf, IsTaken-number, class-within, IsKept-stays, IsKept-goes, cells_of-goes, use_at-goes}
-use Rattle.mm_cells.proofs.PageCells.{class-IsPageOf, unused-none_begins}
+use Rattle.mm_cells.proofs.Sizes.ClassSizes.{cells_in-most}
+use Rattle.mm_cells.proofs.Tables.Blocks.{use_at-same}
+use Rattle.mm_cells.proofs.Tables.Placed.{cells_of-cell}
+use Rattle.mm_cells.proofs.Region.Released.{IsNumberOf, IsTaken-number, class-within, KeepsCells-stays, KeepsCells-goes, cells_of-goes, use_at-goes}
+use Rattle.mm_cells.proofs.Region.PageCells.{class-IsPageOf, unused-none_begins}
 use Rattle.mm_cells.proofs.taking.release_cell.Goals as goal
 
 pub extent_of-requires : goal.extent_of-requires
@@ -37,8 +37,8 @@ lowest_taken-requires-clause-cells c =
     let known = (c.requires.kept.classes c.args.page c.args.class c.requires.used).0 in
     omega (arith, c.cells_per_page.ensures, cells_in-most c.args.class known)
 
-pub returns-in-Some-clause-gone : goal.returns-in-Some-clause-gone
-returns-in-Some-clause-gone c =
+pub returns-in-Some-clause-stays : goal.returns-in-Some-clause-stays
+returns-in-Some-clause-stays c = λ stays.
     let a : Map = c.args.table.now in
     let b : Map = c.set_mark.new.self in
     let known = (c.requires.kept.classes c.args.page c.args.class c.requires.used).0 in
@@ -66,17 +66,18 @@ returns-in-Some-clause-kept c =
     let taken : IsLowestTaken (mark_at b c.args.page) 0 (cells_in c.args.class) c.in-Some.field-0 =
     subst (λ (n : ℕ). IsLowestTaken (mark_at b c.args.page) 0 n c.in-Some.field-0) c.cells_per_page.ensures
     c.in-Some.ensures in
-    IsKept-stays a b c.set_room.new.self c.args.page c.args.class (c.args.offset / class_size c.args.class)
+    KeepsCells-stays a b c.set_room.new.self c.args.page c.args.class (c.args.offset / class_size c.args.class)
     c.in-Some.field-0 c.requires.kept c.requires.used number.within marked taken c.set_room.ensures
 
-pub returns-in-Some-clause-stays : goal.returns-in-Some-clause-stays
-returns-in-Some-clause-stays c = λ stays.
-    class-IsPageOf c.set_room.new.self c.args.page c.args.class (returns-in-Some-clause-kept c)
+pub returns-in-Some-clause-another : goal.returns-in-Some-clause-another
+returns-in-Some-clause-another c = λ stays.
+    let p = class-IsPageOf c.set_room.new.self c.args.page c.args.class (returns-in-Some-clause-kept c)
     (use_at-same c.set_mark.new.self c.set_room.new.self c.args.page c.set_room.ensures.uses
-    ∙ use_at-same c.args.table.now c.set_mark.new.self c.args.page c.set_mark.ensures.uses ∙ c.requires.used)
+    ∙ use_at-same c.args.table.now c.set_mark.new.self c.args.page c.set_mark.ensures.uses ∙ c.requires.used) in
+    (p.base, p.cell, p.begins, p.inside)
 
-pub returns-in-None-clause-gone : goal.returns-in-None-clause-gone
-returns-in-None-clause-gone c =
+pub returns-in-None-clause-goes : goal.returns-in-None-clause-goes
+returns-in-None-clause-goes c = λ goes.
     let a : Map = c.args.table.now in
     let b : Map = c.set_mark.new.self in
     let number : IsNumberOf c.args.class c.args.offset (c.args.offset / class_size c.args.class) =
@@ -93,12 +94,12 @@ returns-in-None-clause-gone c =
 
 pub returns-in-None-clause-kept : goal.returns-in-None-clause-kept
 returns-in-None-clause-kept c =
-    IsKept-goes c.args.table.now c.set_mark.new.self c.set_use.new.self c.set_room-in-None.new.self c.args.page
+    KeepsCells-goes c.args.table.now c.set_mark.new.self c.set_use.new.self c.set_room-in-None.new.self c.args.page
     c.args.class (c.args.offset / c.extent_of.result) c.requires.kept c.requires.used c.set_mark.ensures
     c.set_use.ensures c.set_room-in-None.ensures
 
-pub returns-in-None-clause-goes : goal.returns-in-None-clause-goes
-returns-in-None-clause-goes c = λ goes base cell begins.
+pub returns-in-None-clause-none : goal.returns-in-None-clause-none
+returns-in-None-clause-none c = λ goes base cell begins.
     unused-none_begins c.set_room-in-None.new.self c.args.page base cell (returns-in-None-clause-kept c)
     (use_at-goes c.set_mark.new.self c.set_use.new.self c.set_room-in-None.new.self c.args.page c.args.class
     c.set_use.ensures c.set_room-in-None.ensures) begins

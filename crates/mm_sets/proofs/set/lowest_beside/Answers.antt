@@ -9,4 +9,4 @@ returns-in-Some c = λ limit s.
     eqb-true _ 1 (sym c.test_bit.ensures ∙ c.if-not-test_bit.false) in
     IsLowestFrom-beside limit c.args.set.now c.args.from c.in-Some.found s (omega arith) shown
     (subst (λ (k : ℕ). IsLowestBitOf c.args.set.now k (32 * (4 + c.args.from / 32 + 1)) c.in-Some.found)
-    c.place_of.ensures c.in-Some.ensures)
+    c.member_bit.ensures c.in-Some.ensures)

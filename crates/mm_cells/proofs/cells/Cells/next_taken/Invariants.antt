@@ -1,5 +1,5 @@
 use Rattle.std.proofs.Common.{◌≡◌, ◌+◌, ◌-◌, ◌/◌, ◌≤◌}
-use Rattle.mm_cells.proofs.Lowest.{NoneBefore}
+use Rattle.mm_cells.proofs.Region.Lowest.{NoneBefore}
 use Rattle.mm_cells.proofs.cells.Cells.next_taken.Given as goal
 
 abbrev pub invariant-loop-page : goal.invariant-loop-page

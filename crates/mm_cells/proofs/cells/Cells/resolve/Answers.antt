@@ -1,6 +1,6 @@
 use Rattle.std.proofs.Common.{◌-◌, ◌/◌, arith, sym, ◌∙◌}
-use Rattle.mm_cells.proofs.Covering.{none-past, none-unused, none-free, class-has, whole-has, MatchOption-map}
-use Rattle.mm_cells.proofs.Sound.{IsSound-kept}
+use Rattle.mm_cells.proofs.Region.Covering.{none-past, none-unused, none-free, class-has, whole-has, MatchOption-map}
+use Rattle.mm_cells.proofs.Region.Soundness.{IsSoundCells-kept}
 use Rattle.mm_cells.proofs.cells.Cells.resolve.Goals as goal
 
 pub returns-then-pages-page-clause-cell : goal.returns-then-pages-page-clause-cell
@@ -8,7 +8,7 @@ returns-then-pages-page-clause-cell g c = rw (← c.self.view_is) (λ base cell 
     none-past c.self.inside.table c.args.word base cell c.self.invariant (omega arith) covers)
 
 pub returns-then-pages-page-clause-sound : goal.returns-then-pages-page-clause-sound
-returns-then-pages-page-clause-sound g c = rw (← c.self.view_is) (IsSound-kept c.self.inside.table c.self.invariant)
+returns-then-pages-page-clause-sound g c = rw (← c.self.view_is) (IsSoundCells-kept c.self.inside.table c.self.invariant)
 
 pub small_cell-requires-clause-class : goal.small_cell-requires-clause-class
 small_cell-requires-clause-class g c =
@@ -29,7 +29,7 @@ returns-in-Unused-clause-cell g c = rw (← c.self.view_is) (λ base cell covers
     none-unused c.self.inside.table c.args.word base cell c.self.invariant (sym c.in-Unused.ensures) covers)
 
 pub returns-in-Unused-clause-sound : goal.returns-in-Unused-clause-sound
-returns-in-Unused-clause-sound g c = rw (← c.self.view_is) (IsSound-kept c.self.inside.table c.self.invariant)
+returns-in-Unused-clause-sound g c = rw (← c.self.view_is) (IsSoundCells-kept c.self.inside.table c.self.invariant)
 
 pub returns-in-Class-clause-cell : goal.returns-in-Class-clause-cell
 returns-in-Class-clause-cell g c = rw (← c.self.view_is) (MatchOption-map c.small_cell.result _ _ _ _
@@ -43,7 +43,7 @@ returns-in-Class-clause-cell g c = rw (← c.self.view_is) (MatchOption-map c.sm
     c.small_cell.ensures)
 
 pub returns-in-Class-clause-sound : goal.returns-in-Class-clause-sound
-returns-in-Class-clause-sound g c = rw (← c.self.view_is) (IsSound-kept c.self.inside.table c.self.invariant)
+returns-in-Class-clause-sound g c = rw (← c.self.view_is) (IsSoundCells-kept c.self.inside.table c.self.invariant)
 
 pub returns-in-First-clause-cell : goal.returns-in-First-clause-cell
 returns-in-First-clause-cell g c =
@@ -53,7 +53,7 @@ returns-in-First-clause-cell g c =
     rw (← c.self.view_is) ((has.0, has.1, has.2 ∙ sym c.whole_cell.ensures.extent))
 
 pub returns-in-First-clause-sound : goal.returns-in-First-clause-sound
-returns-in-First-clause-sound g c = rw (← c.self.view_is) (IsSound-kept c.self.inside.table c.self.invariant)
+returns-in-First-clause-sound g c = rw (← c.self.view_is) (IsSoundCells-kept c.self.inside.table c.self.invariant)
 
 pub returns-in-Later-clause-cell : goal.returns-in-Later-clause-cell
 returns-in-Later-clause-cell g c =
@@ -64,4 +64,4 @@ returns-in-Later-clause-cell g c =
     rw (← c.self.view_is) ((has.0, has.1, has.2 ∙ sym (c.cell_from.ensures.extent later.count later.first)))
 
 pub returns-in-Later-clause-sound : goal.returns-in-Later-clause-sound
-returns-in-Later-clause-sound g c = rw (← c.self.view_is) (IsSound-kept c.self.inside.table c.self.invariant)
+returns-in-Later-clause-sound g c = rw (← c.self.view_is) (IsSoundCells-kept c.self.inside.table c.self.invariant)

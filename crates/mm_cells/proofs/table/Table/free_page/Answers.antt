@@ -1,5 +1,5 @@
 -- The part that was written has the marks alone.
-use Rattle.mm_cells.proofs.Maps.{marks_lent, FreesPage-with_marks}
+use Rattle.mm_cells.proofs.Tables.Maps.{marks_lent, FreesPage-with_marks}
 use Rattle.mm_cells.proofs.table.Table.free_page.Goals as goal
 
 pub returns : goal.returns

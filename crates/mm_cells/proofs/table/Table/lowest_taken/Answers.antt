@@ -2,7 +2,7 @@
 use Rattle.std.proofs.Common.{ℕ, MatchOption, subst, ap, ◌∙◌, ◌*◌}
 use Rattle.mm_cells.specs.declared.marks.Mark.{Mark}
 use Rattle.mm_cells.specs.Marks.{page_marks, AllFreeFrom, IsLowestTaken}
-use Rattle.mm_cells.proofs.Maps.{page_marks-map}
+use Rattle.mm_cells.proofs.Tables.Maps.{page_marks-map}
 use Rattle.mm_cells.proofs.table.Table.lowest_taken.Goals as goal
 
 pub returns : goal.returns

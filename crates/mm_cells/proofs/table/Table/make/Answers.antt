@@ -1,19 +1,19 @@
 -- The words of the uses and of the sets are filled with zeros.
 use Rattle.std.proofs.Common.{sym, subst}
 use Rattle.mm_words.specs.Piece.{Piece}
-use Rattle.mm_words.specs.Place.{place_of}
-use Rattle.mm_cells.specs.Map.{map_of, HasRoom, IsUntouched}
-use Rattle.mm_cells.proofs.Untouched.{filled-piece, HasRoom-filled, IsUntouched-filled}
+use Rattle.mm_words.specs.Location.{location_of}
+use Rattle.mm_cells.specs.Map.{map_of, FitsTable, IsUntouched}
+use Rattle.mm_cells.proofs.Tables.Untouched.{filled-piece, FitsTable-filled, IsUntouched-filled}
 use Rattle.mm_cells.proofs.table.Table.make.Goals as goal
 
 pub invariant_of-result : goal.invariant_of-result
-invariant_of-result c = subst (λ (p : Piece). HasRoom p c.args.pages)
+invariant_of-result c = subst (λ (p : Piece). FitsTable p c.args.pages)
     (sym (filled-piece c.args.words c.fill.new.self c.fill-2.new.self c.args.pages c.set_words.result c.fill.ensures
     c.set_words.ensures c.fill-2.ensures))
-    (HasRoom-filled c.args.words c.args.pages c.requires.two c.requires.most c.requires.room)
+    (FitsTable-filled c.args.words c.args.pages c.requires.two c.requires.most c.requires.room)
 
 pub returns : goal.returns
-returns c = subst (λ (p : Piece). IsUntouched (place_of c.args.words) c.args.pages (map_of p c.args.pages))
+returns c = subst (λ (p : Piece). IsUntouched (location_of c.args.words) c.args.pages (map_of p c.args.pages))
     (sym (filled-piece c.args.words c.fill.new.self c.fill-2.new.self c.args.pages c.set_words.result c.fill.ensures
     c.set_words.ensures c.fill-2.ensures))
     (IsUntouched-filled c.args.words c.args.pages c.requires.room)

@@ -2,7 +2,7 @@
 use Rattle.std.proofs.Common.{List, ℕ, MatchOption, subst}
 use Rattle.mm_sets.specs.Set.{IsEmpty, IsLowest}
 use Rattle.mm_cells.specs.Map.{map_of}
-use Rattle.mm_cells.proofs.Rooms.{set_lent, IsSet-lent, lowest_room}
+use Rattle.mm_cells.proofs.Tables.Rooms.{set_lent, IsSet-lent, lowest_room}
 use Rattle.mm_cells.proofs.table.Table.page_with_room.Goals as goal
 
 pub returns : goal.returns

@@ -1,7 +1,7 @@
 -- The part that was written is the set of the class.
 use Rattle.std.proofs.Common.{ap, arith}
 use Rattle.mm_cells.specs.Map.{Map}
-use Rattle.mm_cells.proofs.Rooms.{set_lent, IsSet-lent, HasRoom-with_set, SetsRoom-with_set}
+use Rattle.mm_cells.proofs.Tables.Rooms.{set_lent, IsSet-lent, FitsTable-with_set, SetsRoom-with_set}
 use Rattle.mm_cells.proofs.table.Table.set_room.Goals as goal
 
 pub invariant_of-self : goal.invariant_of-self
@@ -11,7 +11,7 @@ invariant_of-self c =
     c.self.invariant c.requires.class c.set_words-size.ensures c.part_mut-set.ensures.value in
     let set = c.set_member.ensures.set pages (omega (arith, ap (λ (m : Map). m.pages) c.self.view_is))
     (IsSet-lent c.self.invariant c.requires.class lent) in
-    rw c.set_words-size.ensures (HasRoom-with_set c.self.inside.words pages c.args.class c.part_mut-set.result.now
+    rw c.set_words-size.ensures (FitsTable-with_set c.self.inside.words pages c.args.class c.part_mut-set.result.now
     c.set_member.new.set c.self.invariant c.requires.class lent c.set_member.auto.set set)
 
 pub returns : goal.returns

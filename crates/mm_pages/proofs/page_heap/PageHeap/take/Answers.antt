@@ -5,7 +5,7 @@ use Rattle.mm_pages.specs.Pages.{Pages, IsFreeRun, IsLowestRun, IsQuick, unused,
 use Rattle.mm_pages.specs.Kept.{pages_of}
 use Rattle.mm_pages.proofs.Counts.{count_below-taken}
 use Rattle.mm_pages.proofs.Digits.{IsQuick-height}
-use Rattle.mm_pages.proofs.Kept.{none-short, none-past, IsLowestRun-fit, IsKept-taken}
+use Rattle.mm_pages.proofs.Kept.{none-short, none-past, IsLowestRun-fit, KeepsTree-taken}
 use Rattle.mm_pages.proofs.Trees.{Shows-head}
 use Rattle.mm_pages.proofs.page_heap.PageHeap.take.Goals as goal
 
@@ -48,7 +48,7 @@ pub invariant_of-self : goal.invariant_of-self
 invariant_of-self g c =
     let now = c.set_out.ensures ∙ ap (λ (e : Entries).
     record e { out = set e.out c.find-first.result c.args.k }) c.mark.ensures.rest in
-    rw now (IsKept-taken c.self.inside.table c.self.inside.limit c.self.inside.free c.find-first.result c.args.k
+    rw now (KeepsTree-taken c.self.inside.table c.self.inside.limit c.self.inside.free c.find-first.result c.args.k
     c.mark.new.self.tree c.self.invariant
     (c.find-first.ensures.lowest _ c.self.invariant.shows) c.requires (omega arith) c.mark.ensures.shows)
 
@@ -69,7 +69,7 @@ pub returns-clause-sound : goal.returns-clause-sound
 returns-clause-sound g c =
     let now = c.set_out.ensures ∙ ap (λ (e : Entries).
     record e { out = set e.out c.find-first.result c.args.k }) c.mark.ensures.rest in
-    let kept = IsKept-taken c.self.inside.table c.self.inside.limit c.self.inside.free c.find-first.result c.args.k
+    let kept = KeepsTree-taken c.self.inside.table c.self.inside.limit c.self.inside.free c.find-first.result c.args.k
     c.mark.new.self.tree c.self.invariant
     (c.find-first.ensures.lowest _ c.self.invariant.shows) c.requires (omega arith) c.mark.ensures.shows in
     rw now kept.sound

@@ -1,0 +1,4 @@
+pub mod Codes
+pub mod Free
+pub mod Pages
+pub mod Taken

@@ -1,0 +1,13 @@
+pub mod Begins
+pub mod Coloured
+pub mod Covering
+pub mod Empty
+pub mod Found
+pub mod Indexes
+pub mod Lowest
+pub mod PageCells
+pub mod Parking
+pub mod Released
+pub mod Sound
+pub mod Soundness
+pub mod Whitening

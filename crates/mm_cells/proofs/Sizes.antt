@@ -1,0 +1,3 @@
+pub mod ClassSizes
+pub mod Classes
+pub mod Grains

@@ -1,0 +1,11 @@
+pub mod Blocks
+pub mod Changed
+pub mod KeptBlocks
+pub mod Maps
+pub mod Marked
+pub mod Placed
+pub mod Rooms
+pub mod Spans
+pub mod TakenBlocks
+pub mod Untaken
+pub mod Untouched

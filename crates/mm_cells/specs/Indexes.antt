@@ -1,0 +1,55 @@
+-- Where the mark of a cell stands in a table, and which cells begin in a page.
+use Rattle.std.specs.Prelude.{◌≡◌, ◌≢◌, ◌+◌, ◌*◌, ◌/◌, ◌<◌, ◌≤◌, ℕ}
+use Rattle.mm_cells.specs.declared.page_use.PageUse.TheVariants.{Class, First}
+use Rattle.mm_cells.specs.declared.marks.Mark.TheVariants as marks
+use Rattle.mm_cells.specs.Map.{Map, use_at, mark_at}
+use Rattle.mm_cells.specs.Cells.{Taken, Cells, Begins}
+use Rattle.mm_cells.specs.Kept.{class_size, cells_in, cells_of}
+
+-- the cell of this mark begins at the base, and has so many bytes
+pub data MarksCell (m : Map) (page number base extent : ℕ) : Type 0 where
+  -- one of the cells of a page of a class
+  in_class : (class : ℕ) → page < m.pages → class < 19 → use_at m page ≡ Class class → number < cells_in class
+      → base ≡ 4096 * page + number * class_size class → extent ≡ class_size class → MarksCell m page number base extent
+  -- the one of some whole pages
+  in_whole : (count : ℕ) → page < m.pages → use_at m page ≡ First count → number ≡ 0 → base ≡ 4096 * page
+      → extent ≡ 4096 * count → MarksCell m page number base extent
+
+-- the mark is that of the taken cell that begins at the base
+pub record IsMarkIndex (m : Map) (page number base : ℕ) : Type 0 where
+  pub page_within : page < m.pages
+  pub number_within : number < 256
+  pub cell : Taken
+  pub begins : Begins (cells_of m) base cell
+  pub seat : MarksCell m page number base cell.extent
+  pub mark : mark_at m page number ≡ marks.Taken cell.colour cell.flags
+
+-- no taken cell that begins in the page does so at `from` or above
+abbrev pub NoneInPage : Cells → ℕ → ℕ → Type 0
+NoneInPage v page from = (base : ℕ) (cell : Taken) → Begins v base cell → base / 4096 ≡ page → base < from
+
+-- the lowest one that does
+pub record IsLowestInPage (v : Cells) (page from base : ℕ) : Type 0 where
+  pub cell : Taken
+  pub begins : Begins v base cell
+  pub here : base / 4096 ≡ page
+  pub reached : from ≤ base
+  pub least : (lower : ℕ) (other : Taken) → Begins v lower other → lower / 4096 ≡ page → from ≤ lower → base ≤ lower
+
+-- a taken cell of a page of this class, with its number in the page and its base
+pub record IsTakenIn (m : Map) (page class number base : ℕ) : Type 0 where
+  pub within : number < cells_in class
+  pub taken : mark_at m page number ≢ marks.Free
+  pub begins : base ≡ 4096 * page + number * class_size class
+
+-- none of them begins at so many bytes into the page or above
+abbrev pub NoneIn : Map → ℕ → ℕ → ℕ → Type 0
+NoneIn m page class offset =
+    (number : ℕ) → number < cells_in class → offset ≤ number * class_size class → mark_at m page number ≡ marks.Free
+
+-- the lowest one that does
+pub record IsLowestIn (m : Map) (page class offset base : ℕ) : Type 0 where
+  pub number : ℕ
+  pub cell : IsTakenIn m page class number base
+  pub reached : offset ≤ number * class_size class
+  pub lowest : (other : ℕ) → other < number → offset ≤ other * class_size class → mark_at m page other ≡ marks.Free
