@@ -31,7 +31,7 @@ use Rattle.mm_model.specs.Turns.{Turn, Born, births_if, births_of, births_in, wr
 use Rattle.mm_model.proofs.Lists.Replaced.{map-set}
 use Rattle.mm_model.proofs.Lists.Truth.{together, no_other}
 use Rattle.mm_model.proofs.Good.Allowed.{all_allowed, found_some, word_at-value}
-use Rattle.mm_laws.proofs.Keeping.Seeing.{SeesSame, is_put, same-put}
+use Rattle.mm_laws.proofs.Keeping.Seeing.{is_put, same-put}
 use Rattle.mm_laws.proofs.Turning.Bearing.{Views, SeesBorn, IsStable, bears-same, bears-carried, same-ended}
 use Rattle.mm_laws.proofs.Turning.Grids.{word_in, zeros, word_in-more, with_word, word_in-set_same, word_in-set_other}
 use Rattle.mm_laws.proofs.Turning.Replies.{reply-carried}

@@ -16,8 +16,8 @@ use Rattle.mm_model.specs.Effect.{Effect, look_effect}
 use Rattle.mm_model.specs.Refusing.{is_stack_full}
 use Rattle.mm_model.specs.Good.{IsGood}
 use Rattle.mm_model.specs.Step.{IsStepUnless, IsStep}
-use Rattle.mm_model.specs.Turns.{Turn, Born, births_in, made_for, reply_in}
-use Rattle.mm_model.specs.Faithful.{LooksAt, FollowsTarget, FollowsTargets}
+use Rattle.mm_model.specs.Turns.{Turn, Born, reply_in}
+use Rattle.mm_model.specs.Faithful.{LooksAt, FollowsTargets}
 use Rattle.mm_model.proofs.Good.Meanings.{is_meant}
 use Rattle.mm_model.proofs.Lists.Truth.{no_other}
 use Rattle.mm_laws.specs.WeakReferences.{IsMadeFor}

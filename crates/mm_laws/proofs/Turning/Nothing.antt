@@ -25,7 +25,7 @@ use Rattle.mm_model.specs.Effect.{Effect, with_some, pushes, put_effect, look_ef
 use Rattle.mm_model.specs.Refusing.{tests_of, first_refusal, refusal_row, refusal, no_cell, means_nothing, has_no_slot, is_outside, means_weak, is_stack_full}
 use Rattle.mm_model.specs.Step.{MakesWeak, Carries, IsCarriedOut, IsStepUnless, IsStep}
 use Rattle.mm_model.specs.Log.{IsRun}
-use Rattle.mm_model.specs.Turns.{is_group, is_refusal, reply_in}
+use Rattle.mm_model.specs.Turns.{is_group, reply_in}
 use Rattle.mm_model.proofs.Good.Meanings.{is_meant}
 use Rattle.mm_model.proofs.Good.Allowed.{all_allowed, found_some}
 use Rattle.mm_model.proofs.Good.Steps.{step_is_good}

@@ -41,10 +41,10 @@ use Rattle.mm_model.proofs.Good.Steps.{carries_stays}
 use Rattle.mm_model.proofs.Lists.Truth.{no_other}
 use Rattle.mm_laws.proofs.Keeping.Following.{get-released}
 use Rattle.mm_laws.proofs.Keeping.FollowingSteps.{keeps-searched, scanned-objects, strong-allowed}
-use Rattle.mm_laws.proofs.Keeping.Seeing.{SeesSame, same-object, same-plain}
+use Rattle.mm_laws.proofs.Keeping.Seeing.{same-object, same-plain}
 use Rattle.mm_model.proofs.Steps.Determining.{row_as, tail_of, row_after-carried}
 use Rattle.mm_model.proofs.Steps.Groups.{phases_in-phase_lines, freed_bases-phase_lines, freed_bases-append}
-use Rattle.mm_laws.proofs.Turning.Bearing.{Views, SeesBorn, bears-new, bears-weak, bears-area, bears-plain}
+use Rattle.mm_laws.proofs.Turning.Bearing.{Views, SeesBorn, bears-new, bears-weak, bears-area}
 
 -- what each way of freeing frees
 abbrev pub Dead : Way → State → ℕ → Type 0

@@ -25,7 +25,7 @@ use Rattle.mm_model.specs.Effect.{Effect, with_some, map_reply, pushes, put_effe
 use Rattle.mm_model.specs.Refusing.{first_refusal, refusal, no_cell, means_nothing, means_weak, is_outside, has_no_slot, refuses_in_slot, is_stack_full, word_at}
 use Rattle.mm_model.specs.Step.{MakesWeak, Carries, IsStepUnless, IsStep}
 use Rattle.mm_model.specs.Turns.{Turn, Born, born_at, births_if, births_of, births_in, made_for, last_written, reply_in}
-use Rattle.mm_model.specs.Faithful.{unless_full, inner_answer, get_answer, map_answer, born_slot_kind, put_answer, HoldsReference, HasObject, HasWeak, ActsOnOrigin, ReadsThroughReferences}
+use Rattle.mm_model.specs.Faithful.{unless_full, inner_answer, get_answer, map_answer, born_slot_kind, put_answer, HoldsReference, HasWeak, ActsOnOrigin, ReadsThroughReferences}
 use Rattle.mm_model.proofs.Good.Allowed.{word_at-value}
 use Rattle.mm_model.proofs.Good.Living.{each_get, each_append}
 use Rattle.mm_laws.specs.WeakReferences.{IsTarget, Partner, Freed, IsMadeFor}
