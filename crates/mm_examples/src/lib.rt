@@ -6,6 +6,7 @@ mod broken;
 mod collecting;
 mod counting;
 mod cycles;
+mod illegal;
 mod places;
 mod room;
 mod text;

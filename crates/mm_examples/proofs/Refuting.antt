@@ -1,0 +1,67 @@
+-- Logs whose last turn is no step, and so aren't legal.
+use Rattle.std.proofs.Common.{◌≡◌, ◌≤◌, ℕ, true, List, [], ◌∷◌, ◌++◌, Option, Some, None, refl, sym, ap, ◌∙◌, subst, append_assoc}
+use Rattle.mm_model.specs.declared.command.Command.{Command}
+use Rattle.mm_model.specs.declared.command.Command.TheVariants as commands
+use Rattle.mm_model.specs.declared.line.Line.{Line}
+use Rattle.mm_model.specs.declared.line.Line.TheVariants as lines
+use Rattle.mm_model.specs.declared.settings.Settings.{Settings}
+use Rattle.mm_model.specs.Object.{Object}
+use Rattle.mm_model.specs.State.{State, empty_state}
+use Rattle.mm_model.specs.Marking.{MayScan}
+use Rattle.mm_model.specs.Scan.{AreScanned}
+use Rattle.mm_model.specs.Refusing.{refusal}
+use Rattle.mm_model.specs.After.{after, scanned_bases}
+use Rattle.mm_model.specs.Step.{is_full, IsCarriedOut, IsStepUnless, IsStep}
+use Rattle.mm_model.specs.Log.{IsLegal}
+use Rattle.mm_model.specs.Turns.{Turn, is_group, AreSteps}
+use Rattle.mm_model.proofs.Faithful.Turns.{turns-same}
+use Rattle.mm_model.proofs.Good.Starting.{empty_is_good}
+use Rattle.mm_laws.proofs.Stepping.Determining.{scanned_bases-end}
+use Rattle.mm_laws.proofs.Turning.Faithful.{told-run}
+use Rattle.mm_examples.proofs.Breaking.{AreGroups, are_turns, lines_of, front, before}
+
+-- the last of turns that are steps
+last-step : (a : State) (turns : List Turn) (last : Turn) (b : State) → AreSteps a (turns ++ last ∷ []) b
+    → IsStep last.before last.command last.group last.after
+last-step a [] last b steps = steps.1
+last-step a (turn ∷ turns) last b steps = last-step turn.after turns last b steps.2
+
+pub not_legal : (settings : Settings) → settings.pages ≤ settings.max → (commands : List Command)
+    (groups : List (List Line)) (last : Turn) → AreGroups commands groups → is_group last.group ≡ true
+    → before settings commands groups ≡ last.before → last.after ≡ after last.before last.command last.group
+    → (IsStep last.before last.command last.group last.after → ⊥) → (b : State)
+    → IsLegal IsStep settings (commands ++ last.command ∷ []) (lines_of groups ++ last.group) b → ⊥
+not_legal settings growing commands groups last each group here next no_step b legal =
+    let all = commands ++ last.command ∷ [] in
+    let log = lines_of groups ++ last.group in
+    let told = told-run (empty_state settings) all log b (empty_is_good settings growing) legal in
+    let turns = front settings commands groups ++ last ∷ [] in
+    let same = turns-same settings all log told.turns turns
+    (record {
+      each_command = told.each_command;
+      cut = told.cut;
+      groups = told.groups;
+      joined = told.joined;
+    }) (are_turns settings commands groups last each group here next) in
+    no_step
+    (last-step (empty_state settings) (front settings commands groups) last b
+    (subst (λ ts. AreSteps (empty_state settings) ts b) same told.steps))
+
+-- where nothing may be scanned, `step` scans nothing
+pub scans_none : (a : State) (k : ℕ) (group : List Line) (b : State)
+    → ((birth : ℕ) (object : Object) → MayScan a birth object → ⊥) → refusal a (commands.Step k) ≡ None
+    → IsStep a (commands.Step k) group b → scanned_bases group ≡ []
+scans_none a k group b none allowed step =
+    carried (subst (λ r. IsStepUnless r a (commands.Step k) group b) allowed step)
+  where
+    no_lines : (births : List ℕ) (log : List Line) (c : State) → AreScanned a births log c → log ≡ []
+    no_lines [] log c scanned = scanned.0
+    no_lines (birth ∷ births) log c scanned = absurd (none birth scanned.0 scanned.2)
+
+    carried : IsCarriedOut a (commands.Step k) group b → scanned_bases group ≡ []
+    carried m =
+        let reply = lines.Reply m.effect.reply ∷ [] in
+        ap scanned_bases m.group_is
+        ∙ ap (λ log. scanned_bases (log ++ m.end_log ++ reply))
+        (no_lines m.carries.0.births m.log m.effect.state m.carries.0.scanned)
+        ∙ scanned_bases-end m.effect.state (is_full m.effect.reply) m.end m.effect.reply m.end_log m.ends
