@@ -1,5 +1,6 @@
 -- Logs whose last turn is no step, and so aren't legal.
 use Rattle.std.proofs.Common.{◌≡◌, ◌≤◌, ℕ, true, List, [], ◌∷◌, ◌++◌, Option, Some, None, refl, sym, ap, ◌∙◌, subst, append_assoc}
+use Rattle.std.proofs.lemmas.List.{append-nil}
 use Rattle.mm_model.specs.declared.command.Command.{Command}
 use Rattle.mm_model.specs.declared.command.Command.TheVariants as commands
 use Rattle.mm_model.specs.declared.line.Line.{Line}
@@ -8,7 +9,7 @@ use Rattle.mm_model.specs.declared.settings.Settings.{Settings}
 use Rattle.mm_model.specs.Object.{Object}
 use Rattle.mm_model.specs.State.{State, empty_state}
 use Rattle.mm_model.specs.Marking.{MayScan}
-use Rattle.mm_model.specs.Scan.{AreScanned}
+use Rattle.mm_model.specs.Scan.{AreScanned, IsEnough}
 use Rattle.mm_model.specs.Refusing.{refusal}
 use Rattle.mm_model.specs.After.{after, scanned_bases}
 use Rattle.mm_model.specs.Step.{is_full, IsCarriedOut, IsStepUnless, IsStep}
@@ -46,6 +47,44 @@ not_legal settings growing commands groups last each group here next no_step b l
     no_step
     (last-step (empty_state settings) (front settings commands groups) last b
     (subst (λ ts. AreSteps (empty_state settings) ts b) same told.steps))
+
+-- what a `step` that isn't refused scans
+pub record IsScanning (a : State) (k : ℕ) (group : List Line) : Type 0 where
+  pub births : List ℕ
+  pub log : List Line
+  pub after : State
+  pub scanned : AreScanned a births log after
+  pub enough : IsEnough k log after
+  -- the lines of parts are the same as those of the group
+  pub bases : scanned_bases log ≡ scanned_bases group
+
+scanned_bases-append : (log rest : List Line) → scanned_bases (log ++ rest) ≡ scanned_bases log ++ scanned_bases rest
+scanned_bases-append [] rest = refl
+scanned_bases-append (lines.Scan base slots ∷ log) rest =
+    ap (λ (bases : List ℕ). base ∷ bases) (scanned_bases-append log rest)
+scanned_bases-append (line ∷ log) rest = scanned_bases-append log rest
+
+pub scanning : (a : State) (k : ℕ) (group : List Line) (b : State) → refusal a (commands.Step k) ≡ None
+    → IsStep a (commands.Step k) group b → IsScanning a k group
+scanning a k group b allowed step =
+    carried (subst (λ r. IsStepUnless r a (commands.Step k) group b) allowed step)
+  where
+    carried : IsCarriedOut a (commands.Step k) group b → IsScanning a k group
+    carried m =
+        let reply = lines.Reply m.effect.reply ∷ [] in
+        record {
+          births = m.carries.0.births;
+          log = m.log;
+          after = m.effect.state;
+          scanned = m.carries.0.scanned;
+          enough = m.carries.0.enough;
+          bases = sym
+              (ap scanned_bases (m.group_is ∙ append_assoc m.log m.end_log reply)
+              ∙ scanned_bases-append m.log (m.end_log ++ reply)
+              ∙ ap (λ (bases : List ℕ). scanned_bases m.log ++ bases)
+              (scanned_bases-end m.effect.state (is_full m.effect.reply) m.end m.effect.reply m.end_log m.ends)
+              ∙ append-nil (scanned_bases m.log));
+        }
 
 -- where nothing may be scanned, `step` scans nothing
 pub scans_none : (a : State) (k : ℕ) (group : List Line) (b : State)
