@@ -1,18 +1,17 @@
 -- One part costs 65 at most, and leaves the object gray.
-use Rattle.std.proofs.Common.{◌≡◌, ℕ, ◌+◌, ◌≤◌, ◌<◌, zero, suc, false, true, List, length, take, drop, sum, ap, subst, [], ◌∷◌, Some, None, refl, sym, ◌∙◌, arith}
+use Rattle.std.proofs.Common.{◌≡◌, ℕ, zero, suc, false, List, length, drop, sum, ap, subst, [], ◌∷◌, Some, None, refl, sym, ◌∙◌, arith}
 use Rattle.std.proofs.lemmas.List.{length-take}
 use Rattle.mm_model.specs.declared.command.Command.{Command}
 use Rattle.mm_model.specs.declared.command.Command.TheVariants.{Begin, Step}
 use Rattle.mm_model.specs.declared.line.Line.{Line}
 use Rattle.mm_model.specs.declared.line.Line.TheVariants.{Scan}
-use Rattle.mm_model.specs.declared.object.Colour.{Colour}
-use Rattle.mm_model.specs.declared.object.Colour.TheVariants.{White, Gray}
+use Rattle.mm_model.specs.declared.object.Colour.TheVariants.{Gray}
 use Rattle.mm_model.specs.declared.object.Kind.TheVariants.{Traced}
 use Rattle.mm_model.specs.SizeClass.{class_sizes}
 use Rattle.mm_model.specs.Object.{Object, newborn}
-use Rattle.mm_model.specs.State.{State, empty_state}
+use Rattle.mm_model.specs.State.{State}
 use Rattle.mm_model.specs.Value.{reference}
-use Rattle.mm_model.specs.Marking.{MayScan, part_slots, part_done, done_of}
+use Rattle.mm_model.specs.Marking.{part_slots, part_done, done_of}
 use Rattle.mm_model.specs.Words.{scanned_slots}
 use Rattle.mm_model.specs.Scan.{AreScanned, IsNothingGray, IsEnough, Nothing_asked, Cost_reached, Nothing_left, costs}
 use Rattle.mm_model.specs.After.{after, scanned_bases}
@@ -21,7 +20,7 @@ use Rattle.mm_model.specs.Turns.{Turn}
 use Rattle.mm_laws.proofs.Turning.Knowing.{turn_of}
 use Rattle.mm_examples.specs.Examples.{usual, new, made, done, scanned}
 use Rattle.mm_examples.proofs.Breaking.{before}
-use Rattle.mm_examples.proofs.Refuting.{not_legal, IsScanning, scanning}
+use Rattle.mm_examples.proofs.Refuting.{not_legal, scanning}
 use Rattle.mm_examples.proofs.illegal.a_step_does_not_end_below_its_cost.Goals as goal
 
 abbrev first : List Command

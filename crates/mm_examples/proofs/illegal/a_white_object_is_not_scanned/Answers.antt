@@ -1,14 +1,13 @@
 -- The only object is white, so no part of it may be scanned.
-use Rattle.std.proofs.Common.{◌≡◌, ℕ, zero, suc, false, List, [], ◌∷◌, Some, None, refl, sym, ◌∙◌, arith}
+use Rattle.std.proofs.Common.{◌≡◌, ℕ, zero, suc, false, List, [], ◌∷◌, Some, None, refl, arith}
 use Rattle.mm_model.specs.declared.command.Command.{Command}
 use Rattle.mm_model.specs.declared.command.Command.TheVariants.{Pop, Begin, Step}
 use Rattle.mm_model.specs.declared.line.Line.{Line}
-use Rattle.mm_model.specs.declared.object.Colour.{Colour}
 use Rattle.mm_model.specs.declared.object.Colour.TheVariants.{White, Gray}
 use Rattle.mm_model.specs.declared.object.Kind.TheVariants.{Traced}
 use Rattle.mm_model.specs.SizeClass.{class_sizes}
 use Rattle.mm_model.specs.Object.{Object, newborn}
-use Rattle.mm_model.specs.State.{State, empty_state}
+use Rattle.mm_model.specs.State.{State}
 use Rattle.mm_model.specs.Marking.{MayScan}
 use Rattle.mm_model.specs.After.{after}
 use Rattle.mm_model.specs.Step.{IsStep}
