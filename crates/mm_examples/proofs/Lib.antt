@@ -1,5 +1,6 @@
 pub mod Breaking
 pub mod Freeing
+pub mod Refuting
 pub mod Running
 pub mod Scanning
 pub mod Searching

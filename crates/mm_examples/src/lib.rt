@@ -11,6 +11,7 @@ mod finalizers;
 mod finishing;
 mod full;
 mod held_often;
+mod illegal;
 mod places;
 mod room;
 mod text;

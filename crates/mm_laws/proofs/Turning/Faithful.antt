@@ -80,7 +80,7 @@ pub record AreTold (a : State) (commands : List Command) (log : List Line) (b : 
   pub joined : AreJoined a turns
   pub steps : AreSteps a turns b
 
-told-run : (a : State) (commands : List Command) (log : List Line) (b : State) → IsGood a
+pub told-run : (a : State) (commands : List Command) (log : List Line) (b : State) → IsGood a
     → IsRun IsStep a commands log b → AreTold a commands log b
 told-run a [] log b good run =
     record { turns = []; each_command = refl; cut = sym run.0; groups = tt; joined = tt; steps = run.1 }

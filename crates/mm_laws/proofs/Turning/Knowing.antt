@@ -6,7 +6,7 @@ use Rattle.std.proofs.lemmas.Grind.{flat_map-append}
 use Rattle.std.proofs.lemmas.Bool.{and_parts, eq-eqb}
 use Rattle.std.proofs.lemmas.Bool.Decides.{nat_tests}
 use Rattle.std.proofs.lemmas.Option.{slice_get-map, slice_get_within, slice_get_cases}
-use Rattle.std.specs.Prelude.{slice_get, slice_set, replicate, ◌&&◌, ◌||◌, ◌==◌, if◌then◌else◌}
+use Rattle.std.specs.Prelude.{nat_le, slice_get, slice_set, replicate, ◌&&◌, ◌||◌, ◌==◌, if◌then◌else◌}
 use Rattle.std.specs.Option.{option_map, option_map_or, option_and_then}
 use Rattle.mm_model.specs.declared.command.Command.{Command}
 use Rattle.mm_model.specs.declared.command.Command.TheVariants as commands
@@ -244,21 +244,21 @@ pub record IsPut (a : State) (i s j : ℕ) : Type 0 where
   pub is : slice_get a.objects birth ≡ Some object
   pub cell : slice_get a.stack j ≡ Some value
 
-cell-get : (a : State) (i : ℕ) → no_cell a i ≡ false → (value : Value) × (slice_get a.stack i ≡ Some value)
-cell-get a i e =
+-- what stands at an index that isn't past the end
+pub get-within : {X : Type 0} (xs : List X) (s : ℕ) → nat_le (length xs) s ≡ false → (x : X) × (slice_get xs s ≡ Some x)
+get-within {X} xs s e =
     ⊎_elim
-    (λ (l : (x : Value) × (i < length a.stack) × (slice_get a.stack i ≡ Some x) × (get_or a.stack i x ≡ x)).
-    (l.0, l.2))
-    (λ (r : (length a.stack ≤ i) × (slice_get a.stack i ≡ None)).
+    (λ (l : (x : X) × (s < length xs) × (slice_get xs s ≡ Some x) × (get_or xs s x ≡ x)). (l.0, l.2))
+    (λ (r : (length xs ≤ s) × (slice_get xs s ≡ None)).
     absurd (no_other e (let past = r.0 in grind (arith, nat_tests))))
-    (slice_get_cases a.stack i).1
+    (slice_get_cases xs s).1
 
 pub put-allowed : (a : State) (i s j : ℕ) → refusal a (commands.Put i s j) ≡ None → IsPut a i s j
 put-allowed a i s j allowed =
     let row = all_allowed (no_cell a i || no_cell a j) (means_nothing a i) (has_no_slot a i s) (refuses_in_slot a i s j)
     refusals.NoCell refusals.Nothing refusals.NoSlot refusals.NotCounted allowed in
     let found = found_some (object_meant a i) row.second_is in
-    let cell = cell-get a j (second (no_cell a i) (no_cell a j) row.first_is) in
+    let cell = get-within a.stack j (second (no_cell a i) (no_cell a j) row.first_is) in
     split (meant_at a i) refl found cell
   where
     second : (p q : Bool) → (p || q) ≡ false → q ≡ false

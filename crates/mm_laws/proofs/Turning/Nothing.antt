@@ -1,7 +1,5 @@
 -- A command that can answer `nothing` can't be refused as `nothing`, so commands and bytes determine the lines.
-use Rattle.std.proofs.Common.{◌≡◌, ℕ, ◌+◌, Bool, true, false, not, ◌&&◌, List, [], ◌∷◌, ◌++◌, Option, Some, None, refl, sym, ap, ◌∙◌, subst, ◌⊎◌, ⊎_elim, inl, inr, length, ◌<◌, ◌≤◌, get_or, arith}
-use Rattle.std.proofs.lemmas.Bool.Decides.{nat_tests}
-use Rattle.std.proofs.lemmas.Option.{slice_get_cases}
+use Rattle.std.proofs.Common.{◌≡◌, ℕ, ◌+◌, Bool, true, false, not, ◌&&◌, List, [], ◌∷◌, ◌++◌, Option, Some, None, refl, sym, ap, ◌∙◌, subst, ◌⊎◌, ⊎_elim, inl, inr, length}
 use Rattle.std.specs.Prelude.{IfSome, slice_get, nat_le, if◌then◌else◌}
 use Rattle.std.specs.List.{list_all}
 use Rattle.std.specs.Option.{option_map_or}
@@ -33,7 +31,7 @@ use Rattle.mm_model.proofs.Lists.Truth.{no_other}
 use Rattle.mm_laws.specs.Lines.{AreNothing, AreAlike}
 use Rattle.mm_laws.proofs.Keeping.FollowingSteps.{keeps-searched, strong-allowed}
 use Rattle.mm_model.proofs.Steps.Determining.{one_group_leads_to_one_state}
-use Rattle.mm_laws.proofs.Turning.Knowing.{put-allowed}
+use Rattle.mm_laws.proofs.Turning.Knowing.{get-within, put-allowed}
 use Rattle.mm_laws.proofs.Turning.PlainReplies.{IsQuietReply, object-replies, plain-replies}
 use Rattle.mm_laws.proofs.Turning.Replies.{group-step, reply-carried}
 
@@ -151,14 +149,6 @@ object-answer : (a : State) (birth : ℕ) (object : Object) → slice_get a.obje
     → is_answer (pushes_object a birth).reply ≡ false
 object-answer a birth object is =
     some-answer (slice_get a.objects birth) a (λ (x : Object). pushes (reference x.base birth) a) object is refl
-
-get-within : {X : Type 0} (xs : List X) (s : ℕ) → nat_le (length xs) s ≡ false → (x : X) × (slice_get xs s ≡ Some x)
-get-within {X} xs s e =
-    ⊎_elim
-    (λ (l : (x : X) × (s < length xs) × (slice_get xs s ≡ Some x) × (get_or xs s x ≡ x)). (l.0, l.2))
-    (λ (r : (length xs ≤ s) × (slice_get xs s ≡ None)).
-    absurd (no_other e (let past = r.0 in grind (arith, nat_tests))))
-    (slice_get_cases xs s).1
 
 -- the partner of what a cell means is there
 partner-there : (a : State) → IsGood a → (i : ℕ) (object : Object) → object_meant a i ≡ Some object → (other : ℕ)

@@ -180,10 +180,10 @@ row-is a command log tail effect placed carries none = row-plain log tail effect
 
 -- the reap at the end scans nothing, and is read back from its lines
 module _ (a : State) (full : Bool) (end : State) (reply : Reply) where
-  abbrev replied : List Line → List Line
+  abbrev pub replied : List Line → List Line
   replied log = log ++ lines.Reply reply ∷ []
 
-  scanned_bases-end : (log : List Line) → Ends a full log end → scanned_bases (replied log) ≡ []
+  pub scanned_bases-end : (log : List Line) → Ends a full log end → scanned_bases (replied log) ≡ []
   scanned_bases-end log (Refused_as_full is log_is end_is) = ap (λ log. scanned_bases (replied log)) log_is
   scanned_bases-end log (Below_threshold is below log_is end_is) = ap (λ log. scanned_bases (replied log)) log_is
   scanned_bases-end log (At_threshold is reached reaps) =

@@ -1,14 +1,13 @@
 -- The turns before the last are legal, and what the last one keeps and breaks is computed.
-use Rattle.std.proofs.Common.{◌≡◌, ℕ, zero, suc, true, false, List, [], ◌∷◌, Some, None, refl, sym, ap, ◌∙◌, subst, inl, arith}
+use Rattle.std.proofs.Common.{◌≡◌, ℕ, true, false, List, [], ◌∷◌, Some, None, refl, ap, ◌∙◌, subst, inl, arith}
 use Rattle.mm_model.specs.declared.command.Command.{Command}
 use Rattle.mm_model.specs.declared.line.Line.{Line}
 use Rattle.mm_model.specs.SizeClass.{class_sizes}
-use Rattle.mm_model.specs.Value.{integer, reference}
+use Rattle.mm_model.specs.Value.{reference}
 use Rattle.mm_model.specs.Object.{Object, newborn}
-use Rattle.mm_model.specs.State.{State, Lives, empty_state}
-use Rattle.mm_model.specs.Turns.{Turn, Born, CycleStates}
+use Rattle.mm_model.specs.State.{State, empty_state}
+use Rattle.mm_model.specs.Turns.{Turn, Born}
 use Rattle.mm_laws.proofs.Turning.Knowing.{turn_of}
-use Rattle.mm_laws.proofs.Turning.Looks.{weak-idle}
 use Rattle.mm_laws.proofs.Turning.Reading.{references-idle}
 use Rattle.mm_laws.proofs.Turning.Remembering.{Knows}
 use Rattle.mm_examples.specs.Broken.{Promise, References, Protected, WeakReferences, Collections, Cycles, Apart, KeepsAt}
