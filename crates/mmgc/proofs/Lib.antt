@@ -4,3 +4,4 @@ pub mod FrontFaults
 pub mod Replays
 pub mod Telling
 pub mod WritingLemmas
+pub mod Serving
