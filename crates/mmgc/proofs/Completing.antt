@@ -1,5 +1,5 @@
 -- Nothing but want of memory keeps a run from its end where its input has no fault and no call failed.
-use Rattle.std.proofs.Common.{◌≡◌, ◌≢◌, ℕ, ◌≤◌, Bool, true, false, List, [], ◌++◌, length, length-append, Option, Some, None, IsSome, refl, sym, ap, ◌∙◌, subst, append-nil, inl, inr, arith}
+use Rattle.std.proofs.Common.{◌≡◌, ◌≢◌, ℕ, ◌≤◌, Bool, true, false, List, [], ◌∷◌, ◌++◌, codes, if◌then◌else◌, length, length-append, Option, Some, None, IsSome, refl, sym, ap, ◌∙◌, subst, append-nil, inl, inr, arith}
 use Rattle.std.specs.Prelude.{IfSome, ◌⊎◌}
 use Rattle.mm_model.specs.Trace.{lines_of, FaultAt}
 use Rattle.mm_model.specs.FlatView.{FlatView}
@@ -10,7 +10,8 @@ use Rattle.mmgc.specs.Replaying.{reading_of, most_bytes}
 use Rattle.mmgc.specs.Completing.{IsTrace, IsUnhindered, IsComplete}
 use Rattle.mmgc.specs.Run.{Input, Output, NothingLeft, lines_seen, lines_in, Replayed}
 use Rattle.mmgc.specs.Program.{Traffic, IsInput, LacksMemory, FailsToOpen, Replays, Serves, Refuses, LacksMemoryForWords, Ran, status_of}
-use Rattle.mmgc.specs.Words.{Choice, choice_of, choice_read}
+use Rattle.clap.specs.Words.{takes}
+use Rattle.mmgc.specs.Words.{Choice, choice_of, choice_read, mmgc_app}
 use Rattle.mmgc.specs.declared.program.Outcome.{Outcome}
 use Rattle.mmgc.specs.declared.replay.End.{End}
 use Rattle.mmgc.specs.declared.replay.End.TheVariants.{Whole, Fault, ReadFailed, WriteFailed, TooLong}
@@ -47,14 +48,20 @@ fits_read None (Some rest) bytes trace told given = absurd given
 fits_read (Some all) (Some rest) bytes trace told given =
     omega (arith, trace.fits, ap length given, length-append bytes rest)
 
+-- what can be read is what the values say
 abbrev from_some : Choice → Option Choice → Choice
 from_some other None = other
 from_some other (Some choice) = choice
 
--- what can be read is what the values say
+read_by_values : (taken : Bool) (values : Option Choice) (read choice : Choice)
+    → (if taken then values else None) ≡ Some read → values ≡ Some choice → read ≡ choice
+read_by_values false values read choice r of = cc r
+read_by_values true values read choice r of = ap (λ o. from_some read o) (sym r ∙ of)
+
 same_choice : (words : List (List ℕ)) (read choice : Choice) → choice_read words ≡ Some read
     → choice_of words ≡ Some choice → read ≡ choice
-same_choice words read choice r of = ap (λ o. from_some read o) (sym r ∙ of)
+same_choice words read choice r of =
+    read_by_values (takes mmgc_app (codes "mmgc" ∷ words)) (choice_of words) read choice r of
 
 -- Each end but that of a whole input needs what an unhindered replay doesn't have.
 module _ (settings : Settings) (input : Input) (output : Output) (heap : FlatView)

@@ -1,5 +1,5 @@
 // The program, over whatever its bytes come from and go to.
-ghost use Rattle.std.specs.Prelude.{◌≡◌, ◌≤◌, ◌++◌, None, OnOk, OnErr, IsSome, codes, map, option_map, string_bytes};
+ghost use Rattle.std.specs.Prelude.{◌≡◌, ◌≤◌, ◌++◌, ◌∷◌, List, ℕ, None, OnOk, OnErr, IsSome, codes, map, option_map, string_bytes};
 ghost use Rattle.mm_io.specs.Faults.{CountsChoice};
 ghost use Rattle.mm_model.specs.Limits.{IsWithinLimits};
 ghost use Rattle.mmgc.specs.Completing.{IsComplete};
@@ -8,7 +8,7 @@ ghost use Rattle.mmgc.specs.Requests.{asked_by};
 ghost use Rattle.mmgc.specs.Telling.{IsTold, Takes, end_text, line_text};
 
 use crate::replay::{End, carry_out};
-use crate::words::{Request, WordsFault, read_words};
+use crate::words::{Request, WordsFault, list_words, read_words};
 use mm_gc::{Gc, Settings};
 use mm_io::{ChooseFault, Failed, Sink, Source, write_all};
 use mm_model::LineFault;
@@ -205,6 +205,48 @@ fn serve<S: Source, K: Sink, E: Sink>(
     }
 }
 
+/// Does what the words ask for. The first one is the program's name.
+fn serve_words<S: Source, K: Sink, E: Sink>(
+    alloc: Global,
+    list: &[&str],
+    source: &mut S,
+    out: &mut K,
+    err: &mut E,
+) -> Outcome
+    ensures ran { (words : List (List ℕ)) → map (λ word. word.now) list.now ≡ codes "mmgc" ∷ words → Ran words
+        (record {
+          named = S.named source.old;
+          input = record {
+            left = S.left source.old;
+            left_after = S.left source.new;
+            faults = S.faults source.old;
+            faults_after = S.faults source.new;
+          };
+          output = record {
+            taken = K.taken out.old;
+            taken_after = K.taken out.new;
+            faults = K.faults out.old;
+            faults_after = K.faults out.new;
+          };
+        })
+        result (λ text. IsTold (E.taken err.old) (E.taken err.new) (E.faults err.old) (E.faults err.new) text) }
+    ensures source { S.faults source.old ≤ S.faults source.new }
+    ensures out { K.faults out.old ≤ K.faults out.new }
+    ensures err { E.faults err.old ≤ E.faults err.new }
+{
+    match read_words(alloc, list) {
+        Ok(request) => serve(alloc, request, source, out, err),
+        Err(WordsFault::NoMemory) => no_memory(err),
+        Err(WordsFault::Refused) => {
+            tell(err, b"mmgc: bad arguments\n");
+            Outcome {
+                status: 2,
+                heap: None,
+            }
+        }
+    }
+}
+
 /// Reads a trace from `source`, carries it out, and writes its log to `out`; what went wrong is said on `err`.
 ///
 /// `words` are the words behind the program's name. A fault of `err` changes neither the status nor the log.
@@ -252,15 +294,8 @@ pub fn run<S: Source, K: Sink, E: Sink>(
     ensures out { K.faults out.old ≤ K.faults out.new }
     ensures err { E.faults err.old ≤ E.faults err.new }
 {
-    match read_words(alloc, words) {
-        Ok(request) => serve(alloc, request, source, out, err),
-        Err(WordsFault::NoMemory) => no_memory(err),
-        Err(WordsFault::Refused) => {
-            tell(err, b"mmgc: bad arguments\n");
-            Outcome {
-                status: 2,
-                heap: None,
-            }
-        }
+    match list_words(alloc, words) {
+        Ok(list) => serve_words(alloc, list.as_slice(), source, out, err),
+        Err(_) => no_memory(err),
     }
 }

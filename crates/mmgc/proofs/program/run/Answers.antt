@@ -1,19 +1,19 @@
--- What the words, the file and the replay come to.
-use Rattle.std.proofs.Common.{Err, ap, refl, inl, inr}
-use Rattle.mmgc.specs.Requests.{asked_by}
+-- What the words came to, and whether that was the whole of the input.
+use Rattle.std.proofs.Common.{map, ap, refl, inl, inr, ◌∙◌}
 use Rattle.mmgc.proofs.Completing.{complete}
 use Rattle.mmgc.proofs.program.run.Goals as goal
 
 pub returns-in-Ok-clause-ran : goal.returns-in-Ok-clause-ran
-returns-in-Ok-clause-ran g c = inr (inr (asked_by c.in-Ok.request, c.in-Ok.ensures.read, c.serve.ensures.served))
+returns-in-Ok-clause-ran g c =
+    c.serve_words.ensures.ran _ (ap (map (λ word. word.now)) c.as_slice.ensures.value ∙ c.in-Ok.ensures)
 
 pub returns-in-Ok-clause-complete : goal.returns-in-Ok-clause-complete
 returns-in-Ok-clause-complete g c =
-    complete _ _ c.serve.result _
-    (inr (inr (asked_by c.in-Ok.request, c.in-Ok.ensures.read, c.serve.ensures.served)))
+    complete _ _ c.serve_words.result _
+    (c.serve_words.ensures.ran _ (ap (map (λ word. word.now)) c.as_slice.ensures.value ∙ c.in-Ok.ensures))
 
-pub returns-in-Err-NoMemory-clause-ran : goal.returns-in-Err-NoMemory-clause-ran
-returns-in-Err-NoMemory-clause-ran g c =
+pub returns-in-Err-clause-ran : goal.returns-in-Err-clause-ran
+returns-in-Err-clause-ran g c =
     inr (inl (record {
       status = c.no_memory.ensures.status;
       no_heap = c.no_memory.ensures.heap;
@@ -22,22 +22,5 @@ returns-in-Err-NoMemory-clause-ran g c =
       unwritten = record { taken = refl; faults = refl };
     }))
 
-pub returns-in-Err-NoMemory-clause-complete : goal.returns-in-Err-NoMemory-clause-complete
-returns-in-Err-NoMemory-clause-complete g c u = inr c.no_memory.ensures.status
-
-pub returns-in-Err-Refused-clause-ran : goal.returns-in-Err-Refused-clause-ran
-returns-in-Err-Refused-clause-ran g c =
-    inl (record {
-      unreadable = c.in-Err-Refused.ensures.refused (ap (λ f. Err f) c.in-Err-Refused.field-0-is);
-      status = refl;
-      no_heap = refl;
-      text = c.tell.ensures;
-      unread = refl;
-      unwritten = record { taken = refl; faults = refl };
-    })
-
-pub returns-in-Err-Refused-clause-complete : goal.returns-in-Err-Refused-clause-complete
-returns-in-Err-Refused-clause-complete g c u =
-    let none = c.in-Err-Refused.ensures.refused (ap (λ f. Err f) c.in-Err-Refused.field-0-is) in
-    let some = u.readable in
-    cc (none, some)
+pub returns-in-Err-clause-complete : goal.returns-in-Err-clause-complete
+returns-in-Err-clause-complete g c u = inr c.no_memory.ensures.status

@@ -1,6 +1,7 @@
 use Rattle.std.proofs.Common.{◌++◌, length-append, arith, ◌∙◌, refl}
 use Rattle.mm_io.proofs.ToldLemmas.{Gives-append, Gives-nothing}
 use Rattle.mmgc.specs.Keeping.{keeps-same, keeps-trans}
+use Rattle.mmgc.specs.Logging.{moment_of}
 use Rattle.mmgc.proofs.Ends.{ended-since}
 use Rattle.mmgc.proofs.replay.Replay.read_all.Goals as goal
 
@@ -44,7 +45,8 @@ pub returns-in-Err-clause-ended : goal.returns-in-Err-clause-ended
 returns-in-Err-clause-ended g c start p =
     let inv = c.loop-count.invariant in
     let came = inv.came start p in
-    ended-since (g.S.Source.left c.args.source.now) (g.S.Source.faults c.args.source.now) came.given inv.clean
+    ended-since {now = moment_of g.K.Sink.taken c.turn.new.heap c.turn.new.self c.turn.new.log}
+    (g.S.Source.left c.args.source.now) (g.S.Source.faults c.args.source.now) came.given inv.clean
     (c.in-Err.ensures.turned start came.bytes came.room came.progress)
 
 pub returns-in-Err-clause-kept : goal.returns-in-Err-clause-kept
