@@ -7,16 +7,20 @@ ghost use Rattle.mm_model.specs.FlatView.{FlatView};
 ghost use Rattle.mmgc.specs.Program.{Ran};
 ghost use Rattle.mmgc.specs.Telling.{IsTold};
 
+mod generator;
 mod log;
 mod program;
+mod quiet;
 mod replay;
 #[cfg(test)]
 mod tests;
 mod words;
 
+pub use generator::generated;
 pub use log::LogWriter;
 use mm_io::{NoMemory, Sink, Source, StdSink, StdSource};
 pub use program::{Outcome, run};
+pub use quiet::Quiet;
 use std::alloc::Global;
 use std::io;
 use std::io::ErrorKind;
