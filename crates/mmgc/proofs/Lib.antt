@@ -4,5 +4,6 @@ pub mod FrontFaults
 pub mod Reading
 pub mod Replays
 pub mod Telling
+pub mod Unhindered
 pub mod WritingLemmas
 pub mod Serving

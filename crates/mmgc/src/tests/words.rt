@@ -7,11 +7,11 @@ use std::fs;
 use std::process::Abort;
 use std::test::Fail;
 
-fn check_words(
+fn check_words<'a>(
     rt: &impl Abort,
     alloc: Global,
-    words: &[&str],
-    trace: &str,
+    words: &'a [&'a str],
+    trace: &'a str,
     log: &str,
 ) -> Result<(), Fail> {
     let given = Given {
@@ -21,11 +21,11 @@ fn check_words(
     check(rt, alloc, &given, 0, log.as_bytes(), b"")
 }
 
-fn check_file(
+fn check_file<'a>(
     rt: &impl Abort,
     alloc: Global,
-    words: &[&str],
-    reads: &[u32],
+    words: &'a [&'a str],
+    reads: &'a [u32],
     status: u8,
     log: &[u8],
     said: &[u8],
@@ -100,43 +100,36 @@ fn a_named_file_takes_the_place_of_the_input(rt: HostRuntime) -> Result<(), Fail
     check_file(&rt, alloc, &["t"], &[], 0, log, b"")?;
     check_file(&rt, alloc, &["--", "t"], &[], 0, log, b"")?;
     check_file(&rt, alloc, &["u"], &[], 0, b"total 0 0 0 0\n", b"")?;
-    for words in [[].as_slice(), ["-"].as_slice()] {
-        check_file(
-            &rt,
-            alloc,
-            words,
-            &[],
-            1,
-            b"",
-            b"mmgc: line 1: wrong number of words\n",
-        )?;
-    }
+    let said = b"mmgc: line 1: wrong number of words\n".as_slice();
+    check_file(&rt, alloc, &[], &[], 1, b"", said)?;
+    check_file(&rt, alloc, &["-"], &[], 1, b"", said)?;
     check_file(&rt, alloc, &["t"], &[1], 3, b"", b"mmgc: read failed\n")
 }
 
-fn run_over_file(rt: &HostRuntime, name: &str, status: u8, log: &[u8]) -> Result<(), Fail> {
+// The status and the log.
+fn run_over_file(rt: &HostRuntime, name: &str) -> Result<(u8, MemSink), Fail> {
     let alloc = rt.alloc();
     let words = listed(alloc, &[name])?;
     let mut source = StdSource::make(rt, alloc)?;
     let mut out = MemSink::make(alloc, 100, 7, Vec::new(alloc))?;
     let mut err = MemSink::make(alloc, 100, 3, Vec::new(alloc))?;
-    let Outcome {
-        status: ended,
-        heap,
-    } = run(alloc, &words, &mut source, &mut out, &mut err);
+    let Outcome { status, heap } = run(alloc, &words, &mut source, &mut out, &mut err);
     if let Some(heap) = heap {
         heap.close();
     }
-    assert_eq!(*rt; ended, status);
-    assert_eq!(*rt; out.taken(), log);
-    Ok(())
+    Ok((status, out))
 }
 
 #[test]
 fn a_file_of_the_host_is_replayed(rt: HostRuntime) -> Result<(), Fail> {
     let name = "a_trace_of_one_object";
     fs::write(&rt, name, "new t 0 4\n")?;
-    run_over_file(&rt, name, 0, b"new 4096\ntotal 1 1 0 1\n")?;
+    let (status, log) = run_over_file(&rt, name)?;
+    assert_eq!(rt; status, 0);
+    assert_eq!(rt; log.taken(), b"new 4096\ntotal 1 1 0 1\n".as_slice());
     fs::remove_file(&rt, name)?;
-    run_over_file(&rt, name, 3, b"")
+    let (status, log) = run_over_file(&rt, name)?;
+    assert_eq!(rt; status, 3);
+    assert_eq!(rt; log.taken(), b"".as_slice());
+    Ok(())
 }
