@@ -30,4 +30,4 @@ pub record IsWritten {K : Type 0}
   pub told : StillTells (room before) (taken before) (taken now) at
   pub same_room : room now ≡ room before
   pub untouched : at ≡ 0 → now ≡ before
-  pub never_falls : faults before ≤ faults now
+  pub no_fault : faults now ≡ faults before

@@ -7,6 +7,7 @@
 
 mod fault;
 mod fault_plan;
+mod host;
 mod mem_sink;
 mod mem_source;
 mod sink;

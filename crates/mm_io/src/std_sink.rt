@@ -1,10 +1,9 @@
 // Standard output and standard error of the host.
-ghost use Rattle.std.specs.Prelude.{◌≡◌, ◌≤◌, length, None, IfOk};
+ghost use Rattle.std.specs.Prelude.{◌≡◌, None, IfOk};
 
+use crate::host::{flush_once, write_once};
 use crate::{Failed, NoMemory, Sink};
 use std::alloc::Global;
-use std::io;
-use std::io::Write;
 
 /// Writes standard output or standard error. It tells no bytes.
 ///
@@ -28,24 +27,6 @@ impl StdSink {
             faults: 0,
         })
     }
-
-    fn write_host(&self, bytes: &[u8]) -> io::Result<usize>
-        ensures { IfOk result (λ n. n ≤ length bytes.now) }
-    {
-        if self.to_error {
-            self.rt.stderr().write(bytes)
-        } else {
-            self.rt.stdout().write(bytes)
-        }
-    }
-
-    fn flush_host(&self) -> io::Result<()> {
-        if self.to_error {
-            self.rt.stderr().flush()
-        } else {
-            self.rt.stdout().flush()
-        }
-    }
 }
 
 impl Sink for StdSink {
@@ -54,22 +35,18 @@ impl Sink for StdSink {
     ghost taken = { λ _. None };
 
     fn write(&mut self, bytes: &[u8]) -> Result<usize, Failed> {
-        match self.write_host(bytes) {
-            Ok(n) if n > 0 => Ok(n),
-            _ => {
-                self.faults = self.faults.saturating_add(1);
-                Err(Failed)
-            }
+        if self.to_error {
+            write_once(&mut self.rt.stderr(), bytes, &mut self.faults)
+        } else {
+            write_once(&mut self.rt.stdout(), bytes, &mut self.faults)
         }
     }
 
     fn flush(&mut self) -> Result<(), Failed> {
-        match self.flush_host() {
-            Ok(()) => Ok(()),
-            Err(_) => {
-                self.faults = self.faults.saturating_add(1);
-                Err(Failed)
-            }
+        if self.to_error {
+            flush_once(&mut self.rt.stderr(), &mut self.faults)
+        } else {
+            flush_once(&mut self.rt.stdout(), &mut self.faults)
         }
     }
 }

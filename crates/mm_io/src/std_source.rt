@@ -1,11 +1,10 @@
 // Standard input and files of the host.
-ghost use Rattle.std.specs.Prelude.{◌≡◌, ◌≤◌, length, None, IfOk};
+ghost use Rattle.std.specs.Prelude.{◌≡◌, None, IfOk};
 
+use crate::host::{opened, read_once};
 use crate::{ChooseFault, Failed, NoMemory, Source};
 use std::alloc::Global;
 use std::fs::File;
-use std::io;
-use std::io::{ErrorKind, Read};
 
 /// Reads standard input, or the file that was chosen last. It tells no bytes.
 ///
@@ -28,16 +27,6 @@ impl StdSource {
             faults: 0,
         })
     }
-
-    fn read_host(&mut self, buf: &mut [u8]) -> io::Result<usize>
-        ensures within { IfOk result (λ n. n ≤ length buf.new) }
-        ensures uncounted { self.new.faults ≡ self.old.faults }
-    {
-        match &mut self.file {
-            Some(file) => file.read(buf),
-            None => self.rt.stdin().read(buf),
-        }
-    }
 }
 
 impl Source for StdSource {
@@ -48,26 +37,14 @@ impl Source for StdSource {
     ghost named = { λ _. None };
 
     fn choose(&mut self, name: &str) -> Result<(), ChooseFault> {
-        match File::open(&self.rt, name) {
-            Ok(file) => {
-                self.file = Some(file);
-                Ok(())
-            }
-            Err(error) if error.kind() == ErrorKind::OutOfMemory => Err(ChooseFault::NoMemory),
-            Err(_) => {
-                self.faults = self.faults.saturating_add(1);
-                Err(ChooseFault::Failed)
-            }
-        }
+        self.file = Some(opened(File::open(&self.rt, name), &mut self.faults)?);
+        Ok(())
     }
 
     fn read(&mut self, buf: &mut [u8]) -> Result<usize, Failed> {
-        match self.read_host(buf) {
-            Ok(n) => Ok(n),
-            Err(_) => {
-                self.faults = self.faults.saturating_add(1);
-                Err(Failed)
-            }
+        match &mut self.file {
+            Some(file) => read_once(file, buf, &mut self.faults),
+            None => read_once(&mut self.rt.stdin(), buf, &mut self.faults),
         }
     }
 }

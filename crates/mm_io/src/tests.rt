@@ -2,6 +2,8 @@ ghost use Rattle.std.specs.Prelude.{◌≡◌, ◌<◌, ◌≤◌, ◌⊎◌, le
 ghost use Rattle.mm_io.specs.Faults.{Rose};
 ghost use Rattle.mm_io.specs.Told.{Gives, Appends};
 
+mod host;
+
 use crate::{
     ChooseFault, Failed, MemSink, MemSource, Sink, Source, StdSink, StdSource, ZeroFaultSink,
     ZeroFaultSource, write_all,

@@ -15,6 +15,7 @@ mod write;
 
 pub use cutter::{Cut, Cutter};
 pub use mm_model::LineFault;
+pub use number::number_of;
 pub use parse::parse_line;
 pub use text::{fault_text, refusal_text};
 pub use write::write_line;

@@ -8,7 +8,7 @@ use mm_model::LineFault;
 const DIGITS: usize = 10;
 
 /// The number that a word spells: one to ten digits, and a value of 32 bits.
-pub(crate) fn number_of(word: &[u8]) -> Result<u32, LineFault>
+pub fn number_of(word: &[u8]) -> Result<u32, LineFault>
     ensures { result ≡ trace.number_of word.now }
 {
     if word.is_empty() || word.len() > DIGITS {

@@ -1,12 +1,18 @@
 -- Nothing but want of memory keeps a run from its end where its input has no fault and no call failed.
-use Rattle.std.proofs.Common.{◌≡◌, ◌≢◌, ℕ, ◌≤◌, Bool, true, false, List, [], ◌++◌, length, length-append, Option, Some, None, IsSome, refl, sym, ap, subst, append-nil, inl, arith}
-use Rattle.std.specs.Prelude.{IsSomeAnd}
+use Rattle.std.proofs.Common.{◌≡◌, ◌≢◌, ℕ, ◌≤◌, Bool, true, false, List, [], ◌∷◌, ◌++◌, codes, if◌then◌else◌, length, length-append, Option, Some, None, IsSome, refl, sym, ap, ◌∙◌, subst, append-nil, inl, inr, arith}
+use Rattle.std.specs.Prelude.{IfSome, ◌⊎◌}
 use Rattle.mm_model.specs.Trace.{lines_of, FaultAt}
 use Rattle.mm_model.specs.FlatView.{FlatView}
+use Rattle.mm_model.specs.declared.settings.Settings.{Settings}
+use Rattle.mm_io.specs.Faults.{Rose}
 use Rattle.mm_io.specs.Told.{Gives}
 use Rattle.mmgc.specs.Replaying.{reading_of, most_bytes}
-use Rattle.mmgc.specs.Completing.{IsTrace, IsComplete}
-use Rattle.mmgc.specs.Run.{NothingLeft, lines_seen, Replayed, status_of}
+use Rattle.mmgc.specs.Completing.{IsTrace, IsUnhindered, IsComplete}
+use Rattle.mmgc.specs.Run.{Input, Output, NothingLeft, lines_seen, lines_in, Replayed}
+use Rattle.mmgc.specs.Program.{Traffic, IsInput, LacksMemory, FailsToOpen, Replays, Serves, Refuses, LacksMemoryForWords, Ran, status_of}
+use Rattle.clap.specs.Words.{takes}
+use Rattle.mmgc.specs.Words.{Choice, choice_of, choice_read, mmgc_app}
+use Rattle.mmgc.specs.declared.program.Outcome.{Outcome}
 use Rattle.mmgc.specs.declared.replay.End.{End}
 use Rattle.mmgc.specs.declared.replay.End.TheVariants.{Whole, Fault, ReadFailed, WriteFailed, TooLong}
 use Rattle.mmgc.proofs.FrontFaults.{fault_of_front}
@@ -22,11 +28,11 @@ fault_seen true bytes rest fault nothing_left found =
 
 -- no fault is met in a trace
 no_fault_met : (left left_after : Option (List ℕ)) (bytes : List ℕ) (at_end : Bool) (fault : FaultAt)
-    → IsSomeAnd left IsTrace → IsSome left_after → Gives left left_after bytes
+    → IfSome left IsTrace → IsSome left_after → Gives left left_after bytes
     → (at_end ≡ true → NothingLeft left_after)
     → (reading_of (lines_seen at_end bytes)).fault ≢ Some fault
-no_fault_met None left_after bytes at_end fault trace told given nothing_left found = absurd trace
-no_fault_met (Some all) None bytes at_end fault trace told given nothing_left found = cc told
+no_fault_met left None bytes at_end fault trace told given nothing_left found = cc told
+no_fault_met None (Some rest) bytes at_end fault trace told given nothing_left found = absurd given
 no_fault_met (Some all) (Some rest) bytes at_end fault trace told given nothing_left found =
     let met = fault_seen at_end bytes rest fault nothing_left found in
     let none = trace.no_fault in
@@ -36,33 +42,60 @@ no_fault_met (Some all) (Some rest) bytes at_end fault trace told given nothing_
 
 -- no more bytes are read than a trace has
 fits_read : (left left_after : Option (List ℕ)) (bytes : List ℕ)
-    → IsSomeAnd left IsTrace → IsSome left_after → Gives left left_after bytes → length bytes ≤ most_bytes
-fits_read None left_after bytes trace told given = absurd trace
-fits_read (Some all) None bytes trace told given = cc told
+    → IfSome left IsTrace → IsSome left_after → Gives left left_after bytes → length bytes ≤ most_bytes
+fits_read left None bytes trace told given = cc told
+fits_read None (Some rest) bytes trace told given = absurd given
 fits_read (Some all) (Some rest) bytes trace told given =
     omega (arith, trace.fits, ap length given, length-append bytes rest)
 
--- each end but that of a whole input needs what an unhindered run doesn't have
-module _ (left left_after taken taken_after : Option (List ℕ))
-    (words read_faults read_faults_after faults faults_after : ℕ) (heap : FlatView) where
-  status_complete : (end : End)
-      → Replayed end left left_after read_faults read_faults_after taken taken_after faults faults_after heap
-      → IsComplete (status_of end) words left left_after read_faults read_faults_after faults faults_after
-  status_complete Whole r u = inl refl
-  status_complete (Fault line fault) r u =
-      absurd (no_fault_met left left_after r.bytes r.at_end (record { line = line; fault = fault }) u.trace u.told
-      r.given r.nothing_left r.carried.fault_is)
-  status_complete ReadFailed r u = absurd (u.reads r.cause)
-  status_complete WriteFailed r u = absurd (u.writes r.cause)
-  status_complete TooLong r u =
-      let fits = fits_read left left_after r.bytes u.trace u.told r.given in
-      let over = r.too_long in
+-- what can be read is what the values say
+abbrev from_some : Choice → Option Choice → Choice
+from_some other None = other
+from_some other (Some choice) = choice
+
+read_by_values : (taken : Bool) (values : Option Choice) (read choice : Choice)
+    → (if taken then values else None) ≡ Some read → values ≡ Some choice → read ≡ choice
+read_by_values false values read choice r of = cc r
+read_by_values true values read choice r of = ap (λ o. from_some read o) (sym r ∙ of)
+
+same_choice : (words : List (List ℕ)) (read choice : Choice) → choice_read words ≡ Some read
+    → choice_of words ≡ Some choice → read ≡ choice
+same_choice words read choice r of =
+    read_by_values (takes mmgc_app (codes "mmgc" ∷ words)) (choice_of words) read choice r of
+
+-- Each end but that of a whole input needs what an unhindered replay doesn't have.
+module _ (settings : Settings) (input : Input) (output : Output) (heap : FlatView)
+    (trace : IfSome input.left IsTrace) (told : IsSome input.left_after) where
+  ends_whole : (end : End) → Replayed end settings input output heap
+      → (Rose input.faults input.faults_after → ⊥) → (Rose output.faults output.faults_after → ⊥) → status_of end ≡ 0
+  ends_whole Whole r reads writes = refl
+  ends_whole (Fault line fault) r reads writes =
+      absurd (no_fault_met input.left input.left_after r.reach.read r.reach.at_end
+      (record { line = line; fault = fault }) trace told
+      (subst (Gives input.left input.left_after) (ap (λ over. r.reach.read ++ over) r.cause.0
+      ∙ append-nil r.reach.read) r.given)
+      r.nothing_left r.fault_is)
+  ends_whole ReadFailed r reads writes = absurd (reads r.cause.2)
+  ends_whole WriteFailed r reads writes = absurd (writes r.written.0)
+  ends_whole TooLong r reads writes =
+      let fits = fits_read input.left input.left_after (r.reach.read ++ r.reach.over) trace told r.given in
+      let over = r.cause.passes in
       absurd (omega (arith, fits, over))
 
-  -- the same at the status of an end
-  pub complete : (end : End) (status : ℕ) → status ≡ status_of end
-      → Replayed end left left_after read_faults read_faults_after taken taken_after faults faults_after heap
-      → IsComplete status words left left_after read_faults read_faults_after faults faults_after
-  complete end status is r =
-      subst (λ n. IsComplete n words left left_after read_faults read_faults_after faults faults_after) (sym is)
-      (status_complete end r)
+module _ (words : List (List ℕ)) (traffic : Traffic) (outcome : Outcome) (says : List ℕ → Type 0) where
+  serves_complete : (choice : Choice) → choice_of words ≡ Some choice → Serves choice traffic outcome says
+      → IsUnhindered words traffic → (outcome.status ≡ 0) ⊎ (outcome.status ≡ 5)
+  serves_complete choice of (inl lacks) u = inr lacks.status
+  serves_complete choice of (inr (inl fails)) u = absurd (u.reads fails.cause)
+  serves_complete choice of (inr (inr r)) u =
+      let same : u.choice ≡ choice = same_choice words u.choice choice u.readable of in
+      let trace = u.trace r.bytes (subst (λ (c : Choice). IsInput c.file traffic.named traffic.input.left r.bytes)
+      (sym same) r.input) in
+      inl (r.status ∙ ends_whole choice.settings (record traffic.input { left = r.bytes }) traffic.output r.heap
+      trace u.told r.end r.replayed u.reads u.writes)
+
+  -- nothing but want of memory keeps such a run from its end
+  pub complete : Ran words traffic outcome says → IsComplete words traffic outcome.status
+  complete (inl refuses) u = let none = refuses.unreadable in let some = u.readable in cc (none, some)
+  complete (inr (inl lacks)) u = inr lacks.status
+  complete (inr (inr serves)) u = serves_complete serves.0 serves.1 serves.2 u

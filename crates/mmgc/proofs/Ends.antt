@@ -1,62 +1,186 @@
 -- Ends of a replay, as a whole and by turns.
-use Rattle.std.proofs.Common.{◌≡◌, ℕ, ◌<◌, ◌≤◌, Bool, true, false, List, [], ◌∷◌, ◌++◌, length, refl, sym, ap, ◌∙◌, subst, append-nil, ◌⊎◌, inl, inr, IsTrue, Option, None, Result, Ok, Err, arith}
-use Rattle.mm_model.specs.FlatView.{FlatView}
-use Rattle.mm_io.specs.Faults.{Rose}
-use Rattle.mm_io.specs.Told.{Gives}
-use Rattle.mm_trace.specs.Held.{Held}
-use mathlib.Core.Path.{subst₂, subst₃}
+use Rattle.std.proofs.Common.{◌≡◌, ℕ, ◌+◌, ◌<◌, ◌≤◌, Bool, true, false, cond, List, [], ◌∷◌, ◌++◌, length, length-append, refl, sym, ap, ◌∙◌, subst, append-nil, ◌⊎◌, inl, inr, IsTrue, Option, Some, None, arith}
+use mathlib.Core.Path.{subst₂}
+use Rattle.mm_model.specs.declared.settings.Settings.{Settings}
+use Rattle.mm_model.specs.declared.line.Line.{Line}
 use Rattle.mm_model.specs.declared.line.Line.TheVariants as lines
 use Rattle.mm_model.specs.declared.line.Totals.{Totals}
-use Rattle.mm_model.specs.State.{empty_state}
-use Rattle.mm_model.specs.FlatView.{FlatShows}
+use Rattle.mm_model.specs.State.{State}
+use Rattle.mm_model.specs.FlatView.{FlatView}
 use Rattle.mm_model.specs.Journal.{Writes}
+use Rattle.mm_model.specs.Log.{IsLegal, IsWhole}
 use Rattle.mm_model.specs.Spelling.{spelling, spelling_of}
-use Rattle.mm_model.specs.Trace.{lines_of, FaultAt}
+use Rattle.mm_model.specs.Trace.{lines_of, complete_lines, FaultAt}
 use Rattle.mm_model.proofs.Text.Journals.{writes-append}
-use Rattle.mm_io.specs.Told.{Appends, AppendsFront}
-use Rattle.mm_trace.specs.Held.{nothing_held}
-use Rattle.mmgc.specs.Writing.{kept_bytes, Grows, Keeps}
-use Rattle.mmgc.specs.Replaying.{default_settings, Stopped, Progress}
-use Rattle.mmgc.proofs.Replays.{spelling_of-append, stopped-settled, progress-none}
-use Rattle.mmgc.proofs.WritingLemmas.{settled, broken_front}
-use Rattle.mmgc.specs.Run.{Ended, Totalled, Finished, Replayed, WholeLog, Logged, Carried, TakesPiece, Turns}
+use Rattle.mm_io.specs.Faults.{Rose}
+use Rattle.mm_io.specs.Told.{Appends, AppendsFront, Gives}
+use Rattle.mm_io.proofs.ToldLemmas.{Gives-append, Gives-nothing}
+use Rattle.mm_gc.specs.Built.{Step}
+use Rattle.mmgc.specs.Writing.{kept_bytes, Grows}
+use Rattle.mmgc.specs.Replaying.{reading_of, most_bytes, Kept, Grew, GrewSince, Start, Moment, Stopped, Progress}
+use Rattle.mmgc.specs.Run.{Input, Output, Reach, lines_in, NothingLeft, HasCause, IsFaultOf, IsLogOf, IsWritten, Replayed, Ended, Logged}
 use Rattle.mmgc.specs.declared.replay.End.{End}
 use Rattle.mmgc.specs.declared.replay.End.TheVariants.{Whole, Fault, ReadFailed, WriteFailed, TooLong}
+use Rattle.mmgc.proofs.Replays.{spelling_of-append, progress-stopped}
+use Rattle.mmgc.proofs.WritingLemmas.{settled, broken_front}
 
 -- a count that rose since some moment rose since any earlier one
 pub rose-since : (earlier before now : ℕ) → earlier ≤ before → Rose before now → Rose earlier now
 rose-since earlier before now l h = omega arith
 
-pub ended-since : (end : End) (start : Option (List ℕ)) (bytes : List ℕ) (left : Option (List ℕ))
-    (earlier before now : ℕ) (view : FlatView) (kept : Option (List ℕ)) (broken : Bool) →
-    earlier ≤ before → Ended end start bytes left before now view kept broken →
-    Ended end start bytes left earlier now view kept broken
-ended-since Whole start bytes left earlier before now view kept broken l h = h
-ended-since (Fault line fault) start bytes left earlier before now view kept broken l h = h
-ended-since ReadFailed start bytes left earlier before now view kept broken l h =
-    (rose-since earlier before now l h.0, h.1)
-ended-since WriteFailed start bytes left earlier before now view kept broken l h = h
-ended-since TooLong start bytes left earlier before now view kept broken l h = h
+-- The last line of an input is carried out, or has a fault.
+module _ {start : Start} {bytes : List ℕ} {input : Input} {now : Moment}
+    (given : Gives input.left input.left_after []) (nothing_left : NothingLeft input.left_after)
+    (clean : input.faults_after ≡ input.faults) where
+  pub ended-whole : Stopped start (lines_of bytes) None now.view now.kept → Ended Whole start bytes input now
+  ended-whole s =
+      record {
+        reach = record { read = bytes; over = []; at_end = true };
+        piece = [];
+        bytes_are = refl;
+        given = given;
+        nothing_left = λ e. nothing_left;
+        cause = (refl, (refl, clean));
+        fault = None;
+        fault_is = refl;
+        broken = λ e. cc e;
+        stopped = s;
+      }
 
--- a piece that the source gave was taken, or ended the replay
-pub turns-piece : (result : Result ℕ End) (start : Option (List ℕ)) (bytes piece : List ℕ) (room : ℕ)
-    (left after_left : Option (List ℕ)) (before now : ℕ)
-    (view : FlatView) (held : Held) (lines : ℕ) (kept : Option (List ℕ)) (broken : Bool) →
-    TakesPiece result start bytes piece room after_left before now view held lines kept broken →
-    Gives left after_left piece → 0 < length piece →
-    Turns result start bytes room left after_left before now view held lines kept broken
-turns-piece (Ok n) start bytes piece room left after_left before now view held lines kept broken t given some =
-    (piece, given, t.0, omega (arith, t.0, some), t.1, t.2)
-turns-piece (Err end) start bytes piece room left after_left before now view held lines kept broken t given some =
-    (piece, given, t)
+  pub ended-last_fault : (fault : FaultAt) → Stopped start (lines_of bytes) (Some fault) now.view now.kept →
+      Ended (Fault fault.line fault.fault) start bytes input now
+  ended-last_fault fault s =
+      record {
+        reach = record { read = bytes; over = []; at_end = true };
+        piece = [];
+        bytes_are = refl;
+        given = given;
+        nothing_left = λ e. nothing_left;
+        cause = (refl, clean);
+        fault = Some fault;
+        fault_is = refl;
+        broken = λ e. cc e;
+        stopped = s;
+      }
+
+-- A piece of an input has a line with a fault, or is too much.
+module _ {start : Start} {bytes : List ℕ} {input : Input} {now : Moment} (piece : List ℕ)
+    (given : Gives input.left input.left_after piece) (clean : input.faults_after ≡ input.faults) where
+  pub ended-fault : (fault : FaultAt) → Stopped start (complete_lines (bytes ++ piece)) (Some fault) now.view now.kept →
+      Ended (Fault fault.line fault.fault) start bytes input now
+  ended-fault fault s =
+      record {
+        reach = record { read = bytes ++ piece; over = []; at_end = false };
+        piece = piece;
+        bytes_are = append-nil (bytes ++ piece);
+        given = given;
+        nothing_left = λ e. cc e;
+        cause = (refl, clean);
+        fault = Some fault;
+        fault_is = refl;
+        broken = λ e. cc e;
+        stopped = s;
+      }
+
+  pub ended-too_long : Progress start bytes now → length bytes ≤ most_bytes →
+      most_bytes < length bytes + length piece → length piece ≤ 4096 → Ended TooLong start bytes input now
+  ended-too_long p fits passes one =
+      let more = length-append bytes piece in
+      record {
+        reach = record { read = bytes; over = piece; at_end = false };
+        piece = piece;
+        bytes_are = refl;
+        given = given;
+        nothing_left = λ e. cc e;
+        cause = record {
+          more_follow = refl;
+          fits = fits;
+          passes = omega (arith, more, passes);
+          one_read = one;
+          clean = clean;
+        };
+        fault = None;
+        fault_is = refl;
+        broken = λ e. cc e;
+        stopped = progress-stopped p;
+      }
+
+-- A read failed, or a write before it.
+module _ {start : Start} {bytes : List ℕ} {input : Input} {now : Moment}
+    (given : Gives input.left input.left_after []) (p : Progress start bytes now) where
+  pub ended-read_fault : Rose input.faults input.faults_after → Ended ReadFailed start bytes input now
+  ended-read_fault rose =
+      record {
+        reach = record { read = bytes; over = []; at_end = false };
+        piece = [];
+        bytes_are = refl;
+        given = given;
+        nothing_left = λ e. cc e;
+        cause = (refl, refl, rose);
+        fault = None;
+        fault_is = refl;
+        broken = λ e. cc e;
+        stopped = progress-stopped p;
+      }
+
+  pub ended-write_fault : IsTrue now.kept.broken → Ended WriteFailed start bytes input now
+  ended-write_fault broken =
+      record {
+        reach = record { read = bytes; over = []; at_end = false };
+        piece = [];
+        bytes_are = refl;
+        given = given;
+        nothing_left = λ e. cc e;
+        cause = tt;
+        fault = None;
+        fault_is = tt;
+        broken = λ e. broken;
+        stopped = progress-stopped p;
+      }
+
+-- a cause over the last turn is one over all turns, since no fault was counted before
+abbrev since : Input → Option (List ℕ) → ℕ → Input
+since input left faults =
+    record { left = left; left_after = input.left_after; faults = faults; faults_after = input.faults_after }
+
+cause-since : (end : End) (reach : Reach) (input : Input) (left : Option (List ℕ)) (faults : ℕ) →
+    input.faults ≡ faults → HasCause end reach input → HasCause end reach (since input left faults)
+cause-since Whole reach input left faults e h = (h.0, (h.1.0, h.1.1 ∙ e))
+cause-since (Fault line fault) reach input left faults e h = (h.0, h.1 ∙ e)
+cause-since ReadFailed reach input left faults e h = (h.0, h.1, subst (λ f. Rose f input.faults_after) e h.2)
+cause-since WriteFailed reach input left faults e h = tt
+cause-since TooLong reach input left faults e h =
+    record {
+      more_follow = h.more_follow;
+      fits = h.fits;
+      passes = h.passes;
+      one_read = h.one_read;
+      clean = h.clean ∙ e;
+    }
+
+pub ended-since : {end : End} {start : Start} {bytes : List ℕ} {input : Input} {now : Moment}
+    (left : Option (List ℕ)) (faults : ℕ) → Gives left input.left bytes → input.faults ≡ faults →
+    Ended end start bytes input now → Ended end start [] (since input left faults) now
+ended-since {end} {bytes = bytes} {input = input} left faults given e ended =
+    record {
+      reach = ended.reach;
+      piece = bytes ++ ended.piece;
+      bytes_are = ended.bytes_are;
+      given = Gives-append left input.left input.left_after bytes ended.piece given ended.given;
+      nothing_left = ended.nothing_left;
+      cause = cause-since end ended.reach input left faults e ended.cause;
+      fault = ended.fault;
+      fault_is = ended.fault_is;
+      broken = ended.broken;
+      stopped = ended.stopped;
+    }
 
 -- the total line makes a legal log whole
-pub whole-log : (start : Option (List ℕ)) (bytes : List ℕ) (view : FlatView) (kept after_kept : Option (List ℕ))
-    (broken after_broken : Bool) (totals : Totals) →
-    Stopped start (lines_of bytes) None view kept broken → totals ≡ view.totals →
-    Writes kept broken after_kept after_broken (spelling (lines.Total totals)) →
-    WholeLog start bytes view after_kept after_broken
-whole-log start bytes view kept after_kept broken after_broken totals s t w =
+pub logged-whole : {start : Start} (reach : Reach) {view : FlatView} {kept after : Kept} (totals : Totals) →
+    Stopped start (lines_in reach) None view kept → totals ≡ view.totals →
+    Grew kept after (spelling (lines.Total totals)) →
+    Logged (IsLogOf Whole start.settings reach) start view after
+logged-whole {start} reach {after = after} totals s t w =
     let line = lines.Total totals in
     let text : spelling_of s.log ++ spelling line ≡ spelling_of (s.log ++ line ∷ []) =
     ap (λ x. spelling_of s.log ++ x) (sym (append-nil (spelling line)))
@@ -64,235 +188,135 @@ whole-log start bytes view kept after_kept broken after_broken totals s t w =
     record {
       log = s.log ++ line ∷ [];
       state = s.carried.state;
-      whole = record {
+      logged = record {
         groups = s.log;
         legal = s.carried.legal;
         total = ap (λ (x : Totals). s.log ++ lines.Total x ∷ []) (t ∙ s.carried.shows.totals);
       };
       good = s.carried.good;
       shows = s.carried.shows;
-      written = subst (Writes start false after_kept after_broken) text
+      written = subst (GrewSince start after) text
           (writes-append (spelling_of s.log) (spelling line) s.written w);
     }
 
-pub totalled-other : (end : End) (start : Option (List ℕ)) (bytes : List ℕ) (left : Option (List ℕ))
-    (before now : ℕ) (view : FlatView) (kept : Option (List ℕ)) (broken : Bool) →
-    (end ≡ Whole → ⊥) → Ended end start bytes left before now view kept broken →
-    Totalled end start bytes left before now view kept broken
-totalled-other Whole start bytes left before now view kept broken other h = absurd (other refl)
-totalled-other (Fault line fault) start bytes left before now view kept broken other h = h
-totalled-other ReadFailed start bytes left before now view kept broken other h = h
-totalled-other WriteFailed start bytes left before now view kept broken other h = h
-totalled-other TooLong start bytes left before now view kept broken other h = h
+-- a legal log is that of every other end
+legal_is : (end : End) (settings : Settings) (reach : Reach) (log : List Line) (state : State) →
+    (end ≡ Whole → ⊥) → IsLegal Step settings (reading_of (lines_in reach)).commands log state →
+    IsLogOf end settings reach log state
+legal_is Whole settings reach log state other l = absurd (other refl)
+legal_is (Fault line fault) settings reach log state other l = l
+legal_is ReadFailed settings reach log state other l = l
+legal_is WriteFailed settings reach log state other l = inl l
+legal_is TooLong settings reach log state other l = l
 
--- a legal log, as one that is legal or whole
-logged : {start : Option (List ℕ)} {lines : List (List ℕ)} {fault : Option FaultAt} {view : FlatView} {kept : Option
-    (List ℕ)} {broken : Bool} →
-    Stopped start lines fault view kept broken → Logged start lines view kept broken
-logged s =
+pub logged-other : (end : End) {start : Start} (reach : Reach) {fault : Option FaultAt} {view : FlatView} {kept : Kept} →
+    (end ≡ Whole → ⊥) → Stopped start (lines_in reach) fault view kept →
+    Logged (IsLogOf end start.settings reach) start view kept
+logged-other end {start} reach other s =
     record {
       log = s.log;
-      logged = record {
-        state = s.carried.state;
-        legal = inl s.carried.legal;
-        good = s.carried.good;
-        shows =
-            s.carried.shows;
-      };
+      state = s.carried.state;
+      logged = legal_is end start.settings reach s.log s.carried.state other s.carried.legal;
+      good = s.carried.good;
+      shows = s.carried.shows;
       written = s.written;
     }
 
-module _ (start : Option (List ℕ)) (bytes : List ℕ) (left : Option (List ℕ)) (before now : ℕ) (view : FlatView)
-    (kept after_kept : Option (List ℕ)) (broken after_broken : Bool)
-    (w : Writes kept broken after_kept after_broken []) where
-  settled_whole : WholeLog start bytes view kept broken → WholeLog start bytes view after_kept after_broken
-  settled_whole l =
-      record {
-        log = l.log;
-        state = l.state;
-        whole = l.whole;
-        good = l.good;
-        shows = l.shows;
-        written = subst (Writes start false after_kept after_broken) (append-nil (spelling_of l.log))
-            (writes-append (spelling_of l.log) [] l.written w);
-      }
-
-  pub finished-well : (end : End) → after_broken ≡ false →
-      Totalled end start bytes left before now view kept broken →
-      Finished end start bytes left before now view after_kept after_broken
-  finished-well Whole e t = (e, t.0, t.1, settled_whole t.2)
-  finished-well (Fault line fault) e t = (e, (t.0, t.1, stopped-settled t.2 w))
-  finished-well ReadFailed e t = (e, (t.0, stopped-settled t.1 w))
-  finished-well WriteFailed e t = let lost = w.stays_broken t.0 in cc
-  finished-well TooLong e t = (e, (t.0, t.1, t.2, t.3, stopped-settled t.4 w))
-
-  pub finished-badly : (end : End) → after_broken ≡ true →
-      Totalled end start bytes left before now view kept broken →
-      Finished WriteFailed start bytes left before now view after_kept after_broken
-  finished-badly Whole e t =
-      let l = settled_whole t.2 in (
-        e,
-        bytes,
-        ([], append-nil bytes),
-        true,
-        record {
-          log = l.log;
-          logged = record {
-            state = l.state;
-            legal = inr l.whole;
-            good = l.good;
-            shows = l.shows;
-          };
-          written = l.written;
-        },
-      )
-  finished-badly (Fault line fault) e t = (e, bytes, ([], append-nil bytes), t.0, logged (stopped-settled t.2 w))
-  finished-badly ReadFailed e t = (e, bytes, ([], append-nil bytes), false, logged (stopped-settled t.1 w))
-  finished-badly WriteFailed e t = (e, bytes, ([], append-nil bytes), false, logged (stopped-settled t.1 w))
-  finished-badly TooLong e t = (e, t.0, t.1, false, logged (stopped-settled t.4 w))
-
--- nothing was read yet, in the words of what was made
-pub progress-made : (view heap : FlatView) (held : Held) (count : ℕ) (kept : Option (List ℕ)) (broken : Bool) →
-    heap ≡ view → held ≡ nothing_held → count ≡ 0 → broken ≡ false →
-    FlatShows view (empty_state default_settings) → Progress kept [] heap held count kept broken
-progress-made view heap held count kept broken h e n b shows =
-    subst₃ (λ v x k. Progress kept [] v x k kept broken) (sym h) (sym e) (sym n)
-    (subst (λ b. Progress kept [] view nothing_held 0 kept b) (sym b) (progress-none view kept shows))
-
--- what the sink took, where the log was written
-written_all : (t u start kept : Option (List ℕ)) (broken : Bool) (pending text : List ℕ) →
-    start ≡ kept_bytes t false [] → kept ≡ kept_bytes u broken pending →
-    broken ≡ false → (broken ≡ false → pending ≡ []) → Writes start false kept broken text → Appends t u text
-written_all t u start kept broken pending text s k b p w =
-    settled t u text
-    (subst₂ (λ x y. Writes x false y false text) s (k ∙ ap (λ c. kept_bytes u c pending) b
-    ∙ ap (kept_bytes u false) (p b))
-    (subst (λ c. Writes start false kept c text) b w))
-
-written_front : (t u start kept : Option (List ℕ)) (broken : Bool) (pending text : List ℕ) →
-    start ≡ kept_bytes t false [] → kept ≡ kept_bytes u broken pending →
-    broken ≡ true → Grows t u → Writes start false kept broken text → AppendsFront t u text
-written_front t u start kept broken pending text s k b g w =
-    broken_front t u pending text
-    (subst₂ (λ x y. Writes x false y true text) s (k ∙ ap (λ c. kept_bytes u c pending) b)
-    (subst (λ c. Writes start false kept c text) b w)) g
-
-carried-logged : {lines : List (List ℕ)} {fault : Option FaultAt} {start : Option
-    (List ℕ)} {view : FlatView} {kept : Option (List ℕ)} {broken : Bool} →
-    (s : Stopped start lines fault view kept broken) → Carried lines fault s.log view
-carried-logged s =
+-- a journal that writes nothing more
+pub logged-settled : {is_log : List Line → State → Type 0} {start : Start} {view : FlatView} {kept after : Kept} →
+    Logged is_log start view kept → Grew kept after [] → Logged is_log start view after
+logged-settled {start = start} {after = after} l w =
     record {
-      fault_is = s.fault_is;
-      state = s.carried.state;
-      legal = s.carried.legal;
-      good = s.carried.good;
-      shows =
-          s.carried.shows;
+      log = l.log;
+      state = l.state;
+      logged = l.logged;
+      good = l.good;
+      shows = l.shows;
+      written = subst (GrewSince start after) (append-nil (spelling_of l.log))
+          (writes-append (spelling_of l.log) [] l.written w);
     }
 
--- A replay from a sink that had taken t to one that has taken u.
-module _ (t u left left_after : Option (List ℕ)) (faults faults_after before now : ℕ) (start kept : Option (List ℕ))
-    (broken : Bool) (pending bytes : List ℕ) (view : FlatView)
-    (s : start ≡ kept_bytes t false []) (k : kept ≡ kept_bytes u broken pending) (none : broken ≡ false →
-    pending ≡ []) (grows : Grows t u)
-    (cause : broken ≡ true → Rose faults faults_after) (given : Gives left left_after bytes) where
-  pub replayed : (end : End) → Finished end start bytes left_after before now view kept broken →
-      Replayed end left left_after before now t u faults faults_after view
-  replayed Whole f =
-      record {
-        bytes = bytes;
-        given = given;
-        nothing_left = f.1;
-        no_fault = f.2;
-        log = f.3.log;
-        state = f.3.state;
-        whole = f.3.whole;
-        good = f.3.good;
-        shows = f.3.shows;
-        written = written_all t u start kept broken pending (spelling_of f.3.log) s k f.0 none f.3.written;
-      }
-  replayed (Fault line fault) f =
-      let stopped = f.1.2 in
-      record {
-        bytes = bytes;
-        given = given;
-        at_end = f.1.0;
-        nothing_left = f.1.1;
-        log = stopped.log;
-        carried =
-            carried-logged stopped;
-        written = written_all t u start kept broken pending (spelling_of stopped.log) s k f.0 none stopped.written;
-      }
-  replayed ReadFailed f =
-      let stopped = f.1.1 in
-      record {
-        bytes = bytes;
-        given = given;
-        cause = f.1.0;
-        log = stopped.log;
-        carried = carried-logged stopped;
-        written = written_all t u start kept broken pending (spelling_of stopped.log) s k f.0 none stopped.written;
-      }
-  replayed WriteFailed f =
-      let l = f.4 in
-      record {
-        bytes = bytes;
-        given = given;
-        cause = cause f.0;
-        read = f.1;
-        front = f.2;
-        at_end = f.3;
+-- the log of any end is one that a failed write may have cut short
+cut_short : (end : End) (settings : Settings) (reach : Reach) (input : Input) (log : List Line) (state : State) →
+    HasCause end reach input → IsFaultOf end (reading_of (lines_in reach)).fault →
+    IsLogOf end settings reach log state → IsLogOf WriteFailed settings reach log state
+cut_short Whole settings reach input log state cause none l = inr (cause.0, none, l)
+cut_short (Fault line fault) settings reach input log state cause found l = inl l
+cut_short ReadFailed settings reach input log state cause none l = inl l
+cut_short WriteFailed settings reach input log state cause any l = l
+cut_short TooLong settings reach input log state cause none l = inl l
+
+all_written : (end : End) (output : Output) (text : List ℕ) → (end ≡ WriteFailed → ⊥) →
+    output.faults_after ≡ output.faults → Appends output.taken output.taken_after text → IsWritten end output text
+all_written Whole output text well clean appended = (clean, appended)
+all_written (Fault line fault) output text well clean appended = (clean, appended)
+all_written ReadFailed output text well clean appended = (clean, appended)
+all_written WriteFailed output text well clean appended = absurd (well refl)
+all_written TooLong output text well clean appended = (clean, appended)
+
+-- what was whole didn't break before
+pub was_whole : {A : Type 0} (broken : Bool) → broken ≡ false → IsTrue broken ⊎ A → A
+was_whole broken whole (inl before) = cc (whole, before)
+was_whole broken whole (inr other) = other
+
+-- What a journal keeps, by its sink and by what is pending.
+abbrev kept_at : Option (List ℕ) → Bool → List ℕ → Kept
+kept_at taken broken pending = record { bytes = kept_bytes taken broken pending; broken = broken }
+
+-- what is known of the journal and its sink, where the log was finished
+pub record Finished (output : Output) (start : Start) (broken : Bool) (pending : List ℕ) : Type 0 where
+  pub started : start.kept ≡ kept_bytes output.taken false []
+  pub nothing_pending : broken ≡ false → pending ≡ []
+  pub grows : Grows output.taken output.taken_after
+  pub cause : IsTrue broken → Rose output.faults output.faults_after
+  pub clean : broken ≡ false → output.faults_after ≡ output.faults
+
+module _ {end : End} {start : Start} {input : Input} {now : Moment} (output : Output) (view : FlatView)
+    (ended : Ended end start [] input now) where
+  given_all : Gives input.left input.left_after (ended.reach.read ++ ended.reach.over)
+  given_all = subst (Gives input.left input.left_after) (sym ended.bytes_are) ended.given
+
+  fault_is : IsFaultOf end (reading_of (lines_in ended.reach)).fault
+  fault_is = subst (IsFaultOf end) (sym ended.stopped.fault_is) ended.fault_is
+
+  -- by whether the journal is broken in the end
+  pub replayed : (broken : Bool) (pending : List ℕ) (result : End) → result ≡ cond broken WriteFailed end →
+      (end ≡ WriteFailed → IsTrue broken) → Finished output start broken pending →
+      Logged (IsLogOf end start.settings ended.reach) start view (kept_at output.taken_after broken pending) →
+      Replayed result start.settings input output view
+  replayed false pending result is still f l =
+      subst (λ r. Replayed r start.settings input output view) (sym is) (record {
+        reach = ended.reach;
+        given = given_all;
+        nothing_left = ended.nothing_left;
+        cause = ended.cause;
+        fault_is = fault_is;
         log = l.log;
-        logged
-            = l.logged;
-        written = written_front t u start kept broken pending (spelling_of l.log) s k f.0 grows l.written;
-      }
-  replayed TooLong f =
-      let stopped = f.1.4 in
-      record {
-        bytes = bytes;
-        given = given;
-        read = f.1.0;
-        front = f.1.1;
-        fits = f.1.2;
-        too_long = f.1.3;
-        log =
-            stopped.log;
-        carried = carried-logged stopped;
-        written = written_all t u start kept broken pending (spelling_of stopped.log) s k f.0 none stopped.written;
-      }
-
--- the same, seen from where the sink comes back
-pub replayed-at : {K : Type 0} (taken : K → Option (List ℕ)) (count : K →
-    ℕ) (end : End) (left left_after : Option (List ℕ)) (before now : ℕ) (t : Option (List ℕ)) (faults : ℕ)
-    (last final : K) (view : FlatView) → final ≡ last → Replayed end left left_after before now t (taken last) faults
-    (count last) view →
-    Replayed end left left_after before now t (taken final) faults (count final) view
-replayed-at taken count end left left_after before now t faults last final view e r =
-    subst (λ k. Replayed end left left_after before now t (taken k) faults (count k) view) (sym e) r
-
--- a log writer that was just made keeps what its sink had taken
-pub started : {K : Type 0} (taken : K → Option (List ℕ)) (sink first : K) (broken : Bool) (pending : List ℕ) →
-    first ≡ sink → broken ≡ false → pending ≡ [] →
-    kept_bytes (taken first) broken pending ≡ kept_bytes (taken sink) false []
-started taken sink first broken pending s b p =
-    subst₃ (λ k c l. kept_bytes (taken k) c l ≡ kept_bytes (taken sink) false []) (sym s) (sym b) (sym p) refl
-
-was_whole : {A : Type 0} → IsTrue false ⊎ A → A
-was_whole (inl broken) = cc
-was_whole (inr other) = other
-
--- what is kept since a log writer was made, about its sink: its bytes only grew, it broke where a fault was counted, and the count never fell
-pub kept-since : {K : Type 0} (taken : K → Option (List ℕ)) (faults : K →
-    ℕ) (sink first last : K) (broken after_broken : Bool) → first ≡ sink → broken ≡ false →
-    {name after_name : ℕ} → Keeps name after_name (faults first) (faults last) (taken first)
-    (taken last) broken after_broken →
-    Grows (taken sink) (taken last) × (after_broken ≡ true → Rose (faults sink) (faults last))
-    × (faults sink ≤ faults last)
-kept-since taken faults sink first last broken after_broken s b {name} {after_name} k =
-    let since = subst₂ (λ k c. Keeps name after_name (faults k) (faults last) (taken k)
-    (taken last) c after_broken) s b k in (
-      since.grows,
-      (λ e. was_whole (since.cause e)),
-      since.never_falls,
-    )
+        state = l.state;
+        logged = l.logged;
+        good = l.good;
+        shows = l.shows;
+        written = all_written end output (spelling_of l.log) (λ e. let lost = still e in cc lost) (f.clean refl)
+            (settled output.taken output.taken_after (spelling_of l.log)
+            (subst₂ (λ x y. Writes x false y false (spelling_of l.log)) f.started
+            (ap (kept_bytes output.taken_after false) (f.nothing_pending refl)) l.written));
+      })
+  replayed true pending result is still f l =
+      subst (λ r. Replayed r start.settings input output view) (sym is) (record {
+        reach = ended.reach;
+        given = given_all;
+        nothing_left = ended.nothing_left;
+        cause = tt;
+        fault_is = tt;
+        log = l.log;
+        state = l.state;
+        logged = cut_short end start.settings ended.reach input l.log l.state ended.cause fault_is l.logged;
+        good = l.good;
+        shows = l.shows;
+        written = (
+          f.cause refl,
+          broken_front output.taken output.taken_after pending (spelling_of l.log)
+              (subst (λ x. Writes x false (kept_bytes output.taken_after true pending) true (spelling_of l.log))
+              f.started l.written) f.grows,
+        );
+      })

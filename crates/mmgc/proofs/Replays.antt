@@ -34,17 +34,18 @@ use Rattle.mm_model.proofs.Text.Faults.{fault_at_end, reading-end-none, reading-
 use Rattle.mm_trace.specs.Held.{Held, nothing_held, at_end, with_byte}
 use Rattle.mm_gc.specs.Built.{Step, carried_effect, unless_refused, built_effect, after}
 use Rattle.mm_gc.specs.Execution.{IsStep, Executes}
-use Rattle.mmgc.specs.Replaying.{built_reading, only_built, reading_of, default_settings, CarriedOut, Stopped, Progress, DoesLine, CarriesOut, GoesOn, IsUnderWay, most_bytes}
+use Rattle.mm_model.specs.declared.settings.Settings.{Settings}
+use Rattle.mmgc.specs.Replaying.{built_reading, only_built, reading_of, CarriedOut, Stopped, Progress, DoesLine, CarriesOut, GoesOn, IsUnderWay, most_bytes, Kept, Grew, GrewSince, Start, Moment, IsNew}
 
 -- one log after another
 pub spelling_of-append : (xs ys : List Line) → spelling_of (xs ++ ys) ≡ spelling_of xs ++ spelling_of ys
 spelling_of-append xs ys = flat_map-append spelling xs ys
 
 -- a command was executed, and its reply was written
-pub carries_out : {old new : FlatView} {command : Command} {reply : Reply} {k l m : Option (List ℕ)} {b c d : Bool} →
-    Executes old new command reply k b l c → Writes l c m d (spelling (lines.Reply reply)) →
-    CarriesOut old new command k b m d
-carries_out {reply = reply} {k = k} {m = m} {b = b} {d = d} e w =
+pub carries_out : {old new : FlatView} {command : Command} {reply : Reply} {before between after : Kept} →
+    Executes old new command reply before.bytes before.broken between.bytes between.broken →
+    Grew between after (spelling (lines.Reply reply)) → CarriesOut old new command before after
+carries_out {reply = reply} {before = before} {after = after} e w =
     let text : spelling_of e.before_reply ++ spelling (lines.Reply reply) ≡ spelling_of
     (e.before_reply ++ lines.Reply reply ∷ []) =
     ap (λ t. spelling_of e.before_reply ++ t) (sym (append-nil (spelling (lines.Reply reply))))
@@ -52,7 +53,7 @@ carries_out {reply = reply} {k = k} {m = m} {b = b} {d = d} e w =
     record {
       group = e.before_reply ++ lines.Reply reply ∷ [];
       step = e.step;
-      written = subst (Writes k b m d) text (writes-append (spelling_of e.before_reply)
+      written = subst (Grew before after) text (writes-append (spelling_of e.before_reply)
           (spelling (lines.Reply reply)) e.written w);
     }
 
@@ -91,17 +92,18 @@ few_built : (a : State) (command : Command) → BearsFew a (built_effect a comma
 few_built a command = few_unless a (carried_effect a command) (few_carried a command) (refusal a command)
 
 -- the commands so far and one more
-pub carried_out-push : {commands : List Command} {log : List Line} {old new : FlatView} {command : Command}
-    {group : List Line} →
-    CarriedOut commands log old → ((a : State) → IsGood a → FlatShows old a → IsStep new command group a) →
-    CarriedOut (commands ++ command ∷ []) (log ++ group) new
-carried_out-push {commands} {log} {command = command} {group = group} c step =
+pub carried_out-push : {settings : Settings} {commands : List Command} {log : List Line} {old new : FlatView}
+    {command : Command} {group : List Line} →
+    CarriedOut settings commands log old →
+    ((a : State) → IsGood a → FlatShows old a → IsStep new command group a) →
+    CarriedOut settings (commands ++ command ∷ []) (log ++ group) new
+carried_out-push {settings} {commands} {log} {command = command} {group = group} c step =
     let s = step c.state c.good c.shows in
     let more = length_push commands command in
     let few = few_built c.state command in
     record {
       state = after c.state command group;
-      legal = run-push Step (empty_state default_settings) commands log c.state command group
+      legal = run-push Step (empty_state settings) commands log c.state command group
           (after c.state command group) c.legal s.step;
       good = s.good;
       shows = s.shows;
@@ -114,65 +116,78 @@ pub record Counted (view : FlatView) (commands : List Command) : Type 0 where
   pub commands_are : view.totals.commands ≡ length commands
   pub births_are : view.totals.born ≤ length commands
 
-pub counted : {commands : List Command} {log : List Line} {view : FlatView} → CarriedOut commands log view →
-    Counted view commands
-counted {commands} c =
+pub counted : {settings : Settings} {commands : List Command} {log : List Line} {view : FlatView} →
+    CarriedOut settings commands log view → Counted view commands
+counted {commands = commands} c =
     record {
       commands_are = ap (λ (totals : Totals). totals.commands) c.shows.totals ∙ c.counted;
       births_are = subst (λ n. n ≤ length commands) (sym
           (ap (λ (totals : Totals). totals.born) c.shows.totals)) c.births;
     }
 
--- the numbers that a replay counts have room for what may still come
-pub record HasRoom (view : FlatView) (count more : ℕ) : Type 0 where
-  pub commands : view.totals.commands + more ≤ most_bytes
-  pub births : view.totals.born + more ≤ most_bytes
-  pub lines : count + more ≤ most_bytes
+-- the bytes so far are cut into the lines that were carried out and what is held
+pub cuts : {start : Start} {bytes : List ℕ} {now : Moment} (p : Progress start bytes now) →
+    Cuts bytes p.done now.held.bytes
+cuts p = record { whole = p.whole; lines_clean = p.done_clean; held_clean = p.held_clean }
 
-pub has_room : {view : FlatView} {held : Held} {count : ℕ} {kept : Option (List ℕ)} {broken : Bool} {more : ℕ} →
-    IsUnderWay view held count kept broken more → HasRoom view count more
-has_room {view} {held} {count} {kept} {broken} {more} way =
+-- the numbers that a replay counts have room for what may still come
+pub record HasRoom (now : Moment) (more : ℕ) : Type 0 where
+  pub commands : now.view.totals.commands + more ≤ most_bytes
+  pub births : now.view.totals.born + more ≤ most_bytes
+  pub lines : now.lines + more ≤ most_bytes
+
+pub has_room : {now : Moment} {more : ℕ} → IsUnderWay now more → HasRoom now more
+has_room {now} {more} way =
     let p = way.progress in
-    let few = lines-fewer way.bytes p.done held.bytes p.cuts in
+    let few = lines-fewer way.bytes p.done now.held.bytes (cuts p) in
     let fewer = commands-fewer built_reading 1 p.done in
     let c = counted p.stopped.carried in
     record {
       commands = omega (arith, few, fewer, c.commands_are, way.room);
       births = omega (arith, few, fewer, c.births_are, way.room);
-      lines = omega (arith, few, p.count_is, way.room);
+      lines = omega (arith, few, p.lines_are, way.room);
     }
 
 -- the same log for the same reading
-stopped-reading : {start : Option (List ℕ)} {lines more : List
-    (List ℕ)} {fault : Option FaultAt} {view : FlatView} {kept : Option (List ℕ)} {broken : Bool} →
-    Stopped start lines None view kept broken → reading_of more ≡ record {
-      commands =
-          (reading_of lines).commands;
-      fault = fault;
-    } →
-    Stopped start more fault view kept broken
-stopped-reading {view = view} s e =
+stopped-reading : {start : Start} {lines more : List (List ℕ)} {fault : Option FaultAt} {view : FlatView}
+    {kept : Kept} →
+    Stopped start lines None view kept →
+    reading_of more ≡ record { commands = (reading_of lines).commands; fault = fault } →
+    Stopped start more fault view kept
+stopped-reading {start} {view = view} s e =
     record {
       fault_is = ap (λ (r : Reading). r.fault) e;
       log = s.log;
-      carried = subst (λ commands. CarriedOut commands s.log view)
+      carried = subst (λ commands. CarriedOut start.settings commands s.log view)
           (sym (ap (λ (r : Reading). r.commands) e)) s.carried;
       written = s.written;
     }
 
+-- the reading of lines that stops at a fault
+abbrev faulty : List Command → ℕ → LineFault → Reading
+faulty commands line fault = record { commands = commands; fault = Some (record { line = line; fault = fault }) }
+
+-- a fault stands in the next line
+fault_next : {start : Start} {bytes : List ℕ} {now : Moment} (fault : LineFault) (p : Progress start bytes now) →
+    faulty (reading_of p.done).commands (length p.done + 1) fault
+    ≡ faulty (reading_of p.done).commands (now.lines + 1) fault
+fault_next fault p = ap (λ n. faulty (reading_of p.done).commands (n + 1) fault) (sym p.lines_are)
+
 -- one more byte of the line that is held
-pub progress-byte : {start : Option (List ℕ)} {bytes : List ℕ} {view : FlatView} {held : Held} {count : ℕ}
-    {kept : Option (List ℕ)} {broken : Bool} (byte : ℕ) →
-    Progress start bytes view held count kept broken → byte ≢ 10 → length held.bytes < 1024 →
-    Progress start (bytes ++ byte ∷ []) view (with_byte held byte) count kept broken
-progress-byte {bytes = bytes} {held = held} byte p other room =
-    let more = length_push held.bytes byte in
+pub progress-byte : {start : Start} {bytes : List ℕ} {now : Moment} (byte : ℕ) →
+    Progress start bytes now → byte ≢ 10 → length now.held.bytes < 1024 →
+    Progress start (bytes ++ byte ∷ []) (record now { held = with_byte now.held byte })
+progress-byte {bytes = bytes} {now = now} byte p other room =
+    let more = length_push now.held.bytes byte in
+    let cut = Cuts-byte bytes p.done now.held.bytes byte (cuts p) other in
     record {
       done = p.done;
-      cuts = Cuts-byte bytes p.done held.bytes byte p.cuts other;
+      whole = cut.whole;
+      done_clean = cut.lines_clean;
+      held_clean = cut.held_clean;
       going_on = refl;
       fits = omega (arith, more, room);
-      count_is = p.count_is;
+      lines_are = p.lines_are;
       stopped = p.stopped;
     }
 
@@ -184,128 +199,131 @@ too_long line long =
     ap (λ b. only_built (cond b (Err LineTooLong) (cond (is_comment line) (Ok None)
     (words_reading (words_of line))))) passes
 
-pub stopped-too_long : {start : Option (List ℕ)} {bytes : List ℕ} {view : FlatView} {held : Held} {count : ℕ}
-    {kept : Option (List ℕ)} {broken : Bool} (byte : ℕ) (rest : List ℕ) →
-    Progress start bytes view held count kept broken → byte ≢ 10 → length held.bytes ≡ 1024 →
+pub stopped-too_long : {start : Start} {bytes : List ℕ} {now : Moment} (byte : ℕ) (rest : List ℕ) →
+    Progress start bytes now → byte ≢ 10 → length now.held.bytes ≡ 1024 →
     Stopped start (complete_lines (bytes ++ byte ∷ rest))
-    (Some (record { line = count + 1; fault = LineTooLong })) view kept broken
-stopped-too_long {bytes = bytes} {held = held} byte rest p other full =
-    stopped-reading p.stopped (fault_too_long built_reading bytes p.done held.bytes byte rest p.cuts
+    (Some (record { line = now.lines + 1; fault = LineTooLong })) now.view now.kept
+stopped-too_long {bytes = bytes} {now = now} byte rest p other full =
+    stopped-reading p.stopped (fault_too_long built_reading bytes p.done now.held.bytes byte rest (cuts p)
     p.stopped.fault_is full other too_long
-    ∙ ap (λ n. record {
-      commands = (reading_of p.done).commands;
-      fault = Some
-          (record { line = n + 1; fault = LineTooLong });
-    }) (sym p.count_is))
+    ∙ fault_next LineTooLong p)
 
 -- a whole line with a fault
-pub stopped-line : {start : Option (List ℕ)} {bytes : List ℕ} {view : FlatView} {held : Held} {count : ℕ} {kept : Option
-    (List ℕ)} {broken : Bool} (fault : LineFault) (rest : List ℕ) →
-    Progress start bytes view held count kept broken → built_reading held.bytes ≡ Err fault →
+pub stopped-line : {start : Start} {bytes : List ℕ} {now : Moment} (fault : LineFault) (rest : List ℕ) →
+    Progress start bytes now → built_reading now.held.bytes ≡ Err fault →
     Stopped start (complete_lines (bytes ++ 10 ∷ rest))
-    (Some (record { line = count + 1; fault = fault })) view kept broken
-stopped-line {bytes = bytes} {held = held} fault rest p e =
-    stopped-reading p.stopped (fault_at_newline built_reading bytes p.done held.bytes rest fault p.cuts
+    (Some (record { line = now.lines + 1; fault = fault })) now.view now.kept
+stopped-line {bytes = bytes} {now = now} fault rest p e =
+    stopped-reading p.stopped (fault_at_newline built_reading bytes p.done now.held.bytes rest fault (cuts p)
     p.stopped.fault_is e
-    ∙ ap (λ n. record {
-      commands = (reading_of p.done).commands;
-      fault = Some
-          (record { line = n + 1; fault = fault });
-    }) (sym p.count_is))
+    ∙ fault_next fault p)
 
 -- one more line that went well
-next_line : {start : Option (List ℕ)} {bytes : List ℕ} {view new : FlatView} {held : Held} {count : ℕ}
-    {kept after_kept : Option (List ℕ)} {broken after_broken : Bool} →
-    (p : Progress start bytes view held count kept broken) →
-    Stopped start (p.done ++ held.bytes ∷ []) None new after_kept after_broken →
-    Progress start (bytes ++ 10 ∷ []) new nothing_held (count + 1) after_kept after_broken
-next_line {bytes = bytes} {held = held} p s =
-    let more = length_push p.done held.bytes in
+next_line : {start : Start} {bytes : List ℕ} {now : Moment} {view : FlatView} {kept : Kept}
+    (p : Progress start bytes now) → Stopped start (p.done ++ now.held.bytes ∷ []) None view kept →
+    Progress start (bytes ++ 10 ∷ [])
+    (record { view = view; held = nothing_held; lines = now.lines + 1; kept = kept })
+next_line {bytes = bytes} {now = now} p s =
+    let more = length_push p.done now.held.bytes in
+    let cut = Cuts-newline bytes p.done now.held.bytes (cuts p) in
     record {
-      done = p.done ++ held.bytes ∷ [];
-      cuts = Cuts-newline bytes p.done held.bytes p.cuts;
+      done = p.done ++ now.held.bytes ∷ [];
+      whole = cut.whole;
+      done_clean = cut.lines_clean;
+      held_clean = cut.held_clean;
       going_on = refl;
       fits = omega arith;
-      count_is = omega (arith, more, p.count_is);
+      lines_are = omega (arith, more, p.lines_are);
       stopped = s;
     }
 
 -- a command was carried out after these lines
-pub stopped-command : {start : Option (List ℕ)} {lines more : List
-    (List ℕ)} {command : Command} {view new : FlatView} {kept after_kept : Option
-    (List ℕ)} {broken after_broken : Bool} →
-    Stopped start lines None view kept broken → CarriesOut view new command kept broken after_kept after_broken →
+pub stopped-command : {start : Start} {lines more : List (List ℕ)} {command : Command} {view new : FlatView}
+    {kept after : Kept} →
+    Stopped start lines None view kept → CarriesOut view new command kept after →
     reading_of more ≡ record { commands = (reading_of lines).commands ++ command ∷ []; fault = None } →
-    Stopped start more None new after_kept after_broken
-stopped-command {start} {new = new} {after_kept = after_kept} {after_broken = after_broken} s c e =
+    Stopped start more None new after
+stopped-command {start} {new = new} {after = after} s c e =
     record {
       fault_is = ap (λ (r : Reading). r.fault) e;
       log = s.log ++ c.group;
-      carried = subst (λ commands. CarriedOut commands (s.log ++ c.group) new)
+      carried = subst (λ commands. CarriedOut start.settings commands (s.log ++ c.group) new)
           (sym (ap (λ (r : Reading). r.commands) e)) (carried_out-push s.carried c.step);
-      written = subst (Writes start false after_kept after_broken) (sym (spelling_of-append s.log c.group))
+      written = subst (GrewSince start after) (sym (spelling_of-append s.log c.group))
           (writes-append (spelling_of s.log) (spelling_of c.group) s.written c.written);
     }
 
-pub progress-nothing : {start : Option (List ℕ)} {bytes : List ℕ} {view : FlatView} {held : Held} {count : ℕ}
-    {kept : Option (List ℕ)} {broken : Bool} →
-    Progress start bytes view held count kept broken → built_reading held.bytes ≡ Ok None →
-    Progress start (bytes ++ 10 ∷ []) view nothing_held (count + 1) kept broken
-progress-nothing {held = held} p e =
-    next_line p (stopped-reading p.stopped (reading-next-nothing built_reading p.done held.bytes p.stopped.fault_is
-    e))
+-- What a whole line, or the rest of the input as a line, came to.
+module _ {start : Start} {bytes : List ℕ} {now : Moment} {view : FlatView} {kept : Kept}
+    {Unchanged : Type 0} (same : Unchanged → (view ≡ now.view) × (kept ≡ now.kept))
+    (p : Progress start bytes now) (result : Result (Unit {0}) LineFault) where
+  abbrev Did : Result (Option Command) LineFault → Type 0
+  Did reading = DoesLine reading result Unchanged (λ command. CarriesOut now.view view command now.kept kept)
 
-pub progress-command : {start : Option (List ℕ)} {bytes : List ℕ} {view new : FlatView} {held : Held} {count : ℕ}
-    {kept after_kept : Option (List ℕ)} {broken after_broken : Bool} (command : Command) →
-    Progress start bytes view held count kept broken → built_reading held.bytes ≡ Ok (Some command) →
-    CarriesOut view new command kept broken after_kept after_broken →
-    Progress start (bytes ++ 10 ∷ []) new nothing_held (count + 1) after_kept after_broken
-progress-command {held = held} command p e c =
-    next_line p (stopped-command p.stopped c (reading-next-command built_reading p.done held.bytes command
-    p.stopped.fault_is e))
+  -- where a fault leaves all as it was
+  unchanged : {lines : List (List ℕ)} {fault : Option FaultAt} → Unchanged →
+      Stopped start lines fault now.view now.kept → Stopped start lines fault view kept
+  unchanged {lines} {fault} u s =
+      let e = same u in
+      subst (λ v. Stopped start lines fault v kept) (sym e.0)
+      (subst (Stopped start lines fault now.view) (sym e.1) s)
 
--- A whole line was read: one line more, or the first fault.
-module _ {start : Option (List ℕ)} {bytes : List ℕ} {view new : FlatView} {held : Held} {count : ℕ}
-    {kept after_kept : Option (List ℕ)} {broken after_broken : Bool}
-    {Unchanged : Type 0} (same : Unchanged → (new ≡ view) × (after_kept ≡ kept) × (after_broken ≡ broken))
-    (p : Progress start bytes view held count kept broken) (result : Result (Unit {0}) LineFault) where
   abbrev More : ℕ → Held → ℕ → Type 0
-  More byte next lines = Progress start (bytes ++ byte ∷ []) new next lines after_kept after_broken
+  More byte held lines = Progress start (bytes ++ byte ∷ [])
+      (record { view = view; held = held; lines = lines; kept = kept })
 
   abbrev Fault : ℕ → ℕ → LineFault → Type 0
   Fault byte lines fault = (rest : List ℕ) →
-      Stopped start (complete_lines (bytes ++ byte ∷ rest))
-      (Some (record { line = lines; fault = fault })) new after_kept after_broken
+      Stopped start (complete_lines (bytes ++ byte ∷ rest)) (Some (record { line = lines; fault = fault })) view kept
 
-  line_read : (reading : Result (Option Command) LineFault) → built_reading held.bytes ≡ reading →
-      DoesLine reading result Unchanged (λ command. CarriesOut view new command kept broken after_kept after_broken)
-      →
-      GoesOn result (More 10 nothing_held (count + 1)) (Fault 10 (count + 1))
+  line_read : (reading : Result (Option Command) LineFault) → built_reading now.held.bytes ≡ reading → Did reading →
+      GoesOn result (More 10 nothing_held (now.lines + 1)) (Fault 10 (now.lines + 1))
   line_read (Err fault) is d =
-      let u = same d.1 in
-      subst (λ r. GoesOn r (More 10 nothing_held (count + 1)) (Fault 10 (count + 1))) (sym d.0)
-      (λ rest. subst₃ (λ v k b. Stopped start (complete_lines (bytes ++ 10 ∷ rest))
-      (Some (record { line = count + 1; fault = fault })) v k b)
-      (sym u.0) (sym u.1) (sym u.2) (stopped-line fault rest p is))
+      subst (λ r. GoesOn r (More 10 nothing_held (now.lines + 1)) (Fault 10 (now.lines + 1))) (sym d.0)
+      (λ rest. unchanged d.1 (stopped-line fault rest p is))
   line_read (Ok None) is d =
-      let u = same d.1 in
-      subst (λ r. GoesOn r (More 10 nothing_held (count + 1)) (Fault 10 (count + 1))) (sym d.0)
-      (subst₃ (λ v k b. Progress start (bytes ++ 10 ∷ []) v nothing_held (count + 1) k b) (sym u.0) (sym u.1)
-      (sym u.2) (progress-nothing p is))
+      subst (λ r. GoesOn r (More 10 nothing_held (now.lines + 1)) (Fault 10 (now.lines + 1))) (sym d.0)
+      (next_line p (unchanged d.1 (stopped-reading p.stopped
+      (reading-next-nothing built_reading p.done now.held.bytes p.stopped.fault_is is))))
   line_read (Ok (Some command)) is d =
-      subst (λ r. GoesOn r (More 10 nothing_held (count + 1)) (Fault 10 (count + 1))) (sym d.0)
-      (progress-command command p is d.1)
+      subst (λ r. GoesOn r (More 10 nothing_held (now.lines + 1)) (Fault 10 (now.lines + 1))) (sym d.0)
+      (next_line p (stopped-command p.stopped d.1
+      (reading-next-command built_reading p.done now.held.bytes command p.stopped.fault_is is)))
 
-  pub goes-on-line : (byte lines : ℕ) (pushed next : Held) → byte ≡ 10 → pushed ≡ at_end held →
-      next ≡ nothing_held → lines ≡ count + 1 →
-      DoesLine (built_reading pushed.bytes) result Unchanged
-      (λ command. CarriesOut view new command kept broken after_kept after_broken) →
+  pub goes-on-line : (byte lines : ℕ) (pushed next : Held) → byte ≡ 10 → pushed ≡ at_end now.held →
+      next ≡ nothing_held → lines ≡ now.lines + 1 → Did (built_reading pushed.bytes) →
       GoesOn result (More byte next lines) (Fault byte lines)
   goes-on-line byte lines pushed next b e n l d =
-      let read = subst (λ (h : Held). DoesLine (built_reading h.bytes) result Unchanged
-      (λ command. CarriesOut view new command kept broken after_kept after_broken)) e d in
+      let read = subst (λ (h : Held). Did (built_reading h.bytes)) e d in
       subst₃ (λ b n l. GoesOn result (More b n l) (Fault b l)) (sym b) (sym n) (sym l)
-      (line_read (built_reading held.bytes) refl read)
+      (line_read (built_reading now.held.bytes) refl read)
+
+  abbrev AtEnd : Type 0
+  AtEnd = Stopped start (lines_of bytes) None view kept
+
+  abbrev FaultAtEnd : ℕ → LineFault → Type 0
+  FaultAtEnd lines fault = Stopped start (lines_of bytes) (Some (record { line = lines; fault = fault })) view kept
+
+  rest_read : 0 < length now.held.bytes → (reading : Result (Option Command) LineFault) →
+      built_reading now.held.bytes ≡ reading → Did reading → GoesOn result AtEnd (FaultAtEnd (now.lines + 1))
+  rest_read some (Err fault) is d =
+      subst (λ r. GoesOn r AtEnd (FaultAtEnd (now.lines + 1))) (sym d.0)
+      (unchanged d.1 (stopped-reading p.stopped (fault_at_end built_reading bytes p.done now.held.bytes fault (cuts p)
+      p.stopped.fault_is some is
+      ∙ fault_next fault p)))
+  rest_read some (Ok None) is d =
+      subst (λ r. GoesOn r AtEnd (FaultAtEnd (now.lines + 1))) (sym d.0)
+      (unchanged d.1 (stopped-reading p.stopped (reading-end-nothing built_reading bytes p.done now.held.bytes (cuts p)
+      p.stopped.fault_is some is)))
+  rest_read some (Ok (Some command)) is d =
+      subst (λ r. GoesOn r AtEnd (FaultAtEnd (now.lines + 1))) (sym d.0)
+      (stopped-command p.stopped d.1 (reading-end-command built_reading bytes p.done now.held.bytes command (cuts p)
+      p.stopped.fault_is some is))
+
+  pub goes-to-end : 0 < length now.held.bytes → (lines : ℕ) → lines ≡ now.lines + 1 →
+      Did (built_reading now.held.bytes) → GoesOn result AtEnd (FaultAtEnd lines)
+  goes-to-end some lines l d = subst (λ n. GoesOn result AtEnd (FaultAtEnd n)) (sym l)
+      (rest_read some (built_reading now.held.bytes) refl d)
 
 -- a piece that is taken byte by byte, behind the bytes before it
 pub piece_room : (bytes piece : List ℕ) (i : ℕ) → i < length piece → length bytes + length piece ≤ most_bytes →
@@ -328,135 +346,95 @@ piece_more bytes piece i below =
     append_assoc bytes (take i piece) (get_or piece i 0 ∷ [])
     ∙ ap (λ xs. bytes ++ xs) (sym (take_more piece i 0 below))
 
--- the rest of the input is a line too, or nothing
-module _ {start : Option (List ℕ)} {bytes : List ℕ} {view new : FlatView} {held : Held} {count : ℕ}
-    {kept after_kept : Option (List ℕ)} {broken after_broken : Bool}
-    {Unchanged : Type 0} (same : Unchanged → (new ≡ view) × (after_kept ≡ kept) × (after_broken ≡ broken))
-    (p : Progress start bytes view held count kept broken) (some : 0 < length held.bytes)
-    (result : Result (Unit {0}) LineFault) where
-  abbrev End : Type 0
-  End = Stopped start (lines_of bytes) None new after_kept after_broken
-
-  abbrev EndFault : ℕ → LineFault → Type 0
-  EndFault lines fault = Stopped start (lines_of bytes)
-      (Some (record { line = lines; fault = fault })) new after_kept after_broken
-
-  rest_read : (reading : Result (Option Command) LineFault) → built_reading held.bytes ≡ reading →
-      DoesLine reading result Unchanged (λ command. CarriesOut view new command kept broken after_kept after_broken)
-      →
-      GoesOn result End (EndFault (count + 1))
-  rest_read (Err fault) is d =
-      let u = same d.1 in
-      subst (λ r. GoesOn r End (EndFault (count + 1))) (sym d.0)
-      (subst₃ (λ v k b. Stopped start (lines_of bytes) (Some (record { line = count + 1; fault = fault })) v k b)
-      (sym u.0) (sym u.1) (sym u.2)
-      (stopped-reading p.stopped (fault_at_end built_reading bytes p.done held.bytes fault p.cuts
-      p.stopped.fault_is some is
-      ∙ ap (λ n. record {
-        commands = (reading_of p.done).commands;
-        fault = Some
-            (record { line = n + 1; fault = fault });
-      }) (sym p.count_is))))
-  rest_read (Ok None) is d =
-      let u = same d.1 in
-      subst (λ r. GoesOn r End (EndFault (count + 1))) (sym d.0)
-      (subst₃ (λ v k b. Stopped start (lines_of bytes) None v k b) (sym u.0) (sym u.1) (sym u.2)
-      (stopped-reading p.stopped (reading-end-nothing built_reading bytes p.done held.bytes p.cuts
-      p.stopped.fault_is some is)))
-  rest_read (Ok (Some command)) is d =
-      subst (λ r. GoesOn r End (EndFault (count + 1))) (sym d.0)
-      (stopped-command p.stopped d.1 (reading-end-command built_reading bytes p.done held.bytes command p.cuts
-      p.stopped.fault_is some is))
-
-  pub goes-to-end : (lines : ℕ) → lines ≡ count + 1 →
-      DoesLine (built_reading held.bytes) result Unchanged
-      (λ command. CarriesOut view new command kept broken after_kept after_broken) →
-      GoesOn result End (EndFault lines)
-  goes-to-end lines l d = subst (λ n. GoesOn result End (EndFault n)) (sym l)
-      (rest_read (built_reading held.bytes) refl d)
-
 -- nothing is held at the end
-pub stopped-none : {start : Option (List ℕ)} {bytes : List ℕ} {view : FlatView} {held : Held} {count : ℕ} {kept : Option
-    (List ℕ)} {broken : Bool} →
-    Progress start bytes view held count kept broken → held.bytes ≡ [] →
-    Stopped start (lines_of bytes) None view kept broken
+pub stopped-none : {start : Start} {bytes : List ℕ} {now : Moment} →
+    Progress start bytes now → now.held.bytes ≡ [] → Stopped start (lines_of bytes) None now.view now.kept
 stopped-none {bytes = bytes} p none =
-    stopped-reading p.stopped (reading-end-none built_reading bytes p.done (subst (Cuts bytes p.done) none p.cuts)
+    stopped-reading p.stopped (reading-end-none built_reading bytes p.done (subst (Cuts bytes p.done) none (cuts p))
     ∙ ap (λ f. record { commands = (reading_of p.done).commands; fault = f }) p.stopped.fault_is)
 
 -- there is room for one more line where some of it is held
-pub has_room-held : {view : FlatView} {held : Held} {count : ℕ} {kept : Option (List ℕ)} {broken : Bool} →
-    IsUnderWay view held count kept broken 0 → 0 < length held.bytes → HasRoom view count 1
-has_room-held {view} {held} {count} {kept} {broken} way some =
+pub has_room-held : {now : Moment} → IsUnderWay now 0 → 0 < length now.held.bytes → HasRoom now 1
+has_room-held {now} way some =
     let p = way.progress in
-    let few = lines-fewer way.bytes p.done held.bytes p.cuts in
+    let few = lines-fewer way.bytes p.done now.held.bytes (cuts p) in
     let fewer = commands-fewer built_reading 1 p.done in
     let c = counted p.stopped.carried in
     record {
       commands = omega (arith, few, fewer, c.commands_are, way.room, some);
       births = omega (arith, few, fewer, c.births_are, way.room, some);
-      lines = omega (arith, few, p.count_is, way.room, some);
+      lines = omega (arith, few, p.lines_are, way.room, some);
     }
 
 -- where more may come, what was read stops at the last whole line
-pub progress-stopped : {start : Option (List ℕ)} {bytes : List ℕ} {view : FlatView} {held : Held} {count : ℕ}
-    {kept : Option (List ℕ)} {broken : Bool} →
-    Progress start bytes view held count kept broken → Stopped start (complete_lines bytes) None view kept broken
-progress-stopped {start} {bytes} {view} {held} {count} {kept} {broken} p =
-    subst (λ lines. Stopped start lines None view kept broken)
-    (sym (complete_lines-held bytes p.done held.bytes p.cuts p.fits)) p.stopped
+pub progress-stopped : {start : Start} {bytes : List ℕ} {now : Moment} →
+    Progress start bytes now → Stopped start (complete_lines bytes) None now.view now.kept
+progress-stopped {start} {bytes} {now} p =
+    subst (λ lines. Stopped start lines None now.view now.kept)
+    (sym (complete_lines-held bytes p.done now.held.bytes (cuts p) p.fits)) p.stopped
 
 -- a journal that writes nothing more
-pub stopped-settled : {start : Option (List ℕ)} {lines : List
-    (List ℕ)} {fault : Option FaultAt} {view : FlatView} {kept after_kept : Option
-    (List ℕ)} {broken after_broken : Bool} →
-    Stopped start lines fault view kept broken → Writes kept broken after_kept after_broken [] →
-    Stopped start lines fault view after_kept after_broken
-stopped-settled {start} {after_kept = after_kept} {after_broken = after_broken} s w =
+pub stopped-settled : {start : Start} {lines : List (List ℕ)} {fault : Option FaultAt} {view : FlatView}
+    {kept after : Kept} →
+    Stopped start lines fault view kept → Grew kept after [] → Stopped start lines fault view after
+stopped-settled {start} {after = after} s w =
     record {
       fault_is = s.fault_is;
       log = s.log;
       carried = s.carried;
-      written = subst (Writes start false after_kept after_broken) (append-nil (spelling_of s.log))
+      written = subst (GrewSince start after) (append-nil (spelling_of s.log))
           (writes-append (spelling_of s.log) [] s.written w);
     }
 
-pub progress-settled : {start : Option (List ℕ)} {bytes : List ℕ} {view : FlatView} {held : Held} {count : ℕ}
-    {kept after_kept : Option (List ℕ)} {broken after_broken : Bool} →
-    Progress start bytes view held count kept broken → Writes kept broken after_kept after_broken [] →
-    Progress start bytes view held count after_kept after_broken
+pub progress-settled : {start : Start} {bytes : List ℕ} {now : Moment} {after : Kept} →
+    Progress start bytes now → Grew now.kept after [] → Progress start bytes (record now { kept = after })
 progress-settled p w =
     record {
       done = p.done;
-      cuts = p.cuts;
+      whole = p.whole;
+      done_clean = p.done_clean;
+      held_clean = p.held_clean;
       going_on = p.going_on;
       fits = p.fits;
-      count_is = p.count_is;
-      stopped =
-          stopped-settled p.stopped w;
+      lines_are = p.lines_are;
+      stopped = stopped-settled p.stopped w;
     }
 
 -- nothing was read yet
-pub progress-none : (view : FlatView) (kept : Option (List ℕ)) → FlatShows view (empty_state default_settings) →
-    Progress kept [] view nothing_held 0 kept false
-progress-none view kept shows =
+pub progress-none : (settings : Settings) (view : FlatView) (kept : Option (List ℕ)) →
+    IsNew settings view →
+    Progress (record { settings = settings; kept = kept }) []
+    (record { view = view; held = nothing_held; lines = 0; kept = record { bytes = kept; broken = false } })
+progress-none settings view kept shows =
     record {
       done = [];
-      cuts = Cuts-none;
+      whole = refl;
+      done_clean = Cuts-none.lines_clean;
+      held_clean = Cuts-none.held_clean;
       going_on = refl;
       fits = omega arith;
-      count_is = refl;
+      lines_are = refl;
       stopped = record {
         fault_is = refl;
         log = [];
         carried = record {
-          state = empty_state default_settings;
+          state = empty_state settings;
           legal = (refl, refl);
-          good = empty_is_good default_settings (omega arith);
-          shows = shows;
+          good = empty_is_good settings shows.limits.growing;
+          shows = shows.shows;
           counted = refl;
           births = omega arith;
         };
         written = writes-none kept false;
       };
     }
+
+-- the same, in the words of what was made
+pub progress-began : (settings : Settings) (view : FlatView) (held : Held) (lines : ℕ) (kept : Kept) →
+    held ≡ nothing_held → lines ≡ 0 → kept.broken ≡ false → IsNew settings view →
+    Progress (record { settings = settings; kept = kept.bytes }) []
+    (record { view = view; held = held; lines = lines; kept = kept })
+progress-began settings view held lines kept h n whole shows =
+    subst₃ (λ h n b. Progress (record { settings = settings; kept = kept.bytes }) []
+    (record { view = view; held = h; lines = n; kept = record { bytes = kept.bytes; broken = b } }))
+    (sym h) (sym n) (sym whole) (progress-none settings view kept.bytes shows)

@@ -6,7 +6,6 @@ use Rattle.mm_io.specs.declared.fault.Failed.{Failed}
 use Rattle.mm_io.specs.Faults.{Counts}
 use Rattle.mm_io.specs.Told.{Appends, AppendsFront}
 use Rattle.mm_io.proofs.ToldLemmas.{Appends-append, AppendsFront-append, AppendsFront-of-Appends}
-use Rattle.mmgc.proofs.Ends.{rose-since}
 use Rattle.mmgc.specs.Telling.{IsTold, Takes}
 
 front_more : (before now : Option (List ℕ)) (text more : List ℕ) → AppendsFront before now text →
@@ -26,28 +25,12 @@ takes_first {before = before} {now = now} {text = text} (Err fault) more e t =
     record {
       ok = tt;
       err = front_more before now text more t.err;
-      counts = record
-          { never_falls = t.counts.never_falls; cause = t.counts.cause };
+      counts = record { never_falls = t.counts.never_falls; cause = t.counts.cause; unraised = tt };
     }
 
-counts_later : {result : Result (Unit {0}) Failed} (earlier before now : ℕ) → earlier ≤ before →
+counts_later : {result : Result (Unit {0}) Failed} (earlier before now : ℕ) → before ≡ earlier →
     Counts before now result → Counts earlier now result
-counts_later {result = Ok done} earlier before now l c = record {
-  never_falls = omega (
-    arith,
-    l,
-    c.never_falls,
-  );
-  cause = tt;
-}
-counts_later {result = Err fault} earlier before now l c = record {
-  never_falls = omega (
-    arith,
-    l,
-    c.never_falls,
-  );
-  cause = rose-since earlier before now l c.cause;
-}
+counts_later {result = result} earlier before now l c = subst (λ n. Counts n now result) l c
 
 -- the rest follows the first part
 pub takes_next : {before between now : Option (List ℕ)} {faults faults_between faults_now : ℕ} {done : Unit {0}}
@@ -61,7 +44,7 @@ takes_next {before = before} {between = between} {now = now} {faults = f} {fault
       ok = Appends-append before between now text more first.ok next.ok;
       err = tt;
       counts = counts_later f g
-          h first.counts.never_falls next.counts;
+          h first.counts.unraised next.counts;
     }
 takes_next {before = before} {between = between} {now = now} {faults = f} {faults_between = g} {faults_now = h}
     (Err fault) {text = text} {more = more} first next =
@@ -69,7 +52,7 @@ takes_next {before = before} {between = between} {now = now} {faults = f} {fault
       ok = tt;
       err = AppendsFront-append before between now text more first.ok next.err;
       counts =
-          counts_later f g h first.counts.never_falls next.counts;
+          counts_later f g h first.counts.unraised next.counts;
     }
 
 -- a text that a sink was asked to take was said

@@ -67,8 +67,9 @@ keeps-sent sink faults faults_after t u pending (Ok x) ok err counts =
       same_sink = refl;
       never_falls = counts.never_falls;
       grows = (pending, ok);
-      cause = λ broken.
-          inl broken;
+      cause = λ broken. inl broken;
+      stays_broken = λ broken. broken;
+      clean = λ whole. counts.unraised;
     }
 keeps-sent sink faults faults_after t u pending (Err e) ok err counts =
     record {
@@ -76,6 +77,8 @@ keeps-sent sink faults faults_after t u pending (Err e) ok err counts =
       never_falls = counts.never_falls;
       grows = (take err.0 pending, err.1);
       cause = λ broken. inr counts.cause;
+      stays_broken = λ broken. refl;
+      clean = λ whole. cc whole;
     }
 
 -- Where the writer is whole and nothing is pending at both ends, the sink took what was written.

@@ -1,5 +1,5 @@
 -- What is kept over one call is kept over many.
-use Rattle.std.specs.Prelude.{ℕ, ◌+◌, ◌-◌, ◌^◌, ◌≤◌, ◌⊎◌, Bool, IsTrue, List, [], ◌++◌, Option}
+use Rattle.std.specs.Prelude.{ℕ, ◌+◌, ◌-◌, ◌^◌, ◌≤◌, ◌≡◌, ◌⊎◌, Bool, true, false, IsTrue, List, [], ◌++◌, Option}
 use Rattle.std.proofs.Common.{refl, ◌∙◌, inl, inr}
 use Rattle.std.proofs.Math.Nat.{le_refl, le_trans, add-le-add, le-min, min-le_left, min-le_right}
 use Rattle.mm_io.specs.Faults.{Rose}
@@ -31,6 +31,11 @@ cause-trans f g h b c d fg gh first next broken =
       | inr rose ↦ inr (rose_earlier f g h fg rose)
     ]
 
+-- what is whole was whole before
+whole-before : (c d : Bool) → (IsTrue c → IsTrue d) → d ≡ false → c ≡ false
+whole-before false d stays whole = refl
+whole-before true d stays whole = let broken = stays refl in cc (whole, broken)
+
 -- nothing is undone where nothing is called
 pub keeps-same : {sink faults : ℕ} {taken : Option (List ℕ)} {broken : Bool}
     → Keeps sink sink faults faults taken taken broken broken
@@ -40,6 +45,8 @@ keeps-same {faults = faults} {taken = taken} =
       never_falls = le_refl faults;
       grows = ([], Appends-nothing taken);
       cause = λ broken. inl broken;
+      stays_broken = λ broken. broken;
+      clean = λ whole. refl;
     }
 
 -- one call after another undoes nothing
@@ -51,4 +58,6 @@ keeps-trans {f1 = f} {f2 = g} {f3 = h} {t1 = t} {t2 = u} {t3 = v} {b1 = b} {b2 =
       never_falls = le_trans first.never_falls next.never_falls;
       grows = grows-trans t u v first.grows next.grows;
       cause = cause-trans f g h b c d first.never_falls next.never_falls first.cause next.cause;
+      stays_broken = λ broken. next.stays_broken (first.stays_broken broken);
+      clean = λ whole. next.clean whole ∙ first.clean (whole-before c d next.stays_broken whole);
     }

@@ -1,7 +1,11 @@
 pub mod Completing
+pub mod Generator
 pub mod Keeping
 pub mod Logging
+pub mod Program
 pub mod Replaying
+pub mod Requests
 pub mod Run
 pub mod Telling
+pub mod Words
 pub mod Writing

@@ -1,18 +1,19 @@
 -- How the bytes of a trace are carried out, line by line.
-use Rattle.std.specs.Prelude.{◌≡◌, ℕ, ◌+◌, ◌-◌, ◌^◌, ◌≤◌, Bool, false, if◌then◌else◌, List, length, Option, Some, None, Result, Ok, Err}
+use Rattle.std.specs.Prelude.{◌≡◌, ◌≢◌, ℕ, ◌+◌, ◌-◌, ◌^◌, ◌≤◌, Bool, false, if◌then◌else◌, List, ◌++◌, ◌∷◌, [], length, flat_map, Option, Some, None, Result, Ok, Err}
+use Rattle.std.specs.List.{All}
+use Rattle.mm_model.specs.Limits.{IsWithinLimits}
 use Rattle.mm_model.specs.declared.command.Command.{Command}
 use Rattle.mm_model.specs.declared.refusal.LineFault.{LineFault}
 use Rattle.mm_model.specs.declared.refusal.LineFault.TheVariants.{NotBuilt}
 use Rattle.mm_model.specs.declared.line.Line.{Line}
 use Rattle.mm_model.specs.declared.settings.Settings.{Settings}
-use Rattle.mm_model.specs.State.{State}
+use Rattle.mm_model.specs.State.{State, empty_state}
 use Rattle.mm_model.specs.Good.{IsGood}
 use Rattle.mm_model.specs.Log.{IsLegal}
 use Rattle.mm_model.specs.FlatView.{FlatView, FlatShows}
 use Rattle.mm_model.specs.Journal.{Writes}
 use Rattle.mm_model.specs.Spelling.{spelling_of}
 use Rattle.mm_model.specs.Trace.{line_reading, reading_from, Reading, FaultAt}
-use Rattle.mm_model.proofs.Text.Traces.{Cuts}
 use Rattle.mm_trace.specs.Held.{Held}
 use Rattle.mm_gc.specs.Built.{Step, is_built}
 use Rattle.mm_gc.specs.Execution.{IsStep}
@@ -30,36 +31,71 @@ built_reading line = only_built (line_reading line)
 abbrev pub reading_of : List (List ℕ) → Reading
 reading_of lines = reading_from built_reading 1 lines
 
--- what holds where nothing is said
-abbrev pub default_settings : Settings
-default_settings = record { pages = 1024; max = 1024; zct = 256; queue = 256; stack = 1024 }
+-- all bytes that may come and all commands that they hold can be counted
+abbrev pub most_bytes : ℕ
+most_bytes = 2 ^ 32 - 1
+
+-- a journal at one moment: the bytes that it keeps, where it tells them
+pub record Kept : Type 0 where
+  pub bytes : Option (List ℕ)
+  pub broken : Bool
+
+-- from one moment to the next a journal was given these bytes to write
+abbrev pub Grew : Kept → Kept → List ℕ → Type 0
+Grew before after bytes = Writes before.bytes before.broken after.bytes after.broken bytes
+
+-- where a replay began: the settings of its heap, and what its journal kept, which was whole
+pub record Start : Type 0 where
+  pub settings : Settings
+  pub kept : Option (List ℕ)
+
+-- the journal was given these bytes since the replay began
+abbrev pub GrewSince : Start → Kept → List ℕ → Type 0
+GrewSince start kept bytes = Writes start.kept false kept.bytes kept.broken bytes
+
+-- a replay at one moment: its heap, the piece of a line that it holds, the lines that it read, and its journal
+pub record Moment : Type 0 where
+  pub view : FlatView
+  pub held : Held
+  pub lines : ℕ
+  pub kept : Kept
+
+-- a heap to which nothing was done yet, made with settings within their limits
+pub record IsNew (settings : Settings) (view : FlatView) : Type 0 where
+  pub limits : IsWithinLimits settings
+  pub shows : FlatShows view (empty_state settings)
 
 -- The commands were carried out with this log, which is legal, and the heap shows the state after it.
-pub record CarriedOut (commands : List Command) (log : List Line) (view : FlatView) : Type 0 where
+pub record CarriedOut (settings : Settings) (commands : List Command) (log : List Line) (view : FlatView) : Type 0 where
   pub state : State
-  pub legal : IsLegal Step default_settings commands log state
+  pub legal : IsLegal Step settings commands log state
   pub good : IsGood state
   pub shows : FlatShows view state
   pub counted : state.commands ≡ length commands
   pub births : length state.objects ≤ length commands
 
--- What these lines say was carried out up to the first fault, and the log went to a journal that held `start`.
-pub record Stopped (start : Option (List ℕ)) (lines : List (List ℕ)) (fault : Option FaultAt)
-    (view : FlatView) (kept : Option (List ℕ)) (broken : Bool) : Type 0 where
+-- What these lines say was carried out up to the first fault, and the log went to the journal.
+pub record Stopped (start : Start) (lines : List (List ℕ)) (fault : Option FaultAt) (view : FlatView) (kept : Kept) :
+    Type 0 where
   pub fault_is : (reading_of lines).fault ≡ fault
   pub log : List Line
-  pub carried : CarriedOut (reading_of lines).commands log view
-  pub written : Writes start false kept broken (spelling_of log)
+  pub carried : CarriedOut start.settings (reading_of lines).commands log view
+  pub written : GrewSince start kept (spelling_of log)
+
+-- bytes within a line
+abbrev pub IsWithinLine : List ℕ → Type 0
+IsWithinLine bytes = All (λ (byte : ℕ). byte ≢ 10) bytes
 
 -- The bytes so far were cut into lines, which were carried out without a fault, and a piece of the next line is held.
-pub record Progress (start : Option (List ℕ)) (bytes : List ℕ) (view : FlatView) (held : Held) (count : ℕ)
-    (kept : Option (List ℕ)) (broken : Bool) : Type 0 where
+pub record Progress (start : Start) (bytes : List ℕ) (now : Moment) : Type 0 where
   pub done : List (List ℕ)
-  pub cuts : Cuts bytes done held.bytes
-  pub going_on : held.ended ≡ false
-  pub fits : length held.bytes ≤ 1024
-  pub count_is : count ≡ length done
-  pub stopped : Stopped start done None view kept broken
+  pub whole : bytes ≡ flat_map (λ line. line ++ 10 ∷ []) done ++ now.held.bytes
+  pub done_clean : All IsWithinLine done
+  pub held_clean : IsWithinLine now.held.bytes
+  pub going_on : now.held.ended ≡ false
+  pub fits : length now.held.bytes ≤ 1024
+  pub lines_are : now.lines ≡ length done
+  pub stopped : Stopped start done None now.view now.kept
 
 -- What a line says was done: nothing, or its command, or neither because of a fault.
 abbrev pub DoesLine : Result (Option Command) LineFault → Result (Unit {0}) LineFault → Type 0 →
@@ -69,25 +105,19 @@ DoesLine (Ok None) result unchanged carried = (result ≡ Ok tt) × unchanged
 DoesLine (Ok (Some command)) result unchanged carried = (result ≡ Ok tt) × carried command
 
 -- a command was carried out, and its lines were written
-pub record CarriesOut (old new : FlatView) (command : Command) (kept : Option (List ℕ)) (broken : Bool)
-    (kept_after : Option (List ℕ)) (broken_after : Bool) : Type 0 where
+pub record CarriesOut (old new : FlatView) (command : Command) (before after : Kept) : Type 0 where
   pub group : List Line
   pub step : (a : State) → IsGood a → FlatShows old a → IsStep new command group a
-  pub written : Writes kept broken kept_after broken_after (spelling_of group)
+  pub written : Grew before after (spelling_of group)
 
 -- What one more byte, or several, made of the progress: more of it, or a fault at this line.
 abbrev pub GoesOn : Result (Unit {0}) LineFault → Type 0 → (LineFault → Type 0) → Type 0
 GoesOn (Ok done) more stopped = more
 GoesOn (Err fault) more stopped = stopped fault
 
--- all bytes that may come and all commands that they hold can be counted
-abbrev pub most_bytes : ℕ
-most_bytes = 2 ^ 32 - 1
-
--- how far the replay has come, wherever the journal and the bytes began
-pub record IsUnderWay (view : FlatView) (held : Held) (count : ℕ) (kept : Option (List ℕ)) (broken : Bool)
-    (more : ℕ) : Type 0 where
-  pub start : Option (List ℕ)
+-- how far the replay has come, wherever it began, and that so many bytes may still come
+pub record IsUnderWay (now : Moment) (more : ℕ) : Type 0 where
+  pub start : Start
   pub bytes : List ℕ
-  pub progress : Progress start bytes view held count kept broken
+  pub progress : Progress start bytes now
   pub room : length bytes + more ≤ most_bytes

@@ -14,7 +14,7 @@ abbrev pub Grows : Option (List ℕ) → Option (List ℕ) → Type 0
 Grows before now = (bytes : List ℕ) × Appends before now bytes
 
 -- The writer goes on with the same sink, whose faults are counted and whose bytes only grow.
--- It becomes broken only where a fault was counted.
+-- It becomes broken only where a fault was counted, stays so, and is whole only where none was.
 pub record Keeps
     (sink_before sink_now : ℕ) (faults_before faults_now : ℕ)
     (taken_before taken_now : Option (List ℕ)) (broken_before broken_now : Bool) : Type 0 where
@@ -22,3 +22,5 @@ pub record Keeps
   pub never_falls : faults_before ≤ faults_now
   pub grows : Grows taken_before taken_now
   pub cause : IsTrue broken_now → IsTrue broken_before ⊎ Rose faults_before faults_now
+  pub stays_broken : IsTrue broken_before → IsTrue broken_now
+  pub clean : broken_now ≡ false → faults_now ≡ faults_before

@@ -1,9 +1,10 @@
 // The journal that writes the log.
 ghost use Rattle.std.specs.Prelude.{◌≡◌, ◌↔◌, ◌+◌, ◌≤◌, ◌%◌, ◌^◌, [], false, not, sum, IsTrue, OnOk, IsErr};
 ghost use Rattle.arrayvec.specs.ArrayVec.{array_vec_len};
-ghost use Rattle.mm_model.specs.Journal.{Writes};
 ghost use Rattle.mm_model.specs.Spelling.{spelling};
 ghost use Rattle.mmgc.specs.Writing.{kept_bytes, Keeps};
+ghost use Rattle.mmgc.specs.Replaying.{Grew};
+ghost use Rattle.mmgc.specs.Logging.{kept_by, KeepsOn};
 ghost use Rattle.mmgc.specs.Keeping.{keeps-same, keeps-trans};
 
 use arrayvec::ArrayVec;
@@ -39,13 +40,8 @@ impl<'a, K: Sink> LogWriter<'a, K> {
 
     /// Writes a line. It reaches the sink when the next piece is full, or at the latest when the writer settles.
     pub fn line(&mut self, line: &Line)
-        ensures written { Writes
-            (kept_bytes (K.taken self.old.sink.now) self.old.broken self.old.pending.items) self.old.broken
-            (kept_bytes (K.taken self.new.sink.now) self.new.broken self.new.pending.items) self.new.broken
-            (spelling line.now) }
-        ensures kept { Keeps self.old.sink.ghost_name self.new.sink.ghost_name
-            (K.faults self.old.sink.now) (K.faults self.new.sink.now)
-            (K.taken self.old.sink.now) (K.taken self.new.sink.now) self.old.broken self.new.broken }
+        ensures written { Grew (kept_by K.taken self.old) (kept_by K.taken self.new) (spelling line.now) }
+        ensures kept { KeepsOn K.faults K.taken self.old self.new }
     {
         self.make_room();
         self.append(line);
@@ -55,12 +51,8 @@ impl<'a, K: Sink> LogWriter<'a, K> {
     pub fn settle(&mut self) -> Result<(), Failed>
         ensures broken { IsErr result ↔ IsTrue self.new.broken }
         ensures nothing_pending { OnOk result (self.new.pending.items ≡ []) }
-        ensures written { Writes
-            (kept_bytes (K.taken self.old.sink.now) self.old.broken self.old.pending.items) self.old.broken
-            (kept_bytes (K.taken self.new.sink.now) self.new.broken self.new.pending.items) self.new.broken [] }
-        ensures kept { Keeps self.old.sink.ghost_name self.new.sink.ghost_name
-            (K.faults self.old.sink.now) (K.faults self.new.sink.now)
-            (K.taken self.old.sink.now) (K.taken self.new.sink.now) self.old.broken self.new.broken }
+        ensures written { Grew (kept_by K.taken self.old) (kept_by K.taken self.new) [] }
+        ensures kept { KeepsOn K.faults K.taken self.old self.new }
     {
         self.write_pending();
         self.outcome()
@@ -70,12 +62,8 @@ impl<'a, K: Sink> LogWriter<'a, K> {
     pub(crate) fn finish(&mut self) -> Result<(), Failed>
         ensures broken { IsErr result ↔ IsTrue self.new.broken }
         ensures nothing_pending { OnOk result (self.new.pending.items ≡ []) }
-        ensures written { Writes
-            (kept_bytes (K.taken self.old.sink.now) self.old.broken self.old.pending.items) self.old.broken
-            (kept_bytes (K.taken self.new.sink.now) self.new.broken self.new.pending.items) self.new.broken [] }
-        ensures kept { Keeps self.old.sink.ghost_name self.new.sink.ghost_name
-            (K.faults self.old.sink.now) (K.faults self.new.sink.now)
-            (K.taken self.old.sink.now) (K.taken self.new.sink.now) self.old.broken self.new.broken }
+        ensures written { Grew (kept_by K.taken self.old) (kept_by K.taken self.new) [] }
+        ensures kept { KeepsOn K.faults K.taken self.old self.new }
     {
         self.write_pending();
         self.flush();
@@ -98,12 +86,8 @@ impl<'a, K: Sink> LogWriter<'a, K> {
     // The longest line fits behind what is pending.
     fn make_room(&mut self)
         ensures room { array_vec_len self.new.pending + 64 ≤ 4096 }
-        ensures written { Writes
-            (kept_bytes (K.taken self.old.sink.now) self.old.broken self.old.pending.items) self.old.broken
-            (kept_bytes (K.taken self.new.sink.now) self.new.broken self.new.pending.items) self.new.broken [] }
-        ensures kept { Keeps self.old.sink.ghost_name self.new.sink.ghost_name
-            (K.faults self.old.sink.now) (K.faults self.new.sink.now)
-            (K.taken self.old.sink.now) (K.taken self.new.sink.now) self.old.broken self.new.broken }
+        ensures written { Grew (kept_by K.taken self.old) (kept_by K.taken self.new) [] }
+        ensures kept { KeepsOn K.faults K.taken self.old self.new }
     {
         if self.pending.remaining_capacity() < 64 {
             self.write_pending();
@@ -112,13 +96,8 @@ impl<'a, K: Sink> LogWriter<'a, K> {
 
     fn append(&mut self, line: &Line)
         requires { array_vec_len self.old.pending + 64 ≤ 4096 }
-        ensures written { Writes
-            (kept_bytes (K.taken self.old.sink.now) self.old.broken self.old.pending.items) self.old.broken
-            (kept_bytes (K.taken self.new.sink.now) self.new.broken self.new.pending.items) self.new.broken
-            (spelling line.now) }
-        ensures kept { Keeps self.old.sink.ghost_name self.new.sink.ghost_name
-            (K.faults self.old.sink.now) (K.faults self.new.sink.now)
-            (K.taken self.old.sink.now) (K.taken self.new.sink.now) self.old.broken self.new.broken }
+        ensures written { Grew (kept_by K.taken self.old) (kept_by K.taken self.new) (spelling line.now) }
+        ensures kept { KeepsOn K.faults K.taken self.old self.new }
     {
         if self.whole() {
             write_line(line, &mut self.pending);
@@ -128,12 +107,8 @@ impl<'a, K: Sink> LogWriter<'a, K> {
     // Nothing is pending afterwards: the sink has it, or it is lost.
     fn write_pending(&mut self)
         ensures nothing_pending { self.new.pending.items ≡ [] }
-        ensures written { Writes
-            (kept_bytes (K.taken self.old.sink.now) self.old.broken self.old.pending.items) self.old.broken
-            (kept_bytes (K.taken self.new.sink.now) self.new.broken self.new.pending.items) self.new.broken [] }
-        ensures kept { Keeps self.old.sink.ghost_name self.new.sink.ghost_name
-            (K.faults self.old.sink.now) (K.faults self.new.sink.now)
-            (K.taken self.old.sink.now) (K.taken self.new.sink.now) self.old.broken self.new.broken }
+        ensures written { Grew (kept_by K.taken self.old) (kept_by K.taken self.new) [] }
+        ensures kept { KeepsOn K.faults K.taken self.old self.new }
     {
         if self.whole() {
             self.broken = write_all(self.sink, self.pending.as_slice()).is_err();
@@ -143,12 +118,8 @@ impl<'a, K: Sink> LogWriter<'a, K> {
 
     fn flush(&mut self)
         ensures pending { self.new.pending ≡ self.old.pending }
-        ensures written { Writes
-            (kept_bytes (K.taken self.old.sink.now) self.old.broken self.old.pending.items) self.old.broken
-            (kept_bytes (K.taken self.new.sink.now) self.new.broken self.new.pending.items) self.new.broken [] }
-        ensures kept { Keeps self.old.sink.ghost_name self.new.sink.ghost_name
-            (K.faults self.old.sink.now) (K.faults self.new.sink.now)
-            (K.taken self.old.sink.now) (K.taken self.new.sink.now) self.old.broken self.new.broken }
+        ensures written { Grew (kept_by K.taken self.old) (kept_by K.taken self.new) [] }
+        ensures kept { KeepsOn K.faults K.taken self.old self.new }
     {
         self.broken = self.broken || self.sink.flush().is_err();
     }

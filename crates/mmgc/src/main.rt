@@ -1,41 +1,95 @@
 //! The program `mmgc`: it replays a trace of commands and prints a log.
 #![tactic(auto)]
 
+ghost use Rattle.std.specs.Prelude.{◌≡◌, ◌≢◌, Option, map, string_bytes};
+ghost use Rattle.std.specs.IoError.{error_kind};
+ghost use Rattle.mm_model.specs.FlatView.{FlatView};
+ghost use Rattle.mmgc.specs.Program.{Ran};
+ghost use Rattle.mmgc.specs.Telling.{IsTold};
+
+mod generator;
 mod log;
 mod program;
+mod quiet;
 mod replay;
 #[cfg(test)]
 mod tests;
+mod words;
 
+pub use generator::generated;
 pub use log::LogWriter;
-use mm_io::{NoMemory, StdSink, StdSource};
+use mm_io::{NoMemory, Sink, Source, StdSink, StdSource};
 pub use program::{Outcome, run};
+pub use quiet::Quiet;
 use std::alloc::Global;
 use std::io;
+use std::io::ErrorKind;
 use std::process::ExitCode;
 
-/// The words behind the program's name, where they can be had.
-fn words(rt: &HostRuntime, alloc: Global) -> io::Result<Vec<String>> {
+/// The words behind the program's name. An error of another kind than OutOfMemory says that they can't be had.
+fn fetch_words(rt: &HostRuntime, alloc: Global) -> io::Result<Vec<String>> {
     let words = std::env::args(rt)?.skip(1).collect(alloc)?;
     Ok(words)
 }
 
-/// Runs over standard input, standard output and standard error, and gives the exit status.
+/// Runs over these streams, closes the heap, and gives the exit status.
+fn exit_status<S: Source, K: Sink, E: Sink>(
+    alloc: Global,
+    words: &[String],
+    source: &mut S,
+    out: &mut K,
+    err: &mut E,
+) -> u8
+    ensures ran { (heap : Option FlatView) × Ran (map (λ word. string_bytes word) words.now)
+        (record {
+          named = S.named source.old;
+          input = record {
+            left = S.left source.old;
+            left_after = S.left source.new;
+            faults = S.faults source.old;
+            faults_after = S.faults source.new;
+          };
+          output = record {
+            taken = K.taken out.old;
+            taken_after = K.taken out.new;
+            faults = K.faults out.old;
+            faults_after = K.faults out.new;
+          };
+        })
+        (record { status = result; heap = heap })
+        (λ text. IsTold (E.taken err.old) (E.taken err.new) (E.faults err.old) (E.faults err.new) text) }
+{
+    let Outcome { status, heap } = run(alloc, words, source, out, err);
+    if let Some(heap) = heap {
+        heap.close();
+    }
+    status
+}
+
+/// Runs over standard input, standard output and standard error.
 fn run_on_host(rt: &HostRuntime, words: &[String]) -> Result<u8, NoMemory> {
     let alloc = rt.alloc();
     let mut source = StdSource::make(rt, alloc)?;
     let mut out = StdSink::make(rt, alloc, false)?;
     let mut err = StdSink::make(rt, alloc, true)?;
-    let Outcome { status, heap } = run(alloc, words, &mut source, &mut out, &mut err);
-    if let Some(heap) = heap {
-        heap.close();
+    Ok(exit_status(alloc, words, &mut source, &mut out, &mut err))
+}
+
+/// Where the words can't be had the status is 5 for want of memory, and else 7.
+fn words_status(error: &io::Error) -> u8
+    ensures memory { error_kind error.now ≡ ErrorKind.OutOfMemory → result ≡ 5 }
+    ensures other { error_kind error.now ≢ ErrorKind.OutOfMemory → result ≡ 7 }
+{
+    if error.kind() == ErrorKind::OutOfMemory {
+        5
+    } else {
+        7
     }
-    Ok(status)
 }
 
 fn main(rt: HostRuntime) -> ExitCode {
-    match words(&rt, rt.alloc()) {
-        Err(_) => ExitCode::from(7),
-        Ok(words) => ExitCode::from(run_on_host(&rt, &words).unwrap_or(5)),
-    }
+    ExitCode::from(match fetch_words(&rt, rt.alloc()) {
+        Ok(words) => run_on_host(&rt, &words).unwrap_or(5),
+        Err(error) => words_status(&error),
+    })
 }

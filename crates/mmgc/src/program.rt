@@ -1,12 +1,16 @@
 // The program, over whatever its bytes come from and go to.
-ghost use Rattle.std.specs.Prelude.{◌≡◌, ◌≤◌, ◌++◌, not, length, nat_eq};
+ghost use Rattle.std.specs.Prelude.{◌≡◌, ◌≤◌, ◌++◌, ◌∷◌, List, ℕ, None, OnOk, OnErr, IsSome, codes, map, option_map, string_bytes};
+ghost use Rattle.mm_io.specs.Faults.{CountsChoice};
+ghost use Rattle.mm_model.specs.Limits.{IsWithinLimits};
 ghost use Rattle.mmgc.specs.Completing.{IsComplete};
-ghost use Rattle.mmgc.specs.Run.{Ran, Replayed, status_of};
+ghost use Rattle.mmgc.specs.Program.{IsInput, Ran, Serves, status_of};
+ghost use Rattle.mmgc.specs.Requests.{asked_by};
 ghost use Rattle.mmgc.specs.Telling.{IsTold, Takes, end_text, line_text};
 
 use crate::replay::{End, carry_out};
+use crate::words::{Request, WordsFault, list_words, read_words};
 use mm_gc::{Gc, Settings};
-use mm_io::{Failed, Sink, Source, write_all};
+use mm_io::{ChooseFault, Failed, Sink, Source, write_all};
 use mm_model::LineFault;
 use mm_trace::fault_text;
 use std::alloc::Global;
@@ -87,43 +91,66 @@ fn tell_end<E: Sink>(err: &mut E, end: End)
     let _ = write_end(err, end);
 }
 
-/// Reads a trace from `source`, carries it out, and writes its log to `out`; what went wrong is said on `err`.
-///
-/// No words are understood yet. A fault of `err` changes nothing.
-pub fn run<S: Source, K: Sink, E: Sink>(
+fn no_memory<E: Sink>(err: &mut E) -> Outcome
+    ensures status { result.status ≡ 5 }
+    ensures heap { result.heap ≡ None }
+    ensures said { IsTold (E.taken err.old) (E.taken err.new) (E.faults err.old) (E.faults err.new)
+        (codes "mmgc: out of memory\n") }
+{
+    tell(err, b"mmgc: out of memory\n");
+    Outcome {
+        status: 5,
+        heap: None,
+    }
+}
+
+/// Turns to the file that is asked for, if one is.
+fn open_input<S: Source>(source: &mut S, file: Option<&str>) -> Result<(), ChooseFault>
+    ensures opened { OnOk result (IsInput (option_map (λ name. name.now) file.entry) (S.named source.old)
+        (S.left source.old) (S.left source.new)) }
+    ensures refused { OnErr result (S.left source.new ≡ S.left source.old) }
+    ensures same_file { S.named source.new ≡ S.named source.old }
+    ensures asked { OnErr result (IsSome file.entry) }
+    ensures faults { CountsChoice (S.faults source.old) (S.faults source.new) result }
+{
+    match file {
+        Some(name) => source.choose(name),
+        None => Ok(()),
+    }
+}
+
+/// Replays the input of `source` on a new heap.
+fn replay<S: Source, K: Sink, E: Sink>(
     alloc: Global,
-    words: &[String],
+    settings: Settings,
     source: &mut S,
     out: &mut K,
     err: &mut E,
 ) -> Outcome
-    ensures ran { Ran (not (nat_eq (length words.now) 0)) result.status result.heap ((source.new ≡ source.old)
-        × (out.new ≡ out.old))
-        (λ text. IsTold (E.taken err.old) (E.taken err.new) (E.faults err.old) (E.faults err.new) text)
-        (λ end heap. Replayed end (S.left source.old) (S.left source.new) (S.faults source.old)
-        (S.faults source.new)
-        (K.taken out.old) (K.taken out.new) (K.faults out.old) (K.faults out.new) heap) }
-    ensures complete { IsComplete result.status (length words.now) (S.left source.old) (S.left source.new)
-        (S.faults source.old) (S.faults source.new) (K.faults out.old) (K.faults out.new) }
+    requires { IsWithinLimits settings }
+    ensures served { Serves (record { settings = settings; file = None })
+        (record {
+          named = S.named source.old;
+          input = record {
+            left = S.left source.old;
+            left_after = S.left source.new;
+            faults = S.faults source.old;
+            faults_after = S.faults source.new;
+          };
+          output = record {
+            taken = K.taken out.old;
+            taken_after = K.taken out.new;
+            faults = K.faults out.old;
+            faults_after = K.faults out.new;
+          };
+        })
+        result (λ text. IsTold (E.taken err.old) (E.taken err.new) (E.faults err.old) (E.faults err.new) text) }
     ensures source { S.faults source.old ≤ S.faults source.new }
     ensures out { K.faults out.old ≤ K.faults out.new }
     ensures err { E.faults err.old ≤ E.faults err.new }
 {
-    if !words.is_empty() {
-        tell(err, b"mmgc: bad arguments\n");
-        return Outcome {
-            status: 2,
-            heap: None,
-        };
-    }
-    match Gc::make(alloc, Settings::DEFAULT) {
-        Err(_) => {
-            tell(err, b"mmgc: out of memory\n");
-            Outcome {
-                status: 5,
-                heap: None,
-            }
-        }
+    match Gc::make(alloc, settings) {
+        Err(_) => no_memory(err),
         Ok(mut heap) => {
             let end = carry_out(&mut heap, source, out);
             tell_end(err, end);
@@ -132,5 +159,143 @@ pub fn run<S: Source, K: Sink, E: Sink>(
                 heap: Some(heap),
             }
         }
+    }
+}
+
+/// Opens the file that is asked for, and then replays it.
+fn serve<S: Source, K: Sink, E: Sink>(
+    alloc: Global,
+    request: Request<'_>,
+    source: &mut S,
+    out: &mut K,
+    err: &mut E,
+) -> Outcome
+    requires { IsWithinLimits request.settings }
+    ensures served { Serves (asked_by request.entry)
+        (record {
+          named = S.named source.old;
+          input = record {
+            left = S.left source.old;
+            left_after = S.left source.new;
+            faults = S.faults source.old;
+            faults_after = S.faults source.new;
+          };
+          output = record {
+            taken = K.taken out.old;
+            taken_after = K.taken out.new;
+            faults = K.faults out.old;
+            faults_after = K.faults out.new;
+          };
+        })
+        result (λ text. IsTold (E.taken err.old) (E.taken err.new) (E.faults err.old) (E.faults err.new) text) }
+    ensures source { S.faults source.old ≤ S.faults source.new }
+    ensures out { K.faults out.old ≤ K.faults out.new }
+    ensures err { E.faults err.old ≤ E.faults err.new }
+{
+    match open_input(source, request.file) {
+        Ok(()) => replay(alloc, request.settings, source, out, err),
+        Err(ChooseFault::NoMemory) => no_memory(err),
+        Err(ChooseFault::Failed) => {
+            tell(err, b"mmgc: read failed\n");
+            Outcome {
+                status: 3,
+                heap: None,
+            }
+        }
+    }
+}
+
+/// Does what the words ask for. The first one is the program's name.
+fn serve_words<S: Source, K: Sink, E: Sink>(
+    alloc: Global,
+    list: &[&str],
+    source: &mut S,
+    out: &mut K,
+    err: &mut E,
+) -> Outcome
+    ensures ran { (words : List (List ℕ)) → map (λ word. word.now) list.now ≡ codes "mmgc" ∷ words → Ran words
+        (record {
+          named = S.named source.old;
+          input = record {
+            left = S.left source.old;
+            left_after = S.left source.new;
+            faults = S.faults source.old;
+            faults_after = S.faults source.new;
+          };
+          output = record {
+            taken = K.taken out.old;
+            taken_after = K.taken out.new;
+            faults = K.faults out.old;
+            faults_after = K.faults out.new;
+          };
+        })
+        result (λ text. IsTold (E.taken err.old) (E.taken err.new) (E.faults err.old) (E.faults err.new) text) }
+    ensures source { S.faults source.old ≤ S.faults source.new }
+    ensures out { K.faults out.old ≤ K.faults out.new }
+    ensures err { E.faults err.old ≤ E.faults err.new }
+{
+    match read_words(alloc, list) {
+        Ok(request) => serve(alloc, request, source, out, err),
+        Err(WordsFault::NoMemory) => no_memory(err),
+        Err(WordsFault::Refused) => {
+            tell(err, b"mmgc: bad arguments\n");
+            Outcome {
+                status: 2,
+                heap: None,
+            }
+        }
+    }
+}
+
+/// Reads a trace from `source`, carries it out, and writes its log to `out`; what went wrong is said on `err`.
+///
+/// `words` are the words behind the program's name. A fault of `err` changes neither the status nor the log.
+pub fn run<S: Source, K: Sink, E: Sink>(
+    alloc: Global,
+    words: &[String],
+    source: &mut S,
+    out: &mut K,
+    err: &mut E,
+) -> Outcome
+    ensures ran { Ran (map (λ word. string_bytes word) words.now)
+        (record {
+          named = S.named source.old;
+          input = record {
+            left = S.left source.old;
+            left_after = S.left source.new;
+            faults = S.faults source.old;
+            faults_after = S.faults source.new;
+          };
+          output = record {
+            taken = K.taken out.old;
+            taken_after = K.taken out.new;
+            faults = K.faults out.old;
+            faults_after = K.faults out.new;
+          };
+        })
+        result (λ text. IsTold (E.taken err.old) (E.taken err.new) (E.faults err.old) (E.faults err.new) text) }
+    ensures complete { IsComplete (map (λ word. string_bytes word) words.now)
+        (record {
+          named = S.named source.old;
+          input = record {
+            left = S.left source.old;
+            left_after = S.left source.new;
+            faults = S.faults source.old;
+            faults_after = S.faults source.new;
+          };
+          output = record {
+            taken = K.taken out.old;
+            taken_after = K.taken out.new;
+            faults = K.faults out.old;
+            faults_after = K.faults out.new;
+          };
+        }) result.status }
+    ensures source { S.faults source.old ≤ S.faults source.new }
+    ensures out { K.faults out.old ≤ K.faults out.new }
+    ensures err { E.faults err.old ≤ E.faults err.new }
+{
+    match list_words(alloc, words) {
+        Ok(list) => serve_words(alloc, list.as_slice(), source, out, err),
+        Err(_) => no_memory(err),
     }
 }

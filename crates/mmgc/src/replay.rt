@@ -1,13 +1,13 @@
 // A trace that is being carried out.
-ghost use Rattle.std.specs.Prelude.{◌≡◌, ℕ, ◌+◌, ◌-◌, ◌<◌, ◌≤◌, ◌++◌, ◌∷◌, [], ◌^◌, false, Some, None, Ok, Err, Option, List, length, IfOk, IfSome};
+ghost use Rattle.std.specs.Prelude.{◌≡◌, ℕ, ◌+◌, ◌-◌, ◌<◌, ◌≤◌, ◌++◌, ◌∷◌, [], ◌^◌, false, true, Some, None, Ok, Err, Option, List, length, IfOk, IfSome, OnOk, IsTrue, cond};
 ghost use Rattle.mm_gc.specs.Built.{IsBuilt};
-ghost use Rattle.mmgc.specs.Logging.{kept_by, KeepsOn};
+ghost use Rattle.mm_io.specs.Told.{Gives};
 ghost use Rattle.mm_trace.specs.Held.{nothing_held};
-ghost use Rattle.mm_model.specs.Trace.{complete_lines, lines_of};
-ghost use Rattle.mmgc.specs.Run.{Ended, Totalled, Finished, Replayed, NothingLeft, TakesPiece, Turns, ReadsAll};
-ghost use Rattle.mmgc.specs.Replaying.{built_reading, DoesLine, CarriesOut, Progress, Stopped, GoesOn, IsUnderWay, most_bytes, default_settings};
-ghost use Rattle.mm_model.specs.State.{empty_state};
-ghost use Rattle.mm_model.specs.FlatView.{FlatShows};
+ghost use Rattle.mm_model.specs.declared.settings.Settings.{Settings};
+ghost use Rattle.mm_model.specs.Trace.{complete_lines, lines_of, FaultAt};
+ghost use Rattle.mmgc.specs.Logging.{kept_by, moment_of, KeepsOn};
+ghost use Rattle.mmgc.specs.Replaying.{built_reading, CarriesOut, DoesLine, GoesOn, IsNew, IsUnderWay, Progress, Start, Stopped, most_bytes};
+ghost use Rattle.mmgc.specs.Run.{Ended, Input, IsFaultOf, IsLogOf, Logged, NothingLeft, Reach, Replayed, Turns, lines_in};
 
 use crate::log::LogWriter;
 use mm_gc::{Gc, built};
@@ -73,7 +73,7 @@ fn execute<K: Sink, L: Ledger>(
     requires commands { heap.old.totals.commands < 2 ^ 32 - 1 }
     requires births { heap.old.totals.born < 2 ^ 32 - 1 }
     ensures carried { CarriesOut heap.old heap.new command.now
-        (kept_by K.taken log.old) log.old.broken (kept_by K.taken log.new) log.new.broken }
+        (kept_by K.taken log.old) (kept_by K.taken log.new) }
     ensures kept { KeepsOn K.faults K.taken log.old log.new }
 {
     let mut steps = Steps::<L>::open(blank);
@@ -93,7 +93,7 @@ impl Replay {
         ensures done { DoesLine (built_reading self.old.cutter.bytes) result
             ((heap.new ≡ heap.old) × (log.new ≡ log.old))
             (λ command. CarriesOut heap.old heap.new command
-            (kept_by K.taken log.old) log.old.broken (kept_by K.taken log.new) log.new.broken) }
+            (kept_by K.taken log.old) (kept_by K.taken log.new)) }
         ensures kept { KeepsOn K.faults K.taken log.old log.new }
         ensures cutter { self.new.cutter ≡ self.old.cutter }
         ensures lines { self.new.lines ≡ self.old.lines }
@@ -114,15 +114,12 @@ impl Replay {
         log: &mut LogWriter<'_, K>,
         byte: u8,
     ) -> Result<(), LineFault>
-        requires { IsUnderWay heap.old self.old.cutter self.old.lines (kept_by K.taken log.old) log.old.broken 1 }
-        ensures progress { (start : Option (List ℕ)) (bytes : List ℕ) → length bytes + 1 ≤ most_bytes →
-            Progress start bytes heap.old self.old.cutter self.old.lines (kept_by K.taken log.old) log.old.broken →
-            GoesOn result
-            (Progress start (bytes ++ byte ∷ []) heap.new self.new.cutter self.new.lines
-            (kept_by K.taken log.new) log.new.broken)
+        requires { IsUnderWay (moment_of K.taken heap.old self.old log.old) 1 }
+        ensures progress { (start : Start) (bytes : List ℕ) → length bytes + 1 ≤ most_bytes →
+            Progress start bytes (moment_of K.taken heap.old self.old log.old) →
+            GoesOn result (Progress start (bytes ++ byte ∷ []) (moment_of K.taken heap.new self.new log.new))
             (λ fault. (rest : List ℕ) → Stopped start (complete_lines (bytes ++ byte ∷ rest))
-            (Some (record { line = self.new.lines; fault = fault }))
-            heap.new (kept_by K.taken log.new) log.new.broken) }
+            (Some (record { line = self.new.lines; fault = fault })) heap.new (kept_by K.taken log.new)) }
         ensures kept { KeepsOn K.faults K.taken log.old log.new }
     {
         match self.cutter.push(byte) {
@@ -147,17 +144,12 @@ impl Replay {
         log: &mut LogWriter<'_, K>,
         piece: &[u8],
     ) -> Result<(), LineFault>
-        requires { IsUnderWay heap.old self.old.cutter self.old.lines (kept_by K.taken log.old) log.old.broken
-            (length piece.now) }
-        ensures progress { (start : Option (List ℕ)) (bytes : List ℕ) →
-            length bytes + length piece.now ≤ most_bytes →
-            Progress start bytes heap.old self.old.cutter self.old.lines (kept_by K.taken log.old) log.old.broken →
-            GoesOn result
-            (Progress start (bytes ++ piece.now) heap.new self.new.cutter self.new.lines
-            (kept_by K.taken log.new) log.new.broken)
+        requires { IsUnderWay (moment_of K.taken heap.old self.old log.old) (length piece.now) }
+        ensures progress { (start : Start) (bytes : List ℕ) → length bytes + length piece.now ≤ most_bytes →
+            Progress start bytes (moment_of K.taken heap.old self.old log.old) →
+            GoesOn result (Progress start (bytes ++ piece.now) (moment_of K.taken heap.new self.new log.new))
             (λ fault. Stopped start (complete_lines (bytes ++ piece.now))
-            (Some (record { line = self.new.lines; fault = fault }))
-            heap.new (kept_by K.taken log.new) log.new.broken) }
+            (Some (record { line = self.new.lines; fault = fault })) heap.new (kept_by K.taken log.new)) }
         ensures kept { KeepsOn K.faults K.taken log.old log.new }
     {
         for byte in piece {
@@ -174,13 +166,12 @@ impl Replay {
         heap: &mut Gc,
         log: &mut LogWriter<'_, K>,
     ) -> Result<(), LineFault>
-        requires { IsUnderWay heap.old self.old.cutter self.old.lines (kept_by K.taken log.old) log.old.broken 0 }
-        ensures stopped { (start : Option (List ℕ)) (bytes : List ℕ) → length bytes ≤ most_bytes →
-            Progress start bytes heap.old self.old.cutter self.old.lines (kept_by K.taken log.old) log.old.broken →
-            GoesOn result
-            (Stopped start (lines_of bytes) None heap.new (kept_by K.taken log.new) log.new.broken)
+        requires { IsUnderWay (moment_of K.taken heap.old self.old log.old) 0 }
+        ensures stopped { (start : Start) (bytes : List ℕ) → length bytes ≤ most_bytes →
+            Progress start bytes (moment_of K.taken heap.old self.old log.old) →
+            GoesOn result (Stopped start (lines_of bytes) None heap.new (kept_by K.taken log.new))
             (λ fault. Stopped start (lines_of bytes) (Some (record { line = self.new.lines; fault = fault }))
-            heap.new (kept_by K.taken log.new) log.new.broken) }
+            heap.new (kept_by K.taken log.new)) }
         ensures kept { KeepsOn K.faults K.taken log.old log.new }
     {
         if self.cutter.line().is_empty() {
@@ -190,7 +181,8 @@ impl Replay {
         self.take_line(heap, log)
     }
 
-    /// Writes what is pending, reads once, and takes what was read; `room` is how many bytes a trace may still have.
+    /// Writes what is pending, and then reads once and takes what was read; `room` is how many bytes a trace may still
+    /// have.
     fn turn<S: Source, K: Sink>(
         &mut self,
         heap: &mut Gc,
@@ -200,19 +192,50 @@ impl Replay {
         room: u32,
     ) -> Result<u32, End>
         requires buffer { (0 < length buffer.old) × (length buffer.old ≤ 4096) }
-        requires room { IsUnderWay heap.old self.old.cutter self.old.lines
-            (kept_by K.taken log.old) log.old.broken room }
-        ensures turned { (start : Option (List ℕ)) (bytes : List ℕ) → length bytes + room ≡ most_bytes →
-            Progress start bytes heap.old self.old.cutter self.old.lines (kept_by K.taken log.old) log.old.broken →
-            Turns result start bytes room (S.left source.old) (S.left source.new) (S.faults source.old)
-            (S.faults source.new)
-            heap.new self.new.cutter self.new.lines (kept_by K.taken log.new) log.new.broken }
+        requires room { IsUnderWay (moment_of K.taken heap.old self.old log.old) room }
+        ensures turned { (start : Start) (bytes : List ℕ) → length bytes + room ≡ most_bytes →
+            Progress start bytes (moment_of K.taken heap.old self.old log.old) →
+            Turns result start bytes (record {
+              left = S.left source.old;
+              left_after = S.left source.new;
+              faults = S.faults source.old;
+              faults_after = S.faults source.new;
+            }) (moment_of K.taken heap.new self.new log.new) }
+        ensures room_left { IfOk result (λ n. n ≤ room) }
         ensures faults { S.faults source.old ≤ S.faults source.new }
         ensures kept { KeepsOn K.faults K.taken log.old log.new }
     {
-        if log.settle().is_err() {
-            return Err(End::WriteFailed);
+        match log.settle() {
+            Ok(()) => self.read_on(heap, log, source, buffer, room),
+            Err(_) => Err(End::WriteFailed),
         }
+    }
+
+    /// Reads once, where the log of all that was read is written, and takes what was read.
+    fn read_on<S: Source, K: Sink>(
+        &mut self,
+        heap: &mut Gc,
+        log: &mut LogWriter<'_, K>,
+        source: &mut S,
+        buffer: &mut [u8],
+        room: u32,
+    ) -> Result<u32, End>
+        requires whole { log.old.broken ≡ false }
+        requires settled { log.old.pending.items ≡ [] }
+        requires buffer { (0 < length buffer.old) × (length buffer.old ≤ 4096) }
+        requires room { IsUnderWay (moment_of K.taken heap.old self.old log.old) room }
+        ensures turned { (start : Start) (bytes : List ℕ) → length bytes + room ≡ most_bytes →
+            Progress start bytes (moment_of K.taken heap.old self.old log.old) →
+            Turns result start bytes (record {
+              left = S.left source.old;
+              left_after = S.left source.new;
+              faults = S.faults source.old;
+              faults_after = S.faults source.new;
+            }) (moment_of K.taken heap.new self.new log.new) }
+        ensures room_left { IfOk result (λ n. n ≤ room) }
+        ensures faults { S.faults source.old ≤ S.faults source.new }
+        ensures kept { KeepsOn K.faults K.taken log.old log.new }
+    {
         match source.read(buffer) {
             Err(_) => Err(End::ReadFailed),
             Ok(0) => Err(self.last_line(heap, log)),
@@ -222,11 +245,12 @@ impl Replay {
 
     /// The end of an input of which nothing is left.
     fn last_line<K: Sink>(&mut self, heap: &mut Gc, log: &mut LogWriter<'_, K>) -> End
-        requires { IsUnderWay heap.old self.old.cutter self.old.lines (kept_by K.taken log.old) log.old.broken 0 }
-        ensures ended { (start : Option (List ℕ)) (bytes : List ℕ) (left : Option (List ℕ)) (before now : ℕ) →
-            length bytes ≤ most_bytes → NothingLeft left →
-            Progress start bytes heap.old self.old.cutter self.old.lines (kept_by K.taken log.old) log.old.broken →
-            Ended result start bytes left before now heap.new (kept_by K.taken log.new) log.new.broken }
+        requires { IsUnderWay (moment_of K.taken heap.old self.old log.old) 0 }
+        ensures ended { (start : Start) (bytes : List ℕ) (input : Input) → length bytes ≤ most_bytes →
+            NothingLeft input.left_after → input.faults_after ≡ input.faults →
+            Gives input.left input.left_after [] →
+            Progress start bytes (moment_of K.taken heap.old self.old log.old) →
+            Ended result start bytes input (moment_of K.taken heap.new self.new log.new) }
         ensures kept { KeepsOn K.faults K.taken log.old log.new }
     {
         match self.take_rest(heap, log) {
@@ -247,13 +271,12 @@ impl Replay {
         room: u32,
     ) -> Result<u32, End>
         requires piece { (0 < length piece.now) × (length piece.now ≤ 4096) }
-        requires room { IsUnderWay heap.old self.old.cutter self.old.lines
-            (kept_by K.taken log.old) log.old.broken room }
-        ensures taken { (start : Option (List ℕ)) (bytes : List ℕ) (left : Option (List ℕ)) (before now : ℕ) →
-            length bytes + room ≡ most_bytes →
-            Progress start bytes heap.old self.old.cutter self.old.lines (kept_by K.taken log.old) log.old.broken →
-            TakesPiece result start bytes piece.now room left before now
-            heap.new self.new.cutter self.new.lines (kept_by K.taken log.new) log.new.broken }
+        requires room { IsUnderWay (moment_of K.taken heap.old self.old log.old) room }
+        ensures taken { (start : Start) (bytes : List ℕ) (input : Input) → length bytes + room ≡ most_bytes →
+            input.faults_after ≡ input.faults → Gives input.left input.left_after piece.now →
+            Progress start bytes (moment_of K.taken heap.old self.old log.old) →
+            Turns result start bytes input (moment_of K.taken heap.new self.new log.new) }
+        ensures room_left { IfOk result (λ n. n ≤ room) }
         ensures kept { KeepsOn K.faults K.taken log.old log.new }
     {
         let count = piece.len() as u32;
@@ -276,11 +299,14 @@ impl Replay {
         log: &mut LogWriter<'_, K>,
         source: &mut S,
     ) -> End
-        requires { Progress (kept_by K.taken log.old) [] heap.old self.old.cutter self.old.lines
-            (kept_by K.taken log.old) log.old.broken }
-        ensures ended { ReadsAll result (kept_by K.taken log.old) (S.left source.old) (S.left source.new)
-            (S.faults source.old) (S.faults source.new)
-            heap.new (kept_by K.taken log.new) log.new.broken }
+        requires { (start : Start) × Progress start [] (moment_of K.taken heap.old self.old log.old) }
+        ensures ended { (start : Start) → Progress start [] (moment_of K.taken heap.old self.old log.old) →
+            Ended result start [] (record {
+              left = S.left source.old;
+              left_after = S.left source.new;
+              faults = S.faults source.old;
+              faults_after = S.faults source.new;
+            }) (moment_of K.taken heap.new self.new log.new) }
         ensures faults { S.faults source.old ≤ S.faults source.new }
         ensures kept { KeepsOn K.faults K.taken log.old log.new }
         ensures same_sink { log.new.sink.ghost_name ≡ log.old.sink.ghost_name }
@@ -313,15 +339,25 @@ impl Replay {
         log: &mut LogWriter<'_, K>,
         source: &mut S,
     ) -> End
-        requires heap { FlatShows heap.old (empty_state default_settings) }
+        requires heap { (settings : Settings) × IsNew settings heap.old }
         requires cutter { self.old.cutter ≡ nothing_held }
         requires lines { self.old.lines ≡ 0 }
         requires whole { log.old.broken ≡ false }
         requires pending { log.old.pending.items ≡ [] }
-        ensures replayed { Replayed result (S.left source.old) (S.left source.new) (S.faults source.old)
-            (S.faults source.new)
-            (K.taken log.old.sink.now) (K.taken log.new.sink.now)
-            (K.faults log.old.sink.now) (K.faults log.new.sink.now) heap.new }
+        ensures replayed { (settings : Settings) → IsNew settings heap.old →
+            Replayed result settings
+            (record {
+              left = S.left source.old;
+              left_after = S.left source.new;
+              faults = S.faults source.old;
+              faults_after = S.faults source.new;
+            })
+            (record {
+              taken = K.taken log.old.sink.now;
+              taken_after = K.taken log.new.sink.now;
+              faults = K.faults log.old.sink.now;
+              faults_after = K.faults log.new.sink.now;
+            }) heap.new }
         ensures source { S.faults source.old ≤ S.faults source.new }
         ensures sink { K.faults log.old.sink.now ≤ K.faults log.new.sink.now }
         ensures same_sink { log.new.sink.ghost_name ≡ log.old.sink.ghost_name }
@@ -333,9 +369,9 @@ impl Replay {
 
 /// Writes the total line after a whole log.
 fn total<K: Sink>(heap: &Gc, log: &mut LogWriter<'_, K>, end: End)
-    ensures totalled { (start : Option (List ℕ)) (bytes : List ℕ) (left : Option (List ℕ)) (before now : ℕ) →
-        Ended end start bytes left before now heap.now (kept_by K.taken log.old) log.old.broken →
-        Totalled end start bytes left before now heap.now (kept_by K.taken log.new) log.new.broken }
+    ensures totalled { (start : Start) (reach : Reach) (fault : Option FaultAt) →
+        IsFaultOf end fault → Stopped start (lines_in reach) fault heap.now (kept_by K.taken log.old) →
+        Logged (IsLogOf end start.settings reach) start heap.now (kept_by K.taken log.new) }
     ensures kept { KeepsOn K.faults K.taken log.old log.new }
 {
     match end {
@@ -346,9 +382,10 @@ fn total<K: Sink>(heap: &Gc, log: &mut LogWriter<'_, K>, end: End)
 
 /// Writes the rest of the log, and says how the replay ended: a fault of the sink comes before all else.
 fn finish<K: Sink>(heap: &Gc, log: &mut LogWriter<'_, K>, end: End) -> End
-    ensures finished { (start : Option (List ℕ)) (bytes : List ℕ) (left : Option (List ℕ)) (before now : ℕ) →
-        Ended end start bytes left before now heap.now (kept_by K.taken log.old) log.old.broken →
-        Finished result start bytes left before now heap.now (kept_by K.taken log.new) log.new.broken }
+    ensures finished { (start : Start) (reach : Reach) (fault : Option FaultAt) →
+        IsFaultOf end fault → Stopped start (lines_in reach) fault heap.now (kept_by K.taken log.old) →
+        Logged (IsLogOf end start.settings reach) start heap.now (kept_by K.taken log.new) }
+    ensures ends { result ≡ cond log.new.broken End.WriteFailed end }
     ensures nothing_pending { log.new.broken ≡ false → log.new.pending.items ≡ [] }
     ensures kept { KeepsOn K.faults K.taken log.old log.new }
     ensures same_sink { log.new.sink.ghost_name ≡ log.old.sink.ghost_name }
@@ -362,10 +399,21 @@ fn finish<K: Sink>(heap: &Gc, log: &mut LogWriter<'_, K>, end: End) -> End
 
 /// Carries out a whole trace on a heap that nothing was done with yet.
 pub(crate) fn carry_out<S: Source, K: Sink>(heap: &mut Gc, source: &mut S, out: &mut K) -> End
-    requires { FlatShows heap.old (empty_state default_settings) }
-    ensures replayed { Replayed result (S.left source.old) (S.left source.new) (S.faults source.old)
-        (S.faults source.new)
-        (K.taken out.old) (K.taken out.new) (K.faults out.old) (K.faults out.new) heap.new }
+    requires { (settings : Settings) × IsNew settings heap.old }
+    ensures replayed { (settings : Settings) → IsNew settings heap.old →
+        Replayed result settings
+        (record {
+          left = S.left source.old;
+          left_after = S.left source.new;
+          faults = S.faults source.old;
+          faults_after = S.faults source.new;
+        })
+        (record {
+          taken = K.taken out.old;
+          taken_after = K.taken out.new;
+          faults = K.faults out.old;
+          faults_after = K.faults out.new;
+        }) heap.new }
     ensures source { S.faults source.old ≤ S.faults source.new }
     ensures out { K.faults out.old ≤ K.faults out.new }
 {

@@ -2,17 +2,20 @@ ghost use Rattle.std.specs.Prelude.{◌≤◌};
 
 mod faults;
 mod rows;
+mod words;
 
 use crate::{Outcome, run};
 use mm_io::{MemSink, MemSource};
-use std::alloc::Global;
+use std::alloc::{AllocError, Global};
 use std::process::Abort;
 use std::test::Fail;
 
-/// A trace, the most bytes of one read and of one write of the log, and the numbers of the calls that fail: of the
+/// Words, a named file, a trace, the most bytes of one read and of one write of the log, and the numbers of the calls that fail: of the
 /// source, of the log's sink, and of the sink for what is said.
 #[derive(Clone, Copy)]
 struct Given<'a> {
+    words: &'a [&'a str],
+    file: Option<(&'a str, &'a [u8])>,
     trace: &'a [u8],
     piece: usize,
     log_piece: usize,
@@ -27,6 +30,8 @@ impl<'a> Given<'a> {
         ensures log_piece { 1 ≤ result.log_piece }
     {
         Given {
+            words: &[],
+            file: None,
             trace,
             piece: 5,
             log_piece: 7,
@@ -35,6 +40,14 @@ impl<'a> Given<'a> {
             says: &[],
         }
     }
+}
+
+fn listed(alloc: Global, words: &[&str]) -> Result<Vec<String>, AllocError> {
+    let mut list = Vec::new(alloc);
+    for word in words {
+        list.push(String::from_str(alloc, word)?)?;
+    }
+    Ok(list)
 }
 
 fn check(
@@ -48,12 +61,15 @@ fn check(
     requires piece { 1 ≤ given.now.piece }
     requires log_piece { 1 ≤ given.now.log_piece }
 {
-    let words = Vec::new(alloc);
+    let words = listed(alloc, given.words)?;
     let mut source = MemSource::make(
         given.trace.to_vec(alloc)?,
         given.piece,
         given.reads.to_vec(alloc)?,
     );
+    if let Some((name, bytes)) = given.file {
+        source = source.with_file(String::from_str(alloc, name)?, bytes.to_vec(alloc)?);
+    }
     let mut out = MemSink::make(alloc, 20000, given.log_piece, given.writes.to_vec(alloc)?)?;
     let mut err = MemSink::make(alloc, 100, 3, given.says.to_vec(alloc)?)?;
     let outcome = run(alloc, &words, &mut source, &mut out, &mut err);
@@ -163,23 +179,4 @@ fn a_line_may_have_1024_bytes(rt: HostRuntime) -> Result<(), Fail> {
         b"",
         b"mmgc: line 1: line too long\n",
     )
-}
-
-#[test]
-fn words_are_refused(rt: HostRuntime) -> Result<(), Fail> {
-    let alloc = rt.alloc();
-    let mut words = Vec::new(alloc);
-    words.push(String::from_str(alloc, "x")?)?;
-    let mut source = MemSource::make(b"new t 0 4\n".to_vec(alloc)?, 5, Vec::new(alloc));
-    let mut out = MemSink::make(alloc, 100, 7, Vec::new(alloc))?;
-    let mut err = MemSink::make(alloc, 100, 3, Vec::new(alloc))?;
-    let Outcome { status, heap } = run(alloc, &words, &mut source, &mut out, &mut err);
-    assert!(rt; heap.is_none());
-    if let Some(heap) = heap {
-        heap.close();
-    }
-    assert_eq!(rt; status, 2);
-    assert_eq!(rt; out.taken(), b"".as_slice());
-    assert_eq!(rt; err.taken(), b"mmgc: bad arguments\n".as_slice());
-    Ok(())
 }

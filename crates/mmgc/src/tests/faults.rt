@@ -150,9 +150,8 @@ fn status_without_faults(
     requires { IsTrace trace.items }
     ensures { (result ≡ 0) ⊎ (result ≡ 5) }
 {
-    let words = Vec::new(alloc);
     let mut source = ZeroFaultSource::make(trace, 1);
-    let Outcome { status, heap } = run(alloc, &words, &mut source, out, err);
+    let Outcome { status, heap } = run(alloc, &[], &mut source, out, err);
     if let Some(heap) = heap {
         heap.close();
     }

@@ -108,3 +108,37 @@ fn a_run_without_faults_reads_and_writes_words(rt: HostRuntime) -> Result<(), Fa
     assert_eq!(rt; out.taken(), INNER_LOG.as_bytes());
     Ok(())
 }
+
+// The example of docs/trace.md.
+const EXAMPLE: &str =
+    "# An object of four slots takes 32 bytes: its header of 16, and 4 for each slot.
+new t 0 4
+push 7
+# Cell 1 means the object now, and cell 0 has the word 7.
+put 1 0 0
+get 1 0
+
+# The last byte of the object, and one byte too far.
+inner 2 31
+map 0
+inner 0 1
+new t 0 1048576
+stat
+";
+
+const EXAMPLE_LOG: &str = "new 4096
+ok
+ok
+word 7
+word 4127
+object 4096 t 32
+outside
+bad shape
+stat 1 0 0 1022
+total 9 1 0 1
+";
+
+#[test]
+fn the_example_of_the_documents_is_true(rt: HostRuntime) -> Result<(), Fail> {
+    check_whole(&rt, rt.alloc(), EXAMPLE, EXAMPLE_LOG)
+}

@@ -15,5 +15,5 @@ loop-at-preserved g c =
           before.front before.told (rw before.same_room at write.told);
       same_room = write.same_room ∙ before.same_room;
       untouched = λ none. absurd (omega (arith, write.some, none));
-      never_falls = omega (arith, before.never_falls, write.faults.never_falls);
+      no_fault = write.faults.unraised ∙ before.no_fault;
     }

@@ -1,6 +1,6 @@
 use Rattle.std.proofs.Common.{◌+◌, ◌++◌, Some, take, drop, subst}
 use Rattle.mm_model.specs.Trace.{complete_lines}
-use Rattle.mmgc.specs.Logging.{kept_by}
+use Rattle.mmgc.specs.Logging.{kept_by, moment_of}
 use Rattle.mmgc.specs.Replaying.{Progress, Stopped}
 use Rattle.mmgc.proofs.Replays.{piece_room, piece_here, piece_more}
 use Rattle.mmgc.specs.Keeping.{keeps-trans}
@@ -27,7 +27,7 @@ returns-in-Err-clause-progress g c start bytes room p =
     (piece_room bytes piece i c.loop-byte-test.true room) front (drop (i + 1) piece) in
     subst (λ all. Stopped start (complete_lines all) (Some
     (record { line = c.take_byte.new.self.lines; fault = c.in-Err.fault }))
-    c.take_byte.new.heap (kept_by g.K.Sink.taken c.take_byte.new.log) c.take_byte.new.log.broken)
+    c.take_byte.new.heap (kept_by g.K.Sink.taken c.take_byte.new.log))
     (piece_here bytes piece i c.loop-byte-test.true) stopped
 
 pub returns-in-Err-clause-kept : goal.returns-in-Err-clause-kept
@@ -42,8 +42,8 @@ loop-byte-preserved g c =
           let front = c.loop-byte.invariant.progress start bytes room p in
           let next = c.in_default.ensures.progress start (bytes ++ take i piece)
           (piece_room bytes piece i c.loop-byte-test.true room) front in
-          subst (λ all. Progress start all c.take_byte.new.heap c.take_byte.new.self.cutter c.take_byte.new.self.lines
-          (kept_by g.K.Sink.taken c.take_byte.new.log) c.take_byte.new.log.broken)
+          subst (λ all. Progress start all
+          (moment_of g.K.Sink.taken c.take_byte.new.heap c.take_byte.new.self c.take_byte.new.log))
           (piece_more bytes piece i c.loop-byte-test.true) next;
       kept = keeps-trans c.loop-byte.invariant.kept c.take_byte.ensures.kept;
     }

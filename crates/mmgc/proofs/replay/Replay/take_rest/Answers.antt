@@ -39,6 +39,5 @@ returns-clause-stopped g c start bytes room p =
     let some = some_held c.line.result.now c.args.self.now.cutter.bytes c.line.ensures.value (sym c.is_empty.ensures
     ∙ c.if-is_empty.false) in
     let did = c.take_line.ensures in
-    goes-to-end
-    (λ same. (same.0, ap (kept_by g.K.Sink.taken) same.1, ap (λ log. log.broken) same.1))
-    p some c.take_line.result c.take_line.new.self.lines did.lines did.done
+    goes-to-end (λ same. (same.0, ap (kept_by g.K.Sink.taken) same.1))
+    p c.take_line.result some c.take_line.new.self.lines did.lines did.done

@@ -1,0 +1,99 @@
+-- What a run promises of each of its ends.
+use Rattle.std.specs.Prelude.{◌≡◌, ℕ, ◌⊎◌, List, Option, None, Some, IfSome, IsSome, codes, length}
+use Rattle.mm_model.specs.declared.settings.Settings.{Settings}
+use Rattle.mm_model.specs.FlatView.{FlatView}
+use Rattle.mm_model.specs.Trace.{lines_of}
+use Rattle.mm_io.specs.Faults.{Rose}
+use Rattle.mm_io.specs.Told.{NamedFile, Chooses}
+use Rattle.mmgc.specs.declared.program.Outcome.{Outcome}
+use Rattle.mmgc.specs.declared.replay.End.{End}
+use Rattle.mmgc.specs.declared.replay.End.TheVariants.{Whole, Fault, ReadFailed, WriteFailed, TooLong}
+use Rattle.mmgc.specs.Run.{Input, Output, Replayed}
+use Rattle.mmgc.specs.Telling.{end_text}
+use Rattle.mmgc.specs.Words.{Choice, choice_of, choice_read}
+
+-- the exit status of each end
+abbrev pub status_of : End → ℕ
+status_of Whole = 0
+status_of (Fault line fault) = 1
+status_of ReadFailed = 3
+status_of WriteFailed = 4
+status_of TooLong = 6
+
+-- what went through the source and the sink of a run, and the file that the source could turn to
+pub record Traffic : Type 0 where
+  pub named : Option NamedFile
+  pub input : Input
+  pub output : Output
+
+-- The input of a run is what the source has left, or the file that is asked for.
+abbrev pub IsInput : Option (List ℕ) → Option NamedFile → Option (List ℕ) → Option (List ℕ) → Type 0
+IsInput None named left bytes = bytes ≡ left
+IsInput (Some name) named left bytes = Chooses left bytes named name
+
+-- The sink took nothing, and no fault was counted there.
+pub record IsUnwritten (output : Output) : Type 0 where
+  pub taken : output.taken_after ≡ output.taken
+  pub faults : output.faults_after ≡ output.faults
+
+-- There was no memory. Nothing was read, though the file that is asked for may be open.
+pub record LacksMemory (choice : Choice) (traffic : Traffic) (outcome : Outcome) (says : List ℕ → Type 0) :
+    Type 0 where
+  pub status : outcome.status ≡ 5
+  pub no_heap : outcome.heap ≡ None
+  pub text : says (codes "mmgc: out of memory\n")
+  pub unread : (traffic.input.left_after ≡ traffic.input.left) ⊎ IsInput choice.file traffic.named traffic.input.left
+      traffic.input.left_after
+  pub unwritten : IsUnwritten traffic.output
+
+-- The file that is asked for couldn't be opened.
+pub record FailsToOpen (choice : Choice) (traffic : Traffic) (outcome : Outcome) (says : List ℕ → Type 0) :
+    Type 0 where
+  pub asked : IsSome choice.file
+  pub status : outcome.status ≡ 3
+  pub no_heap : outcome.heap ≡ None
+  pub text : says (codes "mmgc: read failed\n")
+  pub cause : Rose traffic.input.faults traffic.input.faults_after
+  pub unread : traffic.input.left_after ≡ traffic.input.left
+  pub unwritten : IsUnwritten traffic.output
+
+-- The input was replayed to this end, on the heap that is handed back.
+pub record Replays (choice : Choice) (traffic : Traffic) (outcome : Outcome) (says : List ℕ → Type 0) : Type 0 where
+  pub end : End
+  pub heap : FlatView
+  pub bytes : Option (List ℕ)
+  pub input : IsInput choice.file traffic.named traffic.input.left bytes
+  pub status : outcome.status ≡ status_of end
+  pub heap_back : outcome.heap ≡ Some heap
+  pub text : says (end_text end)
+  pub replayed : Replayed end choice.settings (record traffic.input { left = bytes }) traffic.output heap
+
+-- what a run comes to for this choice
+abbrev pub Serves : Choice → Traffic → Outcome → (List ℕ → Type 0) → Type 0
+Serves choice traffic outcome says =
+    LacksMemory choice traffic outcome says ⊎ FailsToOpen choice traffic outcome says ⊎ Replays choice traffic
+    outcome says
+
+-- The words can't be read. Nothing was read or written.
+pub record Refuses (words : List (List ℕ)) (traffic : Traffic) (outcome : Outcome) (says : List ℕ → Type 0) :
+    Type 0 where
+  pub unreadable : choice_read words ≡ None
+  pub status : outcome.status ≡ 2
+  pub no_heap : outcome.heap ≡ None
+  pub text : says (codes "mmgc: bad arguments\n")
+  pub unread : traffic.input.left_after ≡ traffic.input.left
+  pub unwritten : IsUnwritten traffic.output
+
+-- There was no memory while the words were read. Nothing was read or written.
+pub record LacksMemoryForWords (traffic : Traffic) (outcome : Outcome) (says : List ℕ → Type 0) : Type 0 where
+  pub status : outcome.status ≡ 5
+  pub no_heap : outcome.heap ≡ None
+  pub text : says (codes "mmgc: out of memory\n")
+  pub unread : traffic.input.left_after ≡ traffic.input.left
+  pub unwritten : IsUnwritten traffic.output
+
+-- what a run comes to for these words
+abbrev pub Ran : List (List ℕ) → Traffic → Outcome → (List ℕ → Type 0) → Type 0
+Ran words traffic outcome says =
+    Refuses words traffic outcome says ⊎ LacksMemoryForWords traffic outcome says
+    ⊎ ((choice : Choice) × (choice_of words ≡ Some choice) × Serves choice traffic outcome says)

@@ -1,0 +1,21 @@
+-- Values and requests as contracts see them.
+use Rattle.std.specs.Prelude.{option_map}
+use Rattle.mmgc.specs.declared.words.Request.{Request}
+use Rattle.mmgc.specs.declared.words.Given.{Given}
+use Rattle.mmgc.specs.Words.{Choice, Values}
+
+abbrev pub asked_by : Request → Choice
+asked_by request = record { settings = request.settings; file = option_map (λ name. name.now) request.file }
+
+abbrev pub values_by : Given → Values
+values_by given =
+    record {
+      pages = option_map (λ text. text.now) given.pages;
+      max = option_map (λ text. text.now) given.max;
+      zct = option_map (λ text. text.now) given.zct;
+      queue = option_map (λ text. text.now) given.queue;
+      stack = option_map (λ text. text.now) given.stack;
+      generated = option_map (λ text. text.now) given.generated;
+      count = option_map (λ text. text.now) given.count;
+      file = option_map (λ text. text.now) given.file;
+    }

@@ -1,0 +1,118 @@
+-- What the words behind the program's name ask for.
+use Rattle.std.specs.Prelude.{◌≡◌, ◌&&◌, ℕ, Bool, true, false, if◌then◌else◌, nat_le, is_some, List, [], ◌∷◌, Option, None, Some, Result, Ok, Err, codes}
+use Rattle.std.specs.Prelude.{option_and_then}
+use Rattle.std.specs.Str.{bytes_eq}
+use Rattle.clap.specs.Words.{App, Row, Rule, Text, first_of, matches_of, new_app, new_rule, takes, with_rule}
+use Rattle.clap.specs.Simple.{on_top}
+use Rattle.mm_model.specs.declared.refusal.LineFault.{LineFault}
+use Rattle.mm_model.specs.declared.settings.Settings.{Settings}
+use Rattle.mm_model.specs.Trace.{number_of}
+
+-- the settings of the heap, and the file to read, where one is named
+pub record Choice : Type 0 where
+  pub settings : Settings
+  pub file : Option (List ℕ)
+
+-- an option with one value
+abbrev pub option_rule : Text → Rule
+option_rule name = record (new_rule name) { long = Some name }
+
+-- a command without flags for help and version
+abbrev pub without_help : App → App
+without_help app = on_top (λ s. record s { disable_help_flag = true; disable_version_flag = true }) app
+
+abbrev pub with_option : App → Text → App
+with_option app name = with_rule app (option_rule name)
+
+-- the options that set something of the heap
+abbrev pub settings_app : App
+settings_app =
+    with_option (with_option (with_option (with_option (with_option (without_help (new_app (codes "mmgc")))
+    (codes "pages")) (codes "max")) (codes "zct")) (codes "queue")) (codes "stack")
+
+-- the program's command
+abbrev pub mmgc_app : App
+mmgc_app =
+    with_rule (with_option (with_option settings_app (codes "gen")) (codes "count")) (new_rule (codes "FILE"))
+
+-- the values that words give, each where it stands
+pub record Values : Type 0 where
+  pub pages : Option Text
+  pub max : Option Text
+  pub zct : Option Text
+  pub queue : Option Text
+  pub stack : Option Text
+  pub generated : Option Text
+  pub count : Option Text
+  pub file : Option Text
+
+abbrev pub values_in : List Row → Values
+values_in rows =
+    record {
+      pages = first_of (codes "pages") rows;
+      max = first_of (codes "max") rows;
+      zct = first_of (codes "zct") rows;
+      queue = first_of (codes "queue") rows;
+      stack = first_of (codes "stack") rows;
+      generated = first_of (codes "gen") rows;
+      count = first_of (codes "count") rows;
+      file = first_of (codes "FILE") rows;
+    }
+
+-- the least and the greatest value of an option, and its value where it doesn't stand
+pub record Limits : Type 0 where
+  pub least : ℕ
+  pub most : ℕ
+  pub default : ℕ
+
+-- a number within limits
+abbrev pub within : Limits → Result ℕ LineFault → Option ℕ
+within limits (Err fault) = None
+within limits (Ok n) = if nat_le limits.least n && nat_le n limits.most then Some n else None
+
+-- what an option's value comes to: none where it's no number of the trace's grammar or out of its limits
+abbrev pub setting_of : Limits → Option Text → Option ℕ
+setting_of limits None = Some limits.default
+setting_of limits (Some text) = within limits (number_of text)
+
+abbrev pub limits : ℕ → ℕ → ℕ → Limits
+limits least most default = record { least = least; most = most; default = default }
+
+-- The greatest number of pages is at least the least one, and is the same where it isn't said.
+abbrev pub settings_of : Values → Option Settings
+settings_of values =
+    option_and_then (λ pages. option_and_then (λ max. option_and_then (λ zct. option_and_then (λ queue.
+    option_and_then (λ stack.
+    Some (record { pages = pages; max = max; zct = zct; queue = queue; stack = stack }))
+    (setting_of (limits 1 65536 1024) values.stack))
+    (setting_of (limits 1 65536 256) values.queue))
+    (setting_of (limits 1 1048575 256) values.zct))
+    (setting_of (limits pages 4096 pages) values.max))
+    (setting_of (limits 2 4096 1024) values.pages)
+
+-- no file, or `-`, stands for the source as handed in
+abbrev pub file_of : Option Text → Option Text
+file_of None = None
+file_of (Some name) = if bytes_eq name (codes "-") then None else Some name
+
+-- Generated traces aren't built yet.
+abbrev pub choice_from : Values → Option Choice
+choice_from values = if is_some values.generated then None else (if is_some values.count then None
+    else option_and_then (λ settings. Some (record { settings = settings; file = file_of values.file }))
+    (settings_of values))
+
+-- what the values ask for that the program's command gives for a list, whose first word is the program's name
+abbrev pub choice_in : List Text → Option Choice
+choice_in list = choice_from (values_in (matches_of mmgc_app list))
+
+-- the same, where the command takes the list
+abbrev pub choice_taken : List Text → Option Choice
+choice_taken list = if takes mmgc_app list then choice_in list else None
+
+-- what the values of the words ask for
+abbrev pub choice_of : List Text → Option Choice
+choice_of words = choice_in (codes "mmgc" ∷ words)
+
+-- what the words ask for, where they can be read
+abbrev pub choice_read : List Text → Option Choice
+choice_read words = choice_taken (codes "mmgc" ∷ words)

@@ -1,0 +1,135 @@
+// What words ask for: settings of the heap, and a file.
+use super::{Given, check, listed};
+use crate::{Outcome, run};
+use mm_io::{MemSink, StdSource};
+use std::alloc::Global;
+use std::fs;
+use std::process::Abort;
+use std::test::Fail;
+
+fn check_words<'a>(
+    rt: &impl Abort,
+    alloc: Global,
+    words: &'a [&'a str],
+    trace: &'a str,
+    log: &str,
+) -> Result<(), Fail> {
+    let given = Given {
+        words,
+        ..Given::whole(trace.as_bytes())
+    };
+    check(rt, alloc, &given, 0, log.as_bytes(), b"")
+}
+
+fn check_file<'a>(
+    rt: &impl Abort,
+    alloc: Global,
+    words: &'a [&'a str],
+    reads: &'a [u32],
+    status: u8,
+    log: &[u8],
+    said: &[u8],
+) -> Result<(), Fail> {
+    let given = Given {
+        words,
+        reads,
+        file: Some(("t", b"new t 0 4\n")),
+        ..Given::whole(b"pop")
+    };
+    check(rt, alloc, &given, status, log, said)
+}
+
+#[test]
+fn words_that_cannot_be_read_are_refused(rt: HostRuntime) -> Result<(), Fail> {
+    let refused: [&[&str]; 20] = [
+        &["--count", "2"],
+        &["--gen", "2"],
+        &["--gen", "1", "--count", "4000001"],
+        &["--gen", "2", "--count", "2", "FILE"],
+        &["--pages", "4097"],
+        &["--pages", "1"],
+        &["--pages", "4", "--max", "3"],
+        &["--max", "4097"],
+        &["--zct", "0"],
+        &["--zct", "1048576"],
+        &["--queue", "65537"],
+        &["--stack", "x"],
+        &["--stack", "+1"],
+        &["--stack", ""],
+        &["--stack", "00000000001"],
+        &["--depth", "1"],
+        &["--pages"],
+        &["--zct", "2", "--zct", "2"],
+        &["--help"],
+        &["a", "b"],
+    ];
+    for words in refused {
+        let given = Given {
+            words,
+            ..Given::whole(b"new t 0 4\n")
+        };
+        check(&rt, rt.alloc(), &given, 2, b"", b"mmgc: bad arguments\n")?;
+    }
+    Ok(())
+}
+
+#[test]
+fn options_set_the_heap(rt: HostRuntime) -> Result<(), Fail> {
+    let deep = "push 1\npush 2\ndup 3\npop 2\n";
+    let deep_log = "ok\nstack full\nno cell\nno cell\ntotal 4 0 0 0\n";
+    let small = "new t 0 0\nstat\n";
+    let small_log = "new 4096\nstat 1 0 0 1\ntotal 2 1 0 1\n";
+    let rows: [(&[&str], &str, &str); 6] = [
+        (&["--stack", "1"], deep, deep_log),
+        (&["--stack=1", "-"], deep, deep_log),
+        (&["--stack", "0000000001", "--"], deep, deep_log),
+        (&["--pages", "3"], small, small_log),
+        (&["--max", "3", "--pages=3", "--zct", "1"], small, small_log),
+        (&["--queue", "1", "--pages", "3"], small, small_log),
+    ];
+    for (words, trace, log) in rows {
+        check_words(&rt, rt.alloc(), words, trace, log)?;
+    }
+    Ok(())
+}
+
+#[test]
+fn a_named_file_takes_the_place_of_the_input(rt: HostRuntime) -> Result<(), Fail> {
+    let alloc = rt.alloc();
+    let log = b"new 4096\ntotal 1 1 0 1\n".as_slice();
+    check_file(&rt, alloc, &["t"], &[], 0, log, b"")?;
+    check_file(&rt, alloc, &["--", "t"], &[], 0, log, b"")?;
+    check_file(&rt, alloc, &["u"], &[], 0, b"total 0 0 0 0\n", b"")?;
+    let said = b"mmgc: line 1: wrong number of words\n".as_slice();
+    check_file(&rt, alloc, &[], &[], 1, b"", said)?;
+    check_file(&rt, alloc, &["-"], &[], 1, b"", said)?;
+    check_file(&rt, alloc, &["t"], &[1], 3, b"", b"mmgc: read failed\n")
+}
+
+// The status and the log.
+fn run_over_file(rt: &HostRuntime, name: &str) -> Result<(u8, MemSink), Fail> {
+    let alloc = rt.alloc();
+    let words = listed(alloc, &[name])?;
+    let mut source = StdSource::make(rt, alloc)?;
+    let mut out = MemSink::make(alloc, 100, 7, Vec::new(alloc))?;
+    let mut err = MemSink::make(alloc, 100, 3, Vec::new(alloc))?;
+    let Outcome { status, heap } = run(alloc, &words, &mut source, &mut out, &mut err);
+    if let Some(heap) = heap {
+        heap.close();
+    }
+    Ok((status, out))
+}
+
+#[test]
+fn a_file_of_the_host_is_replayed(rt: HostRuntime) -> Result<(), Fail> {
+    let name = "a_trace_of_one_object";
+    fs::write(&rt, name, "new t 0 4\n")?;
+    let (status, log) = run_over_file(&rt, name)?;
+    assert_eq!(rt; status, 0);
+    assert_eq!(rt; log.taken(), b"new 4096\ntotal 1 1 0 1\n".as_slice());
+    fs::remove_file(&rt, name)?;
+    let (status, log) = run_over_file(&rt, name)?;
+    assert_eq!(rt; status, 3);
+    assert_eq!(rt; log.taken(), b"".as_slice());
+    Ok(())
+}
