@@ -1,6 +1,9 @@
 -- What callers see of the cells of a region: which are taken, and what is told of each.
-use Rattle.std.specs.Prelude.{◌≡◌, ◌+◌, ◌-◌, ◌*◌, ◌/◌, ◌<◌, ◌≤◌, ℕ, false, List, length, replicate, Option, Some, None, slice_get, slice_set}
+use Rattle.std.specs.Prelude.{◌≡◌, ◌≢◌, ◌+◌, ◌-◌, ◌*◌, ◌/◌, ◌<◌, ◌≤◌, ℕ, false, List, length, replicate}
+use Rattle.std.specs.Prelude.{Option, Some, None, slice_get, slice_index, slice_set}
 use Rattle.mm_model.specs.declared.object.Colour.{Colour}
+use Rattle.mm_model.specs.Place.{Piece, Objects}
+use Rattle.mm_model.specs.Good.{IsInside, AreApart}
 use Rattle.mm_words.specs.Location.{Location}
 use Rattle.mm_cells.specs.declared.marks.CellBits.{CellBits}
 
@@ -10,19 +13,26 @@ pub record Taken : Type 0 where
   pub colour : Colour
   pub flags : CellBits
 
--- where the table lies, how many pages it is for, and for each multiple of 16 bytes the taken cell that begins there
+-- where the table lies, how many pages it is for, for each multiple of 16 bytes the taken cell that begins there, and for
+-- each page the length of the run of pages of cells that begins there, 0 where none does
 pub record Cells : Type 0 where
   pub table : Location
   pub pages : ℕ
   pub taken : List (Option Taken)
+  pub runs : List ℕ
 
 -- no cell is taken
 abbrev pub fresh : Location → ℕ → Cells
-fresh table pages = record { table = table; pages = pages; taken = replicate (256 * pages) None }
+fresh table pages =
+    record { table = table; pages = pages; taken = replicate (256 * pages) None; runs = replicate pages 0 }
 
 -- the same, but that this cell begins at a base, or none does
 abbrev pub with_cell : Cells → ℕ → Option Taken → Cells
 with_cell v base cell = record v { taken = slice_set v.taken (base / 16) cell }
+
+-- the same, but that a run of so many pages begins at a page, or none where it is 0
+abbrev pub with_run : Cells → ℕ → ℕ → Cells
+with_run v page count = record v { runs = slice_set v.runs page count }
 
 -- a taken cell begins at a base, which is a multiple of 16
 pub record Begins (v : Cells) (base : ℕ) (cell : Taken) : Type 0 where
@@ -45,16 +55,31 @@ pub record Covers (v : Cells) (word base : ℕ) (cell : Taken) : Type 0 where
   pub from : base ≤ word
   pub to : word < base + cell.extent
 
--- cells are apart, leave out page 0, and end with the region
+-- the cell as a piece of the region
+abbrev pub piece_at : ℕ → Taken → Piece
+piece_at base cell = record { base = base; extent = cell.extent; family = Objects }
+
+-- the run is one of cells: a taken cell begins in its first page, and no page of it lies past that cell
+pub record IsRunOfCells (v : Cells) (page : ℕ) : Type 0 where
+  pub base : ℕ
+  pub cell : Taken
+  pub begins : Begins v base cell
+  pub inside : base / 4096 ≡ page
+  pub needed : 4096 * (page + slice_index v.runs page) < base + cell.extent + 4096
+
+-- Each cell lies on the grid of its size in the pages from 1 on. No two overlap, and those that share a page have one
+-- size. Each lies in the run that begins at its page, and there are no other runs.
 pub record IsSoundCells (v : Cells) : Type 0 where
   pub two : 2 ≤ v.pages
   pub most : v.pages ≤ 4096
   pub size : length v.taken ≡ 256 * v.pages
-  pub off_zero : (base : ℕ) (cell : Taken) → Begins v base cell → 4096 ≤ base
-  pub within : (base : ℕ) (cell : Taken) → Begins v base cell → base + cell.extent ≤ 4096 * v.pages
-  pub some : (base : ℕ) (cell : Taken) → Begins v base cell → 16 ≤ cell.extent
-  pub apart : (low high : ℕ) (lower higher : Taken) → Begins v low lower → Begins v high higher → low < high
-      → low + lower.extent ≤ high
+  pub runs_size : length v.runs ≡ v.pages
+  pub inside : (base : ℕ) (cell : Taken) → Begins v base cell → IsInside v.pages (piece_at base cell)
+  pub apart : (base other_base : ℕ) (cell other : Taken) → Begins v base cell → Begins v other_base other
+      → base ≢ other_base → AreApart (piece_at base cell) (piece_at other_base other)
+  pub in_run : (base : ℕ) (cell : Taken) → Begins v base cell
+      → base + cell.extent ≤ 4096 * (base / 4096 + slice_index v.runs (base / 4096))
+  pub runs : (page : ℕ) → 0 < slice_index v.runs page → IsRunOfCells v page
 
 -- no cell is taken
 abbrev pub HasNoCell : Cells → Type 0

@@ -1,5 +1,5 @@
 -- Which cells a table says are taken, and what holds of it between calls.
-use Rattle.std.specs.Prelude.{◌≡◌, ◌≢◌, ◌+◌, ◌-◌, ◌*◌, ◌/◌, ◌%◌, ◌<◌, ◌≤◌, ◌↔◌, ◌==◌, ◌&&◌, ℕ, true, if◌then◌else◌, nat_lt, map, Option, Some, None}
+use Rattle.std.specs.Prelude.{◌≡◌, ◌≢◌, ◌+◌, ◌-◌, ◌*◌, ◌/◌, ◌%◌, ◌<◌, ◌≤◌, ◌↔◌, ◌==◌, ◌&&◌, ℕ, true, if◌then◌else◌, nat_lt, map, List, Option, Some, None}
 use Rattle.std.specs.List.{range_with_len}
 use Rattle.mm_model.specs.declared.object.Size.TheVariants.{Small}
 use Rattle.mm_model.specs.SizeClass.{extent_of_size}
@@ -35,10 +35,25 @@ taken_in (Later distance) cell_marks offset = None
 abbrev pub taken_at : Map → ℕ → Option Taken
 taken_at m grain = taken_in (use_at m (grain / 256)) (mark_at m (grain / 256)) (16 * (grain % 256))
 
+-- the length of the run of pages that begins with a page of this use
+abbrev pub run_of : PageUse → ℕ
+run_of Unused = 0
+run_of (Class class) = 1
+run_of (First count) = count
+run_of (Later distance) = 0
+
+abbrev pub runs_of : Map → List ℕ
+runs_of m = map (λ page. run_of (use_at m page)) (range_with_len 0 m.pages)
+
 -- what callers see
 abbrev pub cells_of : Map → Cells
 cells_of m =
-    record { table = m.location; pages = m.pages; taken = map (taken_at m) (range_with_len 0 (256 * m.pages)) }
+    record {
+      table = m.location;
+      pages = m.pages;
+      taken = map (taken_at m) (range_with_len 0 (256 * m.pages));
+      runs = runs_of m;
+    }
 
 -- a page of a class has a taken cell
 pub record HasTaken (m : Map) (page class : ℕ) : Type 0 where

@@ -2,7 +2,6 @@ pub mod Cells
 pub mod Kept
 pub mod Map
 pub mod Marks
-pub mod Parking
 pub mod Placing
 pub mod Seats
 pub mod Sizes

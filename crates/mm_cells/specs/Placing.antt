@@ -1,56 +1,58 @@
 -- Where a cell is taken, and what taking and giving it back does to the page heap.
-use Rattle.std.specs.Prelude.{◌≡◌, ◌+◌, ◌*◌, ◌/◌, ◌<◌, ◌≤◌, ℕ, None}
+use Rattle.std.specs.Prelude.{◌≡◌, ◌+◌, ◌*◌, ◌/◌, ◌<◌, ◌≤◌, ℕ, Option, Some, None, Result, Ok, Err, slice_set}
 use Rattle.mm_model.specs.declared.object.Size.{Size}
 use Rattle.mm_model.specs.declared.object.Size.TheVariants.{Small, Pages}
 use Rattle.mm_model.specs.SizeClass.{extent_of_size}
+use Rattle.mm_model.specs.Lowest.{IsLowestOf, IsPreferred}
 use Rattle.mm_pages.specs.Pages as heaps
-use Rattle.mm_pages.specs.Pages.{with_parked, IsFreeRun, IsLowestRun}
-use Rattle.mm_cells.specs.Cells.{Taken, Cells, Begins, with_cell}
-use Rattle.mm_cells.specs.Parking.{IsPageOf}
+use Rattle.mm_pages.specs.Pages.{with_parked, IsFreeRun}
+use Rattle.mm_cells.specs.Cells.{Taken, Cells, Begins}
 
--- no taken cell begins at the cell with this number of a page of cells that are so large
-pub record IsFreeCell (v : Cells) (extent page number : ℕ) : Type 0 where
-  pub within : number < 4096 / extent
-  pub free : (cell : Taken) → Begins v (4096 * page + number * extent) cell → ⊥
+-- the page has a taken cell of this size, which is less than a page
+pub record IsPageOf (v : Cells) (extent page : ℕ) : Type 0 where
+  pub base : ℕ
+  pub cell : Taken
+  pub begins : Begins v base cell
+  pub inside : base / 4096 ≡ page
+  pub same : cell.extent ≡ extent
+  pub small : extent < 4096
 
--- a page of cells of this size that has a free one
-pub record HasFreeCell (v : Cells) (extent page : ℕ) : Type 0 where
-  pub is_page : IsPageOf v extent page
-  pub number : ℕ
-  pub free : IsFreeCell v extent page number
-
--- no page has room for a cell that is so large
-abbrev pub NoRoom : Cells → ℕ → Type 0
-NoRoom v extent = (page : ℕ) → HasFreeCell v extent page → ⊥
-
--- the lowest free cell of the lowest page that has room
-pub record IsLowestCell (v : Cells) (extent base : ℕ) : Type 0 where
+-- a free cell of a page of cells that are so large
+pub record IsFreeCell (v : Cells) (extent base : ℕ) : Type 0 where
   pub page : ℕ
   pub number : ℕ
-  pub at : base ≡ 4096 * page + number * extent
-  pub is_page : IsPageOf v extent page
-  pub free : IsFreeCell v extent page number
-  pub lowest_cell : (other : ℕ) → IsFreeCell v extent page other → number ≤ other
-  pub lowest_page : (other : ℕ) → HasFreeCell v extent other → page ≤ other
+  pub at : 4096 * page + number * extent ≡ base
+  pub whole : number * extent + extent ≤ 4096
+  pub of_page : IsPageOf v extent page
+  pub free : (cell : Taken) → Begins v base cell → ⊥
 
--- A cell of this size is taken at the base, and the page heap is left so. It is the lowest free cell of the lowest page
--- that has room, or else the first one of the lowest free page. Whole pages are the lowest free run.
-pub data IsPlaced (v : Cells) (heap : heaps.Pages) : Size → ℕ → heaps.Pages → Type 0 where
-  Into_page : (class base : ℕ) → IsLowestCell v (extent_of_size (Small class)) base
-      → IsPlaced v heap (Small class) base heap
-  Into_fresh_page : (class page : ℕ) → NoRoom v (extent_of_size (Small class)) → IsLowestRun heap page 1
-      → IsPlaced v heap (Small class) (4096 * page) (with_parked heap page 1)
-  Into_whole_pages : (count page : ℕ) → IsLowestRun heap page count
-      → IsPlaced v heap (Pages count) (4096 * page) (with_parked heap page count)
+-- the first of so many free pages
+pub record IsFreePages (heap : heaps.Pages) (count base : ℕ) : Type 0 where
+  pub page : ℕ
+  pub at : 4096 * page ≡ base
+  pub free : IsFreeRun heap page count
 
--- there is no place for a cell of this size
-pub data HasNoPlace (v : Cells) (heap : heaps.Pages) : Size → Type 0 where
-  No_cell : (class : ℕ) → NoRoom v (extent_of_size (Small class)) → ((page : ℕ) → IsFreeRun heap page 1 → ⊥)
-      → HasNoPlace v heap (Small class)
-  No_pages : (count : ℕ) → ((page : ℕ) → IsFreeRun heap page count → ⊥) → HasNoPlace v heap (Pages count)
+-- The place for a cell of this size, if there is one: the lowest free cell of the pages of its class, or else the first
+-- cell of the lowest free page. Whole pages are the lowest free ones.
+abbrev pub IsPlaceFor : Cells → heaps.Pages → Size → Option ℕ → Type 0
+IsPlaceFor v heap (Small class) found =
+    IsPreferred (IsFreeCell v (extent_of_size (Small class))) (IsFreePages heap 1) found
+IsPlaceFor v heap (Pages count) found = IsLowestOf (IsFreePages heap count) found
 
--- The cell at a base is given back, and the page heap is left so. Its page stays where another cell of it is taken.
-pub data IsReleased (v : Cells) (heap : heaps.Pages) (base extent : ℕ) : heaps.Pages → Type 0 where
-  Page_stays : IsPageOf (with_cell v base None) extent (base / 4096) → IsReleased v heap base extent heap
-  Page_goes : ((cells : ℕ) → IsPageOf (with_cell v base None) cells (base / 4096) → ⊥)
-      → IsReleased v heap base extent (with_parked heap (base / 4096) 0)
+-- the place that a call answers
+abbrev pub found_in : {E : Type 0} → Result ℕ E → Option ℕ
+found_in (Ok base) = Some base
+found_in (Err refused) = None
+
+-- how many pages the run has in which a cell of this size lies
+abbrev pub run_length : Size → ℕ
+run_length (Small class) = 1
+run_length (Pages count) = count
+
+-- A cell of the page is given back, and the page heap is left so. The run of the page stays parked where another cell of
+-- it is taken.
+pub data LeavesPage (before after : Cells) (heap : heaps.Pages) (page : ℕ) : heaps.Pages → Type 0 where
+  Page_stays : (base : ℕ) (cell : Taken) → Begins after base cell → base / 4096 ≡ page → after.runs ≡ before.runs
+      → LeavesPage before after heap page heap
+  Page_goes : ((base : ℕ) (cell : Taken) → Begins after base cell → base / 4096 ≡ page → ⊥)
+      → after.runs ≡ slice_set before.runs page 0 → LeavesPage before after heap page (with_parked heap page 0)

@@ -2,7 +2,7 @@
 ghost use Rattle.std.specs.Prelude.{◌≡◌, ◌≢◌, ◌+◌, ◌*◌, ◌/◌, ◌<◌, ◌≤◌, ℕ, length, MatchOption, Some};
 ghost use Rattle.mm_words.specs.Location.{location_of};
 ghost use Rattle.mm_pages.specs.Pages.{Pages};
-ghost use Rattle.mm_cells.specs.Parking.{Fits};
+ghost use Rattle.mm_pages.specs.Parked.{AreParked};
 ghost use Rattle.mm_cells.specs.Map.{table_size, use_at, mark_at};
 ghost use Rattle.mm_cells.specs.Cells.{Taken, fresh, with_cell, Begins, IsTaken, Covers, HasNoCell, IsSoundCells};
 ghost use Rattle.mm_cells.specs.Cells.{IsNextTaken, NoneTakenFrom, IsWalk};
@@ -62,7 +62,8 @@ impl Cells {
         requires most { pages ≤ 4096 }
         requires room { table_size pages ≤ length table.words }
         ensures value { result ≡ fresh (location_of table) pages }
-        ensures fits { (heap : Pages) → heap.pages ≤ pages → Fits result heap }
+        ensures parked { (heap : Pages) → heap.pages ≤ pages → AreParked result.runs heap }
+        ensures sound { IsSoundCells result }
     {
         Cells {
             table: Table::make(table, pages),
@@ -103,6 +104,7 @@ impl Cells {
     pub fn colour<L: Ledger>(&self, base: u32, steps: &mut Steps<L>) -> Colour
         requires { IsTaken self.now base }
         ensures colour { (cell : Taken) → Begins self.now base cell → result ≡ cell.colour }
+        ensures sound { IsSoundCells self.now }
         ensures cost { steps.new ≡ steps.old + 1 }
     {
         steps.tick();
@@ -113,7 +115,7 @@ impl Cells {
         requires { IsTaken self.old base }
         ensures colour { (cell : Taken) → Begins self.old base cell
             → self.new ≡ with_cell self.old base (Some (record cell { colour = colour })) }
-        ensures fits { (heap : Pages) → Fits self.old heap → Fits self.new heap }
+        ensures sound { IsSoundCells self.new }
         ensures cost { steps.new ≡ steps.old + 1 }
     {
         steps.tick();
@@ -127,6 +129,7 @@ impl Cells {
     pub fn flags<L: Ledger>(&self, base: u32, steps: &mut Steps<L>) -> CellBits
         requires { IsTaken self.now base }
         ensures flags { (cell : Taken) → Begins self.now base cell → result ≡ cell.flags }
+        ensures sound { IsSoundCells self.now }
         ensures cost { steps.new ≡ steps.old + 1 }
     {
         steps.tick();
@@ -137,7 +140,7 @@ impl Cells {
         requires { IsTaken self.old base }
         ensures flags { (cell : Taken) → Begins self.old base cell
             → self.new ≡ with_cell self.old base (Some (record cell { flags = flags })) }
-        ensures fits { (heap : Pages) → Fits self.old heap → Fits self.new heap }
+        ensures sound { IsSoundCells self.new }
         ensures cost { steps.new ≡ steps.old + 1 }
     {
         steps.tick();
@@ -150,6 +153,7 @@ impl Cells {
     /// The least base of a taken cell that is at least `from`. A page without taken cells costs one step.
     pub fn next_taken<L: Ledger>(&self, from: u32, steps: &mut Steps<L>) -> Option<u32>
         ensures base { MatchOption result (NoneTakenFrom self.now from) (λ base. IsNextTaken self.now from base) }
+        ensures sound { IsSoundCells self.now }
         ensures cost { IsWalk self.now from result steps.old steps.new }
     {
         for page in from / PAGE_BYTES..self.table.pages() {

@@ -40,6 +40,7 @@ pub fn class_of(bytes: u32) -> Size
     requires most { bytes ≤ 4194316 }
     ensures value { result ≡ size_of bytes }
     ensures size { IsSize result }
+    ensures enough { bytes ≤ extent_of_size result }
 {
     if bytes <= LARGEST_CELL {
         Size::Small(CLASS_BY_UNITS[bytes.div_ceil(UNIT_BYTES) as usize] as u32)

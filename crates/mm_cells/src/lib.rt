@@ -5,7 +5,6 @@ mod cells;
 mod class;
 mod marks;
 mod page_use;
-mod parking;
 mod placing;
 mod table;
 mod taking;

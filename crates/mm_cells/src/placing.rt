@@ -1,17 +1,16 @@
 // Taking cells and giving them back.
-ghost use Rattle.std.specs.Prelude.{◌≡◌, ◌*◌, ◌/◌, ◌≤◌, ◌<◌, Some, None, IfOk, OnErr};
+ghost use Rattle.std.specs.Prelude.{◌≡◌, ◌*◌, ◌/◌, ◌≤◌, ◌<◌, ℕ, List, Some, None, IfOk, OnErr, slice_index};
 ghost use Rattle.mm_model.specs.declared.object.Size.TheVariants.{Small, Pages};
 ghost use Rattle.mm_model.specs.SizeClass.{size_of, extent_of};
-ghost use Rattle.mm_pages.specs.Pages.{IsQuick};
-ghost use Rattle.mm_cells.specs.Cells.{Taken, with_cell, newly_taken, Begins, IsTaken};
+ghost use Rattle.mm_pages.specs.Pages.{with_parked, IsQuick};
+ghost use Rattle.mm_pages.specs.Parked.{AreParked};
+ghost use Rattle.mm_cells.specs.Cells.{with_cell, with_run, newly_taken, IsTaken, IsSoundCells};
 ghost use Rattle.mm_cells.specs.Kept.{class_size};
-ghost use Rattle.mm_cells.specs.Parking.{Fits};
-ghost use Rattle.mm_cells.specs.Placing.{IsPlaced, HasNoPlace, IsReleased};
+ghost use Rattle.mm_cells.specs.Placing.{IsPlaceFor, found_in, run_length, LeavesPage};
 
 use crate::cells::Cells;
 use crate::class::{PAGE_BYTES, class_of};
 use crate::page_use::PageUse;
-use crate::parking::{free_parked, park_lowest};
 use crate::taking::{release_cell, release_pages, take_cell, take_fresh_page, take_pages};
 use mm_model::{Colour, Size};
 use mm_pages::{NoRun, PageHeap};
@@ -20,7 +19,7 @@ use std::sync::ledger::Ledger;
 
 impl Cells {
     /// Takes the lowest cell for so many bytes: a free cell in a page of their class, or in a fresh page, or else whole
-    /// pages. It is refused where there is none.
+    /// pages. It is refused where there is none. What runs another family has parked stay parked.
     pub fn place<L: Ledger>(
         &mut self,
         pages: &mut PageHeap,
@@ -30,13 +29,19 @@ impl Cells {
     ) -> Result<u32, NoRun>
         requires some { 1 ≤ bytes }
         requires most { bytes ≤ 4194316 }
-        requires fits { Fits self.old pages.old }
-        ensures place { IfOk result (λ base. IsPlaced self.old pages.old (size_of bytes) base pages.new) }
-        ensures taken { IfOk result (λ base.
-            self.new ≡ with_cell self.old base (Some (newly_taken (extent_of bytes) colour))) }
-        ensures none { OnErr result (HasNoPlace self.old pages.old (size_of bytes)) }
+        requires parked { AreParked self.old.runs pages.old }
+        ensures place { IsPlaceFor self.old pages.old (size_of bytes) (found_in result) }
+        ensures taken { IfOk result (λ base. self.new ≡
+            with_run (with_cell self.old base (Some (newly_taken (extent_of bytes) colour))) (base / 4096)
+            (run_length (size_of bytes))) }
+        ensures heap { IfOk result (λ base. pages.new ≡
+            with_parked pages.old (base / 4096) (run_length (size_of bytes))) }
+        ensures enough { bytes ≤ extent_of bytes }
         ensures unchanged { OnErr result ((self.new ≡ self.old) × (pages.new ≡ pages.old)) }
-        ensures fits { Fits self.new pages.new }
+        ensures parked { AreParked self.new.runs pages.new }
+        ensures others { (runs : List ℕ) → AreParked runs pages.old → AreParked runs pages.new }
+        ensures sound { IsSoundCells self.new }
+        ensures cost { IsQuick pages.old.pages steps.old steps.new }
     {
         match class_of(bytes) {
             Size::Small(class) => self.place_small(pages, class, colour, steps),
@@ -47,25 +52,27 @@ impl Cells {
     /// Gives a taken cell back. Its page, or its pages, are free once no cell of it is taken.
     pub fn release<L: Ledger>(&mut self, pages: &mut PageHeap, base: u32, steps: &mut Steps<L>)
         requires taken { IsTaken self.old base }
-        requires fits { Fits self.old pages.old }
-        ensures gone { self.new ≡ with_cell self.old base None }
-        ensures pages { (cell : Taken) → Begins self.old base cell
-            → IsReleased self.old pages.old base cell.extent pages.new }
-        ensures fits { Fits self.new pages.new }
+        requires parked { AreParked self.old.runs pages.old }
+        ensures gone { self.new ≡ record (with_cell self.old base None) { runs = self.new.runs } }
+        ensures page { LeavesPage self.old self.new pages.old (base / 4096) pages.new }
+        ensures parked { AreParked self.new.runs pages.new }
+        ensures others { (runs : List ℕ) → slice_index runs (base / 4096) ≡ 0 → AreParked runs pages.old
+            → AreParked runs pages.new }
+        ensures sound { IsSoundCells self.new }
         ensures cost { IsQuick pages.old.pages steps.old steps.new }
     {
         let page = base / PAGE_BYTES;
         match self.table.use_at(page) {
             PageUse::Class(class) => {
                 if release_cell(&mut self.table, page, class, base % PAGE_BYTES) {
-                    free_parked(pages, page, steps);
+                    pages.free_parked(page, steps);
                 }
             }
             PageUse::First(count) => {
                 release_pages(&mut self.table, page, count);
-                free_parked(pages, page, steps);
+                pages.free_parked(page, steps);
             }
-            PageUse::Unused | PageUse::Later(_) => {}
+            PageUse::Unused | PageUse::Later(_) => unreachable!(),
         }
     }
 
@@ -78,21 +85,27 @@ impl Cells {
         steps: &mut Steps<L>,
     ) -> Result<u32, NoRun>
         requires class { class < 19 }
-        requires fits { Fits self.old pages.old }
-        ensures place { IfOk result (λ base. IsPlaced self.old pages.old (Small class) base pages.new) }
-        ensures taken { IfOk result (λ base.
-            self.new ≡ with_cell self.old base (Some (newly_taken (class_size class) colour))) }
-        ensures none { OnErr result (HasNoPlace self.old pages.old (Small class)) }
+        requires parked { AreParked self.old.runs pages.old }
+        ensures place { IsPlaceFor self.old pages.old (Small class) (found_in result) }
+        ensures taken { IfOk result (λ base. self.new ≡
+            with_run (with_cell self.old base (Some (newly_taken (class_size class) colour))) (base / 4096)
+            (run_length (Small class))) }
+        ensures heap { IfOk result (λ base. pages.new ≡ with_parked pages.old (base / 4096) (run_length (Small class))) }
         ensures unchanged { OnErr result ((self.new ≡ self.old) × (pages.new ≡ pages.old)) }
-        ensures fits { Fits self.new pages.new }
+        ensures parked { AreParked self.new.runs pages.new }
+        ensures others { (runs : List ℕ) → AreParked runs pages.old → AreParked runs pages.new }
+        ensures sound { IsSoundCells self.new }
+        ensures cost { IsQuick pages.old.pages steps.old steps.new }
     {
         match self.table.page_with_room(class) {
             Some(page) => Ok(take_cell(&mut self.table, page, class, colour)),
-            None => {
-                let page = park_lowest(pages, 1, steps)?;
-                take_fresh_page(&mut self.table, page, class, colour);
-                Ok(PAGE_BYTES * page)
-            }
+            None => match pages.park_lowest(1, steps) {
+                Ok(page) => {
+                    take_fresh_page(&mut self.table, page, class, colour);
+                    Ok(PAGE_BYTES * page)
+                }
+                Err(NoRun) => Err(NoRun),
+            },
         }
     }
 
@@ -105,16 +118,24 @@ impl Cells {
         steps: &mut Steps<L>,
     ) -> Result<u32, NoRun>
         requires some { 1 ≤ count }
-        requires fits { Fits self.old pages.old }
-        ensures place { IfOk result (λ base. IsPlaced self.old pages.old (Pages count) base pages.new) }
-        ensures taken { IfOk result (λ base.
-            self.new ≡ with_cell self.old base (Some (newly_taken (4096 * count) colour))) }
-        ensures none { OnErr result (HasNoPlace self.old pages.old (Pages count)) }
+        requires parked { AreParked self.old.runs pages.old }
+        ensures place { IsPlaceFor self.old pages.old (Pages count) (found_in result) }
+        ensures taken { IfOk result (λ base. self.new ≡
+            with_run (with_cell self.old base (Some (newly_taken (4096 * count) colour))) (base / 4096)
+            (run_length (Pages count))) }
+        ensures heap { IfOk result (λ base. pages.new ≡ with_parked pages.old (base / 4096) (run_length (Pages count))) }
         ensures unchanged { OnErr result ((self.new ≡ self.old) × (pages.new ≡ pages.old)) }
-        ensures fits { Fits self.new pages.new }
+        ensures parked { AreParked self.new.runs pages.new }
+        ensures others { (runs : List ℕ) → AreParked runs pages.old → AreParked runs pages.new }
+        ensures sound { IsSoundCells self.new }
+        ensures cost { IsQuick pages.old.pages steps.old steps.new }
     {
-        let first = park_lowest(pages, count, steps)?;
-        take_pages(&mut self.table, first, count, colour);
-        Ok(PAGE_BYTES * first)
+        match pages.park_lowest(count, steps) {
+            Ok(first) => {
+                take_pages(&mut self.table, first, count, colour);
+                Ok(PAGE_BYTES * first)
+            }
+            Err(NoRun) => Err(NoRun),
+        }
     }
 }

@@ -1,11 +1,11 @@
 // What taking a cell or giving it back changes in the table.
 ghost use Rattle.std.specs.Prelude.{◌≡◌, ◌≢◌, ◌+◌, ◌*◌, ◌/◌, ◌<◌, ◌≤◌, ℕ, Some, None, ◌↔◌, true, false};
 ghost use Rattle.mm_cells.specs.declared.page_use.PageUse.TheVariants as uses;
-ghost use Rattle.mm_cells.specs.Cells.{Taken, with_cell, newly_taken, Begins, IsTaken};
+ghost use Rattle.mm_cells.specs.Cells.{Taken, with_cell, with_run, newly_taken, Begins, IsTaken};
 ghost use Rattle.mm_cells.specs.Kept.{class_size, cells_of, KeepsCells, HasFree};
 ghost use Rattle.mm_cells.specs.Map.{use_at, IsLowestRoom};
-ghost use Rattle.mm_cells.specs.Parking.{IsPageOf};
-ghost use Rattle.mm_cells.specs.Placing.{IsLowestCell};
+ghost use Rattle.mm_model.specs.Lowest.{IsLowest};
+ghost use Rattle.mm_cells.specs.Placing.{IsFreeCell};
 ghost use Rattle.mm_cells.specs.Spans.{use_in_whole, SetsUses, AreUnused};
 ghost use Rattle.mm_cells.specs.Uses.{IsUse};
 
@@ -54,10 +54,10 @@ fn use_in_whole(count: u32, distance: u32) -> PageUse
 
 /// Notes the uses of the pages of a cell of so many.
 fn fill_uses(table: &mut Table, first: u32, count: u32)
-    requires { first + count ≤ table.old.pages }
+    requires within { first + count ≤ table.old.pages }
+    requires most { table.old.pages ≤ 4096 }
     ensures { SetsUses table.old table.new first count (use_in_whole count) }
 {
-    let _pages = table.pages();
     for distance in 0..count {
         table.set_use(first + distance, use_in_whole(count, distance));
     }
@@ -65,10 +65,10 @@ fn fill_uses(table: &mut Table, first: u32, count: u32)
 
 /// Notes that so many pages are unused.
 fn clear_uses(table: &mut Table, first: u32, count: u32)
-    requires { first + count ≤ table.old.pages }
+    requires within { first + count ≤ table.old.pages }
+    requires most { table.old.pages ≤ 4096 }
     ensures { SetsUses table.old table.new first count (λ distance. uses.Unused) }
 {
-    let _pages = table.pages();
     for distance in 0..count {
         table.set_use(first + distance, PageUse::Unused);
     }
@@ -79,7 +79,9 @@ pub(crate) fn take_cell(table: &mut Table, page: u32, class: u32, colour: Colour
     requires kept { KeepsCells table.old }
     requires class { class < 19 }
     requires lowest { IsLowestRoom table.old class page }
-    ensures lowest { IsLowestCell (cells_of table.old) (class_size class) result }
+    ensures lowest { IsLowest (IsFreeCell (cells_of table.old) (class_size class)) result }
+    ensures here { result / 4096 ≡ page }
+    ensures used { use_at table.old page ≡ uses.Class class }
     ensures taken { cells_of table.new ≡
         with_cell (cells_of table.old) result (Some (newly_taken (class_size class) colour)) }
     ensures kept { KeepsCells table.new }
@@ -92,7 +94,7 @@ pub(crate) fn take_cell(table: &mut Table, page: u32, class: u32, colour: Colour
             table.set_room(class, page, has_room);
             PAGE_BYTES * page + cell * extent_of(Size::Small(class))
         }
-        None => 0,
+        None => unreachable!(),
     }
 }
 
@@ -104,7 +106,7 @@ pub(crate) fn take_fresh_page(table: &mut Table, page: u32, class: u32, colour: 
     requires within { page < table.old.pages }
     requires unused { use_at table.old page ≡ uses.Unused }
     ensures taken { cells_of table.new ≡
-        with_cell (cells_of table.old) (4096 * page) (Some (newly_taken (class_size class) colour)) }
+        with_run (with_cell (cells_of table.old) (4096 * page) (Some (newly_taken (class_size class) colour))) page 1 }
     ensures kept { KeepsCells table.new }
 {
     table.free_page(page);
@@ -121,7 +123,7 @@ pub(crate) fn take_pages(table: &mut Table, first: u32, count: u32, colour: Colo
     requires within { first + count ≤ table.old.pages }
     requires unused { AreUnused table.old first count }
     ensures taken { cells_of table.new ≡
-        with_cell (cells_of table.old) (4096 * first) (Some (newly_taken (4096 * count) colour)) }
+        with_run (with_cell (cells_of table.old) (4096 * first) (Some (newly_taken (4096 * count) colour))) first count }
     ensures kept { KeepsCells table.new }
 {
     fill_uses(table, first, count);
@@ -134,10 +136,13 @@ pub(crate) fn release_cell(table: &mut Table, page: u32, class: u32, offset: u32
     requires used { use_at table.old page ≡ uses.Class class }
     requires taken { IsTaken (cells_of table.old) (4096 * page + offset) }
     requires inside { offset < 4096 }
-    ensures gone { cells_of table.new ≡ with_cell (cells_of table.old) (4096 * page + offset) None }
     ensures kept { KeepsCells table.new }
-    ensures stays { result ≡ false → IsPageOf (cells_of table.new) (class_size class) page }
-    ensures goes { result ≡ true → (base : ℕ) (cell : Taken) → Begins (cells_of table.new) base cell
+    ensures stays { result ≡ false → cells_of table.new ≡ with_cell (cells_of table.old) (4096 * page + offset) None }
+    ensures another { result ≡ false → (base : ℕ) × (cell : Taken)
+        × Begins (cells_of table.new) base cell × (base / 4096 ≡ page) }
+    ensures goes { result ≡ true → cells_of table.new ≡
+        with_run (with_cell (cells_of table.old) (4096 * page + offset) None) page 0 }
+    ensures none { result ≡ true → (base : ℕ) (cell : Taken) → Begins (cells_of table.new) base cell
         → base / 4096 ≢ page }
 {
     table.set_mark(page, offset / extent_of(Size::Small(class)), Mark::Free);
@@ -158,7 +163,7 @@ pub(crate) fn release_cell(table: &mut Table, page: u32, class: u32, offset: u32
 pub(crate) fn release_pages(table: &mut Table, first: u32, count: u32)
     requires kept { KeepsCells table.old }
     requires used { use_at table.old first ≡ uses.First count }
-    ensures gone { cells_of table.new ≡ with_cell (cells_of table.old) (4096 * first) None }
+    ensures gone { cells_of table.new ≡ with_run (with_cell (cells_of table.old) (4096 * first) None) first 0 }
     ensures kept { KeepsCells table.new }
     ensures goes { (base : ℕ) (cell : Taken) → Begins (cells_of table.new) base cell → base / 4096 ≢ first }
 {

@@ -13,7 +13,7 @@ use Rattle.mm_cells.proofs.Sizes.ClassSizes.{class_size-least, cells_in-fit}
 use Rattle.mm_cells.proofs.Sizes.Grains.{cell-fits, div-rest}
 use Rattle.mm_cells.proofs.Region.Begins.{IsSmallCell, IsWholeCell, IsCellOf, small, whole, Begins-cell, cell-Begins}
 use Rattle.mm_cells.proofs.Region.Seats.{number-in}
-use Rattle.mm_cells.proofs.Region.Sound.{taken_as-extent, IsSoundCells-kept}
+use Rattle.mm_cells.proofs.Region.Sound.{taken_as-extent, IsSpaced-kept}
 
 -- what a mark that isn't free is read as
 pub taken_as-some : (extent : ℕ) (mark : Mark) → (mark ≡ marks.Free → ⊥) → (cell : Taken) ×
@@ -71,7 +71,7 @@ Covers-covering m word base cell kept c =
 pub none-past : (m : Map) (word base : ℕ) (cell : Taken) → KeepsCells m → m.pages ≤ word / 4096 →
     Covers (cells_of m) word base cell → ⊥
 none-past m word base cell kept past c =
-    omega (arith, c.to, (IsSoundCells-kept m kept).within base cell c.begins)
+    omega (arith, c.to, (IsSpaced-kept m kept).within base cell c.begins)
 
 -- no cell has an unused page
 pub none-unused : (m : Map) (word base : ℕ) (cell : Taken) → KeepsCells m → use_at m (word / 4096) ≡ Unused →

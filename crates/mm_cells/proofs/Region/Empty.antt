@@ -1,32 +1,19 @@
 -- Cells of which none is taken, page heaps without runs, and where the tables lie.
 use Rattle.std.proofs.Common.{◌≡◌, ℕ, zero, suc, ◌+◌, ◌*◌, ◌<◌, ◌≤◌, List, replicate, refl, arith, inl, inr}
 use Rattle.std.specs.Prelude.{Some, None, slice_get, slice_index}
-use Rattle.mm_words.specs.Location.{Location}
+use Rattle.std.proofs.lemmas.List.{length-replicate}
+use Rattle.mm_sets.proofs.Zeros.{get_or-zeros}
 use Rattle.mm_pages.specs.Pages.{Pages, Covers, HasNoRun, IsHighestUsed, IsSoundHeap}
-use Rattle.mm_cells.specs.Cells.{Taken, Cells, fresh, Begins}
-use Rattle.mm_cells.specs.Parking.{IsParked, Page_of_cells, Whole_pages, Fits}
-use Rattle.mm_cells.specs.Placing.{IsReleased, Page_stays, Page_goes}
-
-none-replicate : (n i : ℕ) (cell : Taken) → slice_get (replicate n None) i ≡ Some (Some cell) → ⊥
-none-replicate zero i cell e = cc
-none-replicate (suc n) zero cell e = cc
-none-replicate (suc n) (suc i) cell e = none-replicate n i cell e
-
-Begins-fresh : (location : Location) (pages base : ℕ) (cell : Taken) → Begins (fresh location pages) base cell → ⊥
-Begins-fresh location pages base cell begins = none-replicate (256 * pages) begins.grain cell begins.is
+use Rattle.mm_pages.specs.Parked.{AreParked}
+use Rattle.mm_cells.specs.Cells.{Cells}
+use Rattle.mm_cells.specs.Placing.{LeavesPage, Page_stays, Page_goes}
 
 -- they have no run parked
-pub Fits-fresh : (location : Location) (pages : ℕ) (heap : Pages) → heap.pages ≤ pages → Fits (fresh location pages) heap
-Fits-fresh location pages heap small =
-    record {
-      pages = small;
-      parked = λ page count parked. absurd (split page count parked);
-    }
-  where
-    split : (page count : ℕ) → IsParked (fresh location pages) page count → ⊥
-    split page count (Page_of_cells extent is_page) =
-        Begins-fresh location pages is_page.base is_page.cell is_page.begins
-    split page count (Whole_pages number cell begins size some) = Begins-fresh location pages (4096 * page) cell begins
+pub AreParked-none : (pages : ℕ) (heap : Pages) → heap.pages ≤ pages → AreParked (replicate pages 0) heap
+AreParked-none pages heap small = record {
+  pages = omega (arith, length-replicate {A = ℕ} pages 0);
+  parked = λ page some. absurd (omega (arith, get_or-zeros pages page));
+}
 
 zero_unless : (n : ℕ) → (0 < n → ⊥) → n ≡ 0
 zero_unless zero h = refl
@@ -51,7 +38,7 @@ HasNoRun-unused heap top sound highest is =
     at_zero zero e some = let none = sound.off_zero in omega arith
     at_zero (suc page) e some = omega arith
 
-pub table-released : (v : Cells) (heap : Pages) (base extent : ℕ) (after : Pages)
-    → IsReleased v heap base extent after → after.table ≡ heap.table
-table-released v heap base extent after (Page_stays still) = refl
-table-released v heap base extent after (Page_goes none) = refl
+pub table-left : (before after : Cells) (heap : Pages) (page : ℕ) (left : Pages) → LeavesPage before after heap page left →
+    left.table ≡ heap.table
+table-left before after heap page left (Page_stays base cell begins inside still) = refl
+table-left before after heap page left (Page_goes none gone) = refl

@@ -15,7 +15,7 @@ use Rattle.mm_cells.proofs.Sizes.ClassSizes.{class_size-least}
 use Rattle.mm_cells.proofs.Region.Begins.{IsSmallCell, small, whole, Begins-cell, cell-Begins}
 use Rattle.mm_cells.proofs.Region.Covering.{taken_as-some}
 use Rattle.mm_cells.proofs.Region.Seats.{small-page}
-use Rattle.mm_cells.proofs.Region.Sound.{IsSoundCells-kept}
+use Rattle.mm_cells.proofs.Region.Sound.{IsSpaced-kept}
 
 -- a cell of a class begins at some number of the page
 pub data InClass (m : Map) (page class base : ℕ) (cell : Taken) : Type 0 where
@@ -160,7 +160,7 @@ IsNextTaken-lowest v page from base before low = record {
 pub NoneTakenFrom-before : (m : Map) (page from : ℕ) → KeepsCells m → m.pages ≤ page → NoneBefore (cells_of m) page from →
     NoneTakenFrom (cells_of m) from
 NoneTakenFrom-before m page from kept all before base cell begins =
-    let sound = IsSoundCells-kept m kept in
+    let sound = IsSpaced-kept m kept in
     before base cell begins (omega (arith, sound.within base cell begins, sound.some base cell begins))
 
 -- what a page of whole pages answers

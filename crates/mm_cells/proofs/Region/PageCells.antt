@@ -1,10 +1,12 @@
 -- The pages of a class as callers see them.
-use Rattle.std.proofs.Common.{◌≡◌, ◌≢◌, ℕ, ◌+◌, ◌-◌, ◌*◌, ◌/◌, ◌<◌, ◌≤◌, slice_index, inl, inr, Bool, true, false, refl, arith, sym, ◌∙◌, ap, subst}
+use Rattle.std.proofs.Common.{◌≡◌, ◌≢◌, ℕ, suc, ◌+◌, ◌-◌, ◌*◌, ◌/◌, ◌<◌, ◌≤◌, slice_index, inl, inr, Bool, true, false, refl, arith, sym, ◌∙◌, ap, subst}
 use Rattle.std.specs.Prelude.{Some, None, nat_eq}
-use Rattle.std.proofs.lemmas.Bool.{cases_lt, agree_below_at, eqb-true}
+use Rattle.std.proofs.lemmas.Bool.{cases_lt, cases_order, agree_below_at, eqb-true}
+use Rattle.std.proofs.lemmas.Nat.{le-div}
+use Rattle.std.proofs.Math.Nat.{mul-le-mul_right, suc-mul}
 use Rattle.mm_model.specs.SizeClass.{class_sizes, class_index}
-use Rattle.mm_pages.specs.Pages as heaps
-use Rattle.mm_pages.specs.Pages.{IsFreePage, IsFreeRun, IsSoundHeap}
+use Rattle.mm_model.specs.Lowest.{IsNowhere, IsLowest}
+use Rattle.mm_pages.specs.Pages.{Covers}
 use Rattle.mm_cells.specs.declared.page_use.PageUse.{PageUse}
 use Rattle.mm_cells.specs.declared.page_use.PageUse.TheVariants.{Unused, Class, First, Later}
 use Rattle.mm_cells.specs.declared.marks.Mark.{Mark}
@@ -12,13 +14,13 @@ use Rattle.mm_cells.specs.declared.marks.Mark.TheVariants as marks
 use Rattle.mm_cells.specs.Marks.{IsLowestFree}
 use Rattle.mm_cells.specs.Map.{Map, use_at, mark_at, room_at, NoPageWithRoom, IsLowestRoom}
 use Rattle.mm_cells.specs.Cells.{Taken, Begins, IsTaken}
-use Rattle.mm_cells.specs.Kept.{class_size, cells_in, taken_as, cells_of, KeepsCells, HasFree}
-use Rattle.mm_cells.specs.Parking.{IsPageOf, Page_of_cells, Whole_pages, Fits}
-use Rattle.mm_cells.specs.Placing.{IsFreeCell, HasFreeCell, NoRoom, IsLowestCell}
+use Rattle.mm_cells.specs.Kept.{class_size, cells_in, taken_as, run_of, runs_of, cells_of, KeepsCells, HasFree}
+use Rattle.mm_cells.specs.Placing.{IsPageOf, IsFreeCell}
 use Rattle.mm_cells.proofs.Sizes.ClassSizes.{class_size-least, class_size-most, cells_in-fit}
 use Rattle.mm_cells.proofs.Sizes.Grains.{cell-fits, div-whole}
 use Rattle.mm_cells.proofs.Region.Begins.{IsCellOf, small, whole, Begins-cell, cell-Begins}
 use Rattle.mm_cells.proofs.Region.Sound.{taken_as-extent}
+use Rattle.mm_cells.proofs.Tables.Changed.{run-at}
 
 -- a mark that isn't free is that of a taken cell
 pub taken-mark : (extent : ℕ) (mark : Mark) → mark ≢ marks.Free → (cell : Taken) × (taken_as extent mark ≡ Some cell)
@@ -138,53 +140,70 @@ free-cell m page class number base cell kept used within free at (whole p count 
     let used_so : use_at m p ≡ First count = w.used in
     cc
 
-pub free-IsFreeCell : (m : Map) (page class number : ℕ) → KeepsCells m → use_at m page ≡ Class class →
-    number < cells_in class → mark_at m page number ≡ marks.Free →
-    IsFreeCell (cells_of m) (class_size class) page number
-free-IsFreeCell m page class number kept used within free = record {
-  within = within;
-  free = λ cell begins.
-      let base : ℕ = 4096 * page + number * class_size class in
-      free-cell m page class number base cell kept used within free refl (Begins-cell m base cell begins);
+-- a cell that fits has a number below that of the cells
+number-below : (number size : ℕ) → 0 < size → number * size + size ≤ 4096 → number < 4096 / size
+number-below number size some fit =
+    let more : suc number * size ≤ 4096 = omega (arith, suc-mul number size) in
+    let fits : suc number ≤ 4096 / size = le-div (suc number) 4096 size some more in
+    omega arith
+
+pub free-IsFreeCell : (m : Map) (page class number base : ℕ) → KeepsCells m → use_at m page ≡ Class class →
+    number < cells_in class → mark_at m page number ≡ marks.Free → base ≡ 4096 * page + number * class_size class →
+    IsFreeCell (cells_of m) (class_size class) base
+free-IsFreeCell m page class number base kept used within free at = record {
+  page = page;
+  number = number;
+  at = sym at;
+  whole = cell-fits number (cells_in class) (class_size class) within (cells_in-fit class);
+  of_page = class-IsPageOf m page class kept used;
+  free = λ cell begins. free-cell m page class number base cell kept used within free at (Begins-cell m base cell begins);
 }
 
-pub IsFreeCell-free : (m : Map) (page class number : ℕ) → KeepsCells m → use_at m page ≡ Class class →
-    IsFreeCell (cells_of m) (class_size class) page number → mark_at m page number ≡ marks.Free
-IsFreeCell-free m page class number kept used f =
-    let mark : Mark = mark_at m page number in
-    elim (mark_at m page number) as (λ (k : Mark). mark_at m page number ≡ k → k ≡ marks.Free) [
-      | marks.Free ↦ λ e. refl
-      | marks.Taken colour flags ↦ λ e.
-          let found = marked-Begins m page class number kept used f.within (λ free. absurd (cc)) in
-          absurd (f.free found.0 found.1)
-    ] refl
+-- and the other way round
+record IsFreeMark (m : Map) (class page number : ℕ) : Type 0 where
+  used : use_at m page ≡ Class class
+  page_within : page < m.pages
+  within : number < cells_in class
+  free : mark_at m page number ≡ marks.Free
 
--- a page of callers that has room is one that the set of its class has
-pub HasFreeCell-room : (m : Map) (page class : ℕ) → KeepsCells m → class < 19 → HasFreeCell (cells_of m) (class_size class) page →
-    (page < m.pages) × (room_at m class page ≡ true)
-HasFreeCell-room m page class kept known has =
-    let used : use_at m page ≡ Class class = IsPageOf-class m page class kept known has.is_page in
-    let within : page < m.pages = elim (cases_lt page m.pages) [
+IsFreeCell-mark : (m : Map) (class base : ℕ) → KeepsCells m → class < 19 →
+    (f : IsFreeCell (cells_of m) (class_size class) base) → IsFreeMark m class f.page f.number
+IsFreeCell-mark m class base kept known f =
+    let used : use_at m f.page ≡ Class class = IsPageOf-class m f.page class kept known f.of_page in
+    let within : f.number < cells_in class =
+    number-below f.number (class_size class) (omega (arith, class_size-least class known)) f.whole in
+    let page_within : f.page < m.pages = elim (cases_lt f.page m.pages) [
       | inl h ↦ h
-      | inr h ↦ absurd (let none = kept.inside page h in cc)
-    ] in (
-      within,
-      (kept.rooms class page known within).1 (
-        used,
-        record {
-          cell = has.number;
-          within = has.free.within;
-          free = IsFreeCell-free m page class has.number kept used has.free;
-        },
-      ),
+      | inr h ↦ absurd (let none = kept.inside f.page h in cc)
+    ] in
+    let mark : Mark = mark_at m f.page f.number in
+    record {
+      used = used;
+      page_within = page_within;
+      within = within;
+      free = elim (mark_at m f.page f.number) as (λ (k : Mark). mark_at m f.page f.number ≡ k → k ≡ marks.Free) [
+        | marks.Free ↦ λ e. refl
+        | marks.Taken colour flags ↦ λ e.
+            let found = marked-Begins m f.page class f.number kept used within (λ free. absurd (cc)) in
+            absurd (f.free found.0 (subst (λ (b : ℕ). Begins (cells_of m) b found.0) f.at found.1))
+      ] refl;
+    }
+
+-- a page with a free cell is one that the set of its class has
+IsFreeCell-room : (m : Map) (class base : ℕ) → KeepsCells m → class < 19 →
+    (f : IsFreeCell (cells_of m) (class_size class) base) → room_at m class f.page ≡ true
+IsFreeCell-room m class base kept known f =
+    let at = IsFreeCell-mark m class base kept known f in
+    (kept.rooms class f.page known at.page_within).1 (
+      at.used,
+      record { cell = f.number; within = at.within; free = at.free },
     )
 
-pub NoRoom-none : (m : Map) (class : ℕ) → KeepsCells m → class < 19 → NoPageWithRoom m class →
-    NoRoom (cells_of m) (class_size class)
-NoRoom-none m class kept known none page has =
-    let found = HasFreeCell-room m page class kept known has in
-    let no : room_at m class page ≡ false = none page found.0 in
-    let yes : room_at m class page ≡ true = found.1 in
+pub IsNowhere-none : (m : Map) (class : ℕ) → KeepsCells m → class < 19 → NoPageWithRoom m class →
+    IsNowhere (IsFreeCell (cells_of m) (class_size class))
+IsNowhere-none m class kept known none base f =
+    let no : room_at m class f.page ≡ false = none f.page (IsFreeCell-mark m class base kept known f).page_within in
+    let yes : room_at m class f.page ≡ true = IsFreeCell-room m class base kept known f in
     cc
 
 -- where a test is not false it is true
@@ -198,28 +217,29 @@ pub IsLowestRoom-class : (m : Map) (class page : ℕ) → KeepsCells m → class
 IsLowestRoom-class m class page kept known lowest =
     (kept.rooms class page known lowest.within).0 (not_false (room_at m class page) lowest.has_room)
 
-pub IsLowestCell-lowest : (m : Map) (class page number base : ℕ) → KeepsCells m → class < 19 → IsLowestRoom m class page →
+pub IsLowest-lowest : (m : Map) (class page number base : ℕ) → KeepsCells m → class < 19 → IsLowestRoom m class page →
     IsLowestFree (mark_at m page) (cells_in class) number → base ≡ 4096 * page + number * class_size class →
-    IsLowestCell (cells_of m) (class_size class) base
-IsLowestCell-lowest m class page number base kept known lowest free at =
+    IsLowest (IsFreeCell (cells_of m) (class_size class)) base
+IsLowest-lowest m class page number base kept known lowest free at =
     let used : use_at m page ≡ Class class = (IsLowestRoom-class m class page kept known lowest).0 in
+    let fit = cell-fits number (cells_in class) (class_size class) free.within (cells_in-fit class) in
+    let least : 16 ≤ class_size class = class_size-least class known in
     record {
-      page = page;
-      number = number;
-      at = at;
-      is_page = class-IsPageOf m page class kept used;
-      free = free-IsFreeCell m page class number kept used free.within free.free;
-      lowest_cell = λ other f. elim (cases_lt other number) [
-        | inl below ↦ absurd (free.lowest other below (IsFreeCell-free m page class other kept used f))
-        | inr above ↦ above
-      ];
-      lowest_page = λ other has. elim (cases_lt other page) [
-        | inl below ↦
-            let no : room_at m class other ≡ false = lowest.lowest other below in
-            let yes : room_at m class other ≡ true = (HasFreeCell-room m other class kept known has).1 in
-            absurd (cc)
-        | inr above ↦ above
-      ];
+      is = free-IsFreeCell m page class number base kept used free.within free.free at;
+      least = λ other f.
+          let mark = IsFreeCell-mark m class other kept known f in
+          elim (cases_order f.page page) [
+            | inl same ↦ elim (cases_lt f.number number) [
+              | inl below ↦ absurd (free.lowest f.number below
+                  (ap (λ (p : ℕ). mark_at m p f.number) (sym same) ∙ mark.free))
+              | inr above ↦ omega (arith, f.at, mul-le-mul_right (class_size class) above)
+            ]
+            | inr (inl below) ↦
+                let no : room_at m class f.page ≡ false = lowest.lowest f.page below in
+                let yes : room_at m class f.page ≡ true = IsFreeCell-room m class other kept known f in
+                absurd (cc)
+            | inr (inr above) ↦ omega (arith, f.at)
+          ];
     }
 
 -- no cell begins in an unused page
@@ -253,56 +273,39 @@ whole-Begins m page count kept used =
       taken_as-extent (4096 * count) (mark_at m page 0) found.0 found.1,
     )
 
-pub whole-parked : (m : Map) (heap : heaps.Pages) (page count : ℕ) → KeepsCells m → Fits (cells_of m) heap →
-    use_at m page ≡ First count → slice_index heap.parked page ≡ count
-whole-parked m heap page count kept fits used =
-    let found = whole-Begins m page count kept used in
-    fits.parked page count (Whole_pages count found.0 found.1 found.2 (omega (arith, (kept.wholes page count used).some)))
-
-pub class-parked : (m : Map) (heap : heaps.Pages) (page class : ℕ) → KeepsCells m → Fits (cells_of m) heap →
-    use_at m page ≡ Class class → slice_index heap.parked page ≡ 1
-class-parked m heap page class kept fits used =
-    fits.parked page 1 (Page_of_cells (class_size class) (class-IsPageOf m page class kept used))
-
--- a page that is free in the page heap is unused in the table
-used-covered : (m : Map) (heap : heaps.Pages) (page : ℕ) (page_use : PageUse) → KeepsCells m → Fits (cells_of m) heap →
-    IsFreePage heap page → use_at m page ≡ page_use → page_use ≡ Unused
-used-covered m heap page Unused kept fits free used = refl
-used-covered m heap page (Class class) kept fits free used =
-    absurd (free.not_parked (record {
+-- a page in which no run of cells lies is unused
+vacant-used : (m : Map) (page : ℕ) (page_use : PageUse) → KeepsCells m → page < m.pages →
+    (Covers (runs_of m) page → ⊥) → use_at m page ≡ page_use → page_use ≡ Unused
+vacant-used m page Unused kept within vacant used = refl
+vacant-used m page (Class class) kept within vacant used =
+    absurd (vacant (record {
       first = page;
       begins = omega arith;
-      reaches = omega (arith, class-parked m heap page class kept fits used);
+      reaches = omega (arith, run-at m page within, ap run_of used);
     }))
-used-covered m heap page (First count) kept fits free used =
-    absurd (free.not_parked (record {
+vacant-used m page (First count) kept within vacant used =
+    absurd (vacant (record {
       first = page;
       begins = omega arith;
-      reaches = omega (arith, whole-parked m heap page count kept fits used, (kept.wholes page count used).some);
+      reaches = omega (arith, run-at m page within, ap run_of used, (kept.wholes page count used).some);
     }))
-used-covered m heap page (Later distance) kept fits free used =
+vacant-used m page (Later distance) kept within vacant used =
     let later = kept.laters page distance used in
-    absurd (free.not_parked (record {
+    absurd (vacant (record {
       first = page - distance;
       begins = omega arith;
       reaches = omega (
         arith,
-        whole-parked m heap (page - distance) later.count kept fits later.first,
+        run-at m (page - distance) (omega arith),
+        ap run_of later.first,
         later.behind,
         later.within,
       );
     }))
 
-pub free-unused : (m : Map) (heap : heaps.Pages) (page : ℕ) → KeepsCells m → Fits (cells_of m) heap →
-    IsFreePage heap page → use_at m page ≡ Unused
-free-unused m heap page kept fits free = used-covered m heap page (use_at m page) kept fits free refl
-
--- free pages are pages of the table
-pub run-within : (heap : heaps.Pages) (first count pages : ℕ) → 1 ≤ count → IsSoundHeap heap →
-    IsFreeRun heap first count → heap.pages ≤ pages → first + count ≤ pages
-run-within heap first count pages some sound free most =
-    let last = free (first + count - 1) (omega arith) (omega arith) in
-    omega (arith, last.below_limit, sound.limit)
+pub vacant-unused : (m : Map) (page : ℕ) → KeepsCells m → page < m.pages → (Covers (runs_of m) page → ⊥) →
+    use_at m page ≡ Unused
+vacant-unused m page kept within vacant = vacant-used m page (use_at m page) kept within vacant refl
 
 -- the page in which a taken cell begins
 pub data IsPageOfTaken (m : Map) (base : ℕ) : Type 0 where
@@ -339,11 +342,3 @@ pub Begins-class_extent : (m : Map) (base class : ℕ) (cell : Taken) → KeepsC
     use_at m (base / 4096) ≡ Class class → Begins (cells_of m) base cell → cell.extent ≡ class_size class
 Begins-class_extent m base class cell kept used begins =
     class-extent m base class cell kept used (Begins-cell m base cell begins)
-
--- the lowest cell with room lies in its page
-pub IsLowestCell-page : (m : Map) (class base : ℕ) → class < 19 → IsLowestCell (cells_of m) (class_size class) base →
-    IsPageOf (cells_of m) (class_size class) (base / 4096)
-IsLowestCell-page m class base known lowest =
-    subst (λ (page : ℕ). IsPageOf (cells_of m) (class_size class) page)
-    (sym (ap (λ (b : ℕ). b / 4096) lowest.at ∙ cell-page lowest.page lowest.number class known lowest.free.within))
-    lowest.is_page

@@ -6,7 +6,7 @@ use Rattle.mm_cells.specs.declared.page_use.PageUse.TheVariants.{Unused, Class, 
 use Rattle.mm_cells.specs.declared.marks.Mark.TheVariants as marks
 use Rattle.mm_cells.specs.Marks.{AllFreeFrom, IsLowestTaken}
 use Rattle.mm_cells.specs.Map.{Map, use_at, mark_at, room_at, SetsUse, SetsMark, SetsRoom}
-use Rattle.mm_cells.specs.Cells.{Taken, IsTaken, with_cell}
+use Rattle.mm_cells.specs.Cells.{Taken, IsTaken, with_cell, with_run}
 use Rattle.mm_cells.specs.Kept.{class_size, cells_in, cells_of, KeepsCells}
 use Rattle.mm_cells.specs.Spans.{SetsUses, AreUnused}
 use Rattle.mm_cells.proofs.Sizes.ClassSizes.{class_size-least, cells_in-most}
@@ -120,7 +120,7 @@ KeepsCells-goes a b c d page class number kept used marked unused room =
 pub cells_of-goes : (a b c d : Map) (page class number base : ℕ) → KeepsCells a → use_at a page ≡ Class class →
     number < cells_in class → base ≡ 4096 * page + number * class_size class →
     SetsMark a b page number marks.Free → AllFreeFrom (mark_at b page) 0 (cells_in class) →
-    SetsUse b c page Unused → SetsRoom c d class page false → cells_of d ≡ with_cell (cells_of a) base None
+    SetsUse b c page Unused → SetsRoom c d class page false → cells_of d ≡ with_run (with_cell (cells_of a) base None) page 0
 cells_of-goes a b c d page class number base kept used fits begins marked free unused room =
     let known : class < 19 = (kept.classes page class used).0 in
     let most : cells_in class ≤ 256 = cells_in-most class known in
@@ -162,7 +162,7 @@ KeepsCells-cleared a b first count kept used cleared =
     (λ is. whole-no_class a first count page class kept used inside is)))
 
 pub cells_of-cleared_pages : (a b : Map) (first count : ℕ) → KeepsCells a → use_at a first ≡ First count →
-    SetsUses a b first count (λ distance. Unused) → cells_of b ≡ with_cell (cells_of a) (4096 * first) None
+    SetsUses a b first count (λ distance. Unused) → cells_of b ≡ with_run (with_cell (cells_of a) (4096 * first) None) first 0
 cells_of-cleared_pages a b first count kept used cleared =
     let known = kept.wholes first count used in
     cells_of-cleared a b first count (KeepsCells-classes a kept)

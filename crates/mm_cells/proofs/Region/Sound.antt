@@ -2,15 +2,14 @@
 use Rattle.std.proofs.Common.{◌≡◌, ℕ, ◌+◌, ◌*◌, ◌<◌, ◌≤◌, inl, inr, arith, sym, ◌∙◌, ap, subst}
 use Rattle.std.proofs.Math.Nat.{mul-le-mul_right}
 use Rattle.std.proofs.lemmas.Bool.{cases_lt, cases_order}
-use Rattle.std.proofs.lemmas.List.FromFn.{length-map-range_with_len}
 use Rattle.std.specs.Prelude.{⊤, ◌-◌, Some}
 use Rattle.mm_cells.specs.declared.page_use.PageUse.{PageUse}
 use Rattle.mm_cells.specs.declared.page_use.PageUse.TheVariants.{Unused, Class, First, Later}
 use Rattle.mm_cells.specs.declared.marks.Mark.{Mark}
 use Rattle.mm_cells.specs.declared.marks.Mark.TheVariants as marks
 use Rattle.mm_cells.specs.Map.{Map, use_at, mark_at}
-use Rattle.mm_cells.specs.Cells.{Taken, IsSoundCells}
-use Rattle.mm_cells.specs.Kept.{class_size, cells_in, taken_as, taken_at, cells_of, KeepsCells, IsWhole}
+use Rattle.mm_cells.specs.Cells.{Taken, Cells, Begins}
+use Rattle.mm_cells.specs.Kept.{class_size, cells_in, taken_as, cells_of, KeepsCells, IsWhole}
 use Rattle.mm_cells.proofs.Sizes.ClassSizes.{class_size-least, cells_in-fit}
 use Rattle.mm_cells.proofs.Sizes.Grains.{cell-fits}
 use Rattle.mm_cells.proofs.Region.Begins.{IsSmallCell, IsWholeCell, IsCellOf, small, whole, Begins-cell}
@@ -158,11 +157,16 @@ cells-clash m low high lower higher kept (whole page count w) (whole page' count
     (whole-seated m page count low lower kept w) (whole-seated m page' count' high higher kept w') below inside in
     omega (arith, w.begins, w'.begins)
 
-pub IsSoundCells-kept : (m : Map) → KeepsCells m → IsSoundCells (cells_of m)
-IsSoundCells-kept m kept = record {
-  two = kept.two;
-  most = kept.most;
-  size = length-map-range_with_len (taken_at m) 0 (256 * m.pages);
+-- cells are apart, leave out page 0, and end with the region
+pub record IsSpaced (v : Cells) : Type 0 where
+  pub off_zero : (base : ℕ) (cell : Taken) → Begins v base cell → 4096 ≤ base
+  pub within : (base : ℕ) (cell : Taken) → Begins v base cell → base + cell.extent ≤ 4096 * v.pages
+  pub some : (base : ℕ) (cell : Taken) → Begins v base cell → 16 ≤ cell.extent
+  pub apart : (low high : ℕ) (lower higher : Taken) → Begins v low lower → Begins v high higher → low < high
+      → low + lower.extent ≤ high
+
+pub IsSpaced-kept : (m : Map) → KeepsCells m → IsSpaced (cells_of m)
+IsSpaced-kept m kept = record {
   off_zero = λ base cell begins.
       let seat = cell-seated m base cell kept (Begins-cell m base cell begins) in
       omega (arith, seat.1.off_zero, seat.1.from);

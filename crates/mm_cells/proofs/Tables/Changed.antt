@@ -4,14 +4,15 @@ use Rattle.std.proofs.Common.{length, map, set, get_or, refl, arith, sym, ◌∙
 use Rattle.std.proofs.lemmas.Bool.{cases_eq, and_parts, eqb-true, ltb-true, ne_eqb}
 use Rattle.std.proofs.lemmas.List.{ext_get_or, length-set, get_or-set_same, get_or-set_other}
 use Rattle.std.proofs.lemmas.List.FromFn.{get_or-map-range_with_len, length-map-range_with_len}
-use Rattle.std.specs.Prelude.{if◌then◌else◌, Option, None}
+use Rattle.std.specs.Prelude.{if◌then◌else◌, List, Option, None, slice_index}
 use Rattle.std.specs.List.{range_with_len}
 use Rattle.mm_cells.specs.declared.page_use.PageUse.{PageUse}
 use Rattle.mm_cells.specs.declared.page_use.PageUse.TheVariants.{Unused, Class, First, Later}
 use Rattle.mm_cells.specs.declared.marks.Mark.{Mark}
+use Rattle.mm_cells.specs.Uses.{use_of}
 use Rattle.mm_cells.specs.Map.{Map, use_at, mark_at, IsSame}
 use Rattle.mm_cells.specs.Cells.{Taken, Cells, with_cell}
-use Rattle.mm_cells.specs.Kept.{class_size, cells_in, taken_as, taken_in, taken_at, cells_of}
+use Rattle.mm_cells.specs.Kept.{class_size, cells_in, taken_as, taken_in, taken_at, run_of, runs_of, cells_of}
 use Rattle.mm_cells.proofs.Sizes.ClassSizes.{cells_in-most}
 use Rattle.mm_cells.proofs.Sizes.Grains.{whole-div, page-of_grain, place-of_grain}
 
@@ -34,12 +35,33 @@ range-changed f g n i x within others here =
           ∙ sym (get_or-set_other old i k x x d)
     ])
 
-pub cells-same : (v w : Cells) → v.table ≡ w.table → v.pages ≡ w.pages → v.taken ≡ w.taken → v ≡ w
-cells-same v w table pages taken =
+pub cells-same : (v w : Cells) → v.table ≡ w.table → v.pages ≡ w.pages → v.taken ≡ w.taken → v.runs ≡ w.runs → v ≡ w
+cells-same v w table pages taken runs =
     let first : v ≡ record v { table = w.table } = ap (λ t. record v { table = t }) table in
-    let second : record v { table = w.table } ≡ record w { taken = v.taken } =
+    let second : record v { table = w.table } ≡ record w { taken = v.taken; runs = v.runs } =
     ap (λ n. record v { table = w.table; pages = n }) pages in
-    first ∙ second ∙ ap (λ l. record w { taken = l }) taken
+    first ∙ second ∙ ap (λ l. record w { taken = l; runs = v.runs }) taken ∙ ap (λ l. record w { runs = l }) runs
+
+-- the run that begins at a page
+pub run-at : (m : Map) (page : ℕ) → page < m.pages → slice_index (runs_of m) page ≡ run_of (use_at m page)
+run-at m page within =
+    get_or-map-range_with_len (λ p. run_of (use_at m p)) 0 m.pages page page 0 within (omega arith)
+
+pub length-runs : (m : Map) → length (runs_of m) ≡ m.pages
+length-runs m = length-map-range_with_len (λ p. run_of (use_at m p)) 0 m.pages
+
+-- the runs after the use of a page changed
+pub runs-changed : (a b : Map) (page count : ℕ) → b.pages ≡ a.pages → page < a.pages →
+    ((other : ℕ) → other < a.pages → (other ≡ page → ⊥) → run_of (use_at b other) ≡ run_of (use_at a other)) →
+    run_of (use_at b page) ≡ count → runs_of b ≡ set (runs_of a) page count
+runs-changed a b page count pages within others here =
+    ap (λ (n : ℕ). map (λ p. run_of (use_at b p)) (range_with_len 0 n)) pages
+    ∙ range-changed (λ p. run_of (use_at a p)) (λ p. run_of (use_at b p)) a.pages page count within others here
+
+pub runs-same : (a b : Map) → b.pages ≡ a.pages → b.uses ≡ a.uses → runs_of b ≡ runs_of a
+runs-same a b pages uses =
+    ap (λ (n : ℕ). map (λ p. run_of (use_at b p)) (range_with_len 0 n)) pages
+    ∙ ap (λ (words : List ℕ). map (λ p. run_of (use_of (slice_index words p))) (range_with_len 0 a.pages)) uses
 
 -- the cell at one place of one page is another one, or none
 pub record ChangesPlace (a b : Map) (page place : ℕ) (cell : Option Taken) : Type 0 where
@@ -62,9 +84,10 @@ changed-other a b page place cell c grain within apart = elim (cases_eq (grain /
       ∙ ap (λ (p : ℕ). taken_in (use_at a p) (mark_at a p) (16 * (grain % 256))) (sym e)
 ]
 
-pub cells_of-changed : (a b : Map) (page place base : ℕ) (cell : Option Taken) → ChangesPlace a b page place cell →
-    base ≡ 4096 * page + 16 * place → cells_of b ≡ with_cell (cells_of a) base cell
-cells_of-changed a b page place base cell c begins =
+pub cells_of-changed : (a b : Map) (page place base : ℕ) (cell : Option Taken) (runs : List ℕ) → runs_of b ≡ runs →
+    ChangesPlace a b page place cell → base ≡ 4096 * page + 16 * place →
+    cells_of b ≡ record (with_cell (cells_of a) base cell) { runs = runs }
+cells_of-changed a b page place base cell runs now c begins =
     let grain : ℕ = 256 * page + place in
     let at : base / 16 ≡ grain = omega arith in
     let here : taken_at b grain ≡ cell =
@@ -74,9 +97,9 @@ cells_of-changed a b page place base cell c begins =
     (range_with_len 0 (256 * a.pages))) grain cell =
     range-changed (taken_at a) (taken_at b) (256 * a.pages) grain cell (omega (arith, c.within, c.low))
     (λ k h d. changed-other a b page place cell c k h d) here in
-    cells-same (cells_of b) (with_cell (cells_of a) base cell) c.same.location c.same.pages
+    cells-same (cells_of b) (record (with_cell (cells_of a) base cell) { runs = runs }) c.same.location c.same.pages
     (ap (λ (n : ℕ). map (taken_at b) (range_with_len 0 (256 * n))) c.same.pages ∙ taken
-    ∙ ap (λ (i : ℕ). set (map (taken_at a) (range_with_len 0 (256 * a.pages))) i cell) (sym at))
+    ∙ ap (λ (i : ℕ). set (map (taken_at a) (range_with_len 0 (256 * a.pages))) i cell) (sym at)) now
 
 -- a choice changes only with what it chooses
 if-same : {A : Type 0} (test : Bool) (x y : Option A) → (test ≡ true → x ≡ y) →

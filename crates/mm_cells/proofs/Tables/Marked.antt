@@ -10,14 +10,14 @@ use Rattle.mm_cells.specs.declared.marks.Mark.TheVariants as marks
 use Rattle.mm_cells.specs.Map.{Map, use_at, mark_at, room_at, IsSame, SetsMark}
 use Rattle.mm_cells.specs.Uses.{use_of}
 use Rattle.mm_cells.specs.Cells.{with_cell}
-use Rattle.mm_cells.specs.Kept.{class_size, cells_in, taken_as, taken_in, cells_of, KeepsCells}
+use Rattle.mm_cells.specs.Kept.{class_size, cells_in, taken_as, taken_in, runs_of, cells_of, KeepsCells}
 use Rattle.mm_cells.specs.Seats.{IsSeat, in_class, in_whole}
 use Rattle.mm_cells.proofs.Sizes.ClassSizes.{class_size-least, cells_in-fit, cells_in-most, cell-units}
 use Rattle.mm_cells.proofs.Sizes.Grains.{cell-fits}
 use Rattle.mm_cells.proofs.Region.Begins.{taken_in-class_here}
 use Rattle.mm_cells.proofs.Tables.Blocks.{use_at-same}
 use Rattle.mm_cells.proofs.Tables.Changed.{ChangesPlace, cells_of-changed, taken_in-alike, taken_in-class_other}
-use Rattle.mm_cells.proofs.Tables.Changed.{taken_in-first_other}
+use Rattle.mm_cells.proofs.Tables.Changed.{taken_in-first_other, runs-same}
 
 -- every page of a class has one of the 19
 abbrev pub HasClasses : Map → Type 0
@@ -85,12 +85,12 @@ pub cells_of-marked : (a b : Map) (page number base extent : ℕ) (mark : Mark) 
     cells_of b ≡ with_cell (cells_of a) base (taken_as extent mark)
 cells_of-marked a b page number base extent mark known (in_class class within low used small begins whole) sets =
     cells_of-changed a b page (number * (class_size class / 16)) base (taken_as (class_size class) mark)
-    (class-changed a b page number class mark known sets within low used small)
+    (runs_of a) (runs-same a b sets.same.pages sets.uses) (class-changed a b page number class mark known sets within low used small)
     (omega (arith, cell-units class number low))
     ∙ ap (λ (x : ℕ). with_cell (cells_of a) base (taken_as x mark)) (sym whole)
 cells_of-marked a b page number base extent mark known (in_whole count within used first begins whole) sets =
     cells_of-changed a b page 0 base (taken_as (4096 * count) mark)
-    (whole-changed a b page count mark known (subst (λ (n : ℕ). SetsMark a b page n mark) first sets) within used)
+    (runs_of a) (runs-same a b sets.same.pages sets.uses) (whole-changed a b page count mark known (subst (λ (n : ℕ). SetsMark a b page n mark) first sets) within used)
     (omega arith)
     ∙ ap (λ (x : ℕ). with_cell (cells_of a) base (taken_as x mark)) (sym whole)
 

@@ -8,7 +8,7 @@ use Rattle.mm_cells.specs.declared.page_use.PageUse.TheVariants.{Unused, Class}
 use Rattle.mm_cells.specs.declared.marks.Mark.{Mark}
 use Rattle.mm_cells.specs.declared.marks.Mark.TheVariants as marks
 use Rattle.mm_cells.specs.Map.{Map, use_at, mark_at, room_at, SetsUse, SetsMark, FreesPage, SetsRoom}
-use Rattle.mm_cells.specs.Cells.{with_cell}
+use Rattle.mm_cells.specs.Cells.{with_cell, with_run}
 use Rattle.mm_cells.specs.Seats.{in_class}
 use Rattle.mm_cells.specs.Kept.{class_size, cells_in, taken_as, cells_of, KeepsCells, HasTaken, HasFree}
 use Rattle.mm_cells.specs.Spans.{use_in_whole, SetsUses, AreUnused}
@@ -131,7 +131,7 @@ KeepsCells-fresh a b page class mark kept known off_zero within unused taken f =
 
 pub cells_of-fresh_page : (a b : Map) (page class : ℕ) (mark : Mark) → KeepsCells a → class < 19 → page < a.pages →
     use_at a page ≡ Unused → FillsPage a b page class mark →
-    cells_of b ≡ with_cell (cells_of a) (4096 * page) (taken_as (class_size class) mark)
+    cells_of b ≡ with_run (with_cell (cells_of a) (4096 * page) (taken_as (class_size class) mark)) page 1
 cells_of-fresh_page a b page class mark kept known within unused f =
     let few : 2 ≤ cells_in class = cells_in-least class known in
     let most : cells_in class ≤ 256 = cells_in-most class known in
@@ -163,7 +163,7 @@ KeepsCells-pages a b c first count mark kept some off_zero within unused taken u
 pub cells_of-pages : (a b c : Map) (first count : ℕ) (mark : Mark) → KeepsCells a → 0 < count →
     first + count ≤ a.pages → AreUnused a first count →
     SetsUses a b first count (use_in_whole count) → SetsMark b c first 0 mark →
-    cells_of c ≡ with_cell (cells_of a) (4096 * first) (taken_as (4096 * count) mark)
+    cells_of c ≡ with_run (with_cell (cells_of a) (4096 * first) (taken_as (4096 * count) mark)) first count
 cells_of-pages a b c first count mark kept some within unused used marked =
     cells_of-whole a c first count mark (KeepsCells-classes a kept) (AgreesOff-pages a b c first count mark some used marked)
     within some unused (λ distance low. use_at-same b c (first + distance) marked.uses ∙ used.here distance low)

@@ -1,6 +1,6 @@
 -- What callers see where the pages of a cell are taken or given back with it.
 use Rattle.std.proofs.Common.{◌≡◌, ℕ, ◌+◌, ◌-◌, ◌*◌, ◌/◌, ◌%◌, ◌<◌, ◌≤◌, ◌==◌, ◌&&◌, inl, inr, Bool, true, false}
-use Rattle.std.proofs.Common.{nat_lt, refl, arith, sym, ◌∙◌, ap}
+use Rattle.std.proofs.Common.{nat_lt, set, refl, arith, sym, ◌∙◌, ap}
 use Rattle.std.specs.Prelude.{if◌then◌else◌, Option, None}
 use Rattle.std.proofs.lemmas.Bool.{cases_lt, and_parts, eqb-true, ltb-true, ne_eqb}
 use Rattle.mm_cells.specs.declared.page_use.PageUse.{PageUse}
@@ -8,13 +8,13 @@ use Rattle.mm_cells.specs.declared.page_use.PageUse.TheVariants.{Unused, Class, 
 use Rattle.mm_cells.specs.declared.marks.Mark.{Mark}
 use Rattle.mm_cells.specs.declared.marks.Mark.TheVariants as marks
 use Rattle.mm_cells.specs.Map.{Map, use_at, mark_at}
-use Rattle.mm_cells.specs.Cells.{with_cell}
-use Rattle.mm_cells.specs.Kept.{class_size, cells_in, taken_as, taken_in, cells_of}
+use Rattle.mm_cells.specs.Cells.{with_cell, with_run}
+use Rattle.mm_cells.specs.Kept.{class_size, cells_in, taken_as, taken_in, run_of, runs_of, cells_of}
 use Rattle.mm_cells.specs.Spans.{use_in_whole, AreUnused}
 use Rattle.mm_cells.proofs.Sizes.ClassSizes.{class_size-least, cells_in-fit, cell-units}
 use Rattle.mm_cells.proofs.Sizes.Grains.{cell-fits, whole-div}
 use Rattle.mm_cells.proofs.Region.Begins.{taken_in-class_here}
-use Rattle.mm_cells.proofs.Tables.Changed.{cells_of-changed, taken_in-alike, taken_in-first_other}
+use Rattle.mm_cells.proofs.Tables.Changed.{cells_of-changed, taken_in-alike, taken_in-first_other, runs-changed}
 use Rattle.mm_cells.proofs.Tables.Marked.{HasClasses}
 use Rattle.mm_cells.proofs.Tables.Blocks.{IsOutside, IsInside, outside_or_inside, AgreesOff}
 
@@ -66,11 +66,13 @@ pub cells_of-fresh : (a b : Map) (page class : ℕ) (mark : Mark) → HasClasses
     page < a.pages → class < 19 → 0 < cells_in class → use_at a page ≡ Unused → use_at b page ≡ Class class →
     mark_at b page 0 ≡ mark →
     ((cell : ℕ) → cell < cells_in class → (cell ≡ 0 → ⊥) → mark_at b page cell ≡ marks.Free) →
-    cells_of b ≡ with_cell (cells_of a) (4096 * page) (taken_as (class_size class) mark)
+    cells_of b ≡ with_run (with_cell (cells_of a) (4096 * page) (taken_as (class_size class) mark)) page 1
 cells_of-fresh a b page class mark known agrees within low some before now marked free =
     let size : ℕ = class_size class in
     let zero : 0 * size ≡ 0 = omega arith in
-    cells_of-changed a b page 0 (4096 * page) (taken_as size mark) (record {
+    cells_of-changed a b page 0 (4096 * page) (taken_as size mark) (set (runs_of a) page 1)
+    (runs-changed a b page 1 agrees.same.pages within
+    (λ other below apart. ap run_of (agrees.uses other (other-outside page other apart))) (ap run_of now)) (record {
       same = agrees.same;
       within = within;
       low = omega arith;
@@ -92,14 +94,16 @@ pub cells_of-emptied : (a b : Map) (page class number base : ℕ) → HasClasses
     page < a.pages → class < 19 → number < cells_in class → base ≡ 4096 * page + number * class_size class →
     use_at a page ≡ Class class → use_at b page ≡ Unused →
     ((cell : ℕ) → cell < cells_in class → (cell ≡ number → ⊥) → mark_at a page cell ≡ marks.Free) →
-    cells_of b ≡ with_cell (cells_of a) base None
+    cells_of b ≡ with_run (with_cell (cells_of a) base None) page 0
 cells_of-emptied a b page class number base known agrees within low small begins before now free =
     let size : ℕ = class_size class in
     let place : ℕ = number * (size / 16) in
     let units : number * size ≡ 16 * place = cell-units class number low in
     let some : 16 ≤ size = class_size-least class low in
     let fits : number * size + size ≤ 4096 = cell-fits number (cells_in class) size small (cells_in-fit class) in
-    cells_of-changed a b page place base None (record {
+    cells_of-changed a b page place base None (set (runs_of a) page 0)
+    (runs-changed a b page 0 agrees.same.pages within
+    (λ other below apart. ap run_of (agrees.uses other (other-outside page other apart))) (ap run_of now)) (record {
       same = agrees.same;
       within = within;
       low = omega arith;
@@ -126,15 +130,34 @@ whole-later m first count page offset uses inside apart =
     later-none m page distance offset (ap (use_at m) at ∙ uses distance (omega (arith, inside.from, inside.to))
     ∙ later-at count distance (λ e. apart (omega arith)))
 
+-- a later page of a cell begins no run
+later-run : (count distance : ℕ) → (distance ≡ 0 → ⊥) → run_of (use_in_whole count distance) ≡ 0
+later-run count distance apart = ap run_of (later-at count distance apart)
+
+whole-run : (m : Map) (first count page : ℕ) →
+    ((distance : ℕ) → distance < count → use_at m (first + distance) ≡ use_in_whole count distance) →
+    IsInside first count page → (page ≡ first → ⊥) → run_of (use_at m page) ≡ 0
+whole-run m first count page uses inside apart =
+    let distance : ℕ = page - first in
+    let at : page ≡ first + distance = omega (arith, inside.from) in
+    ap (λ (p : ℕ). run_of (use_at m p)) at ∙ ap run_of (uses distance (omega (arith, inside.from, inside.to)))
+    ∙ later-run count distance (λ e. apart (omega arith))
+
 -- so many unused pages become those of one cell
 pub cells_of-whole : (a b : Map) (first count : ℕ) (mark : Mark) → HasClasses a → AgreesOff a b first count →
     first + count ≤ a.pages → 0 < count → AreUnused a first count →
     ((distance : ℕ) → distance < count → use_at b (first + distance) ≡ use_in_whole count distance) →
     mark_at b first 0 ≡ mark →
-    cells_of b ≡ with_cell (cells_of a) (4096 * first) (taken_as (4096 * count) mark)
+    cells_of b ≡ with_run (with_cell (cells_of a) (4096 * first) (taken_as (4096 * count) mark)) first count
 cells_of-whole a b first count mark known agrees within some before now marked =
     let first_is : use_at b first ≡ First count = ap (use_at b) (omega arith) ∙ now 0 some in
-    cells_of-changed a b first 0 (4096 * first) (taken_as (4096 * count) mark) (record {
+    cells_of-changed a b first 0 (4096 * first) (taken_as (4096 * count) mark) (set (runs_of a) first count)
+    (runs-changed a b first count agrees.same.pages (omega arith)
+    (λ other below apart. elim (outside_or_inside first count other) [
+      | inl outside ↦ ap run_of (agrees.uses other outside)
+      | inr inside ↦ whole-run b first count other now inside apart
+          ∙ sym (ap run_of (before other inside.from inside.to))
+    ]) (ap run_of first_is)) (record {
       same = agrees.same;
       within = omega arith;
       low = omega arith;
@@ -156,10 +179,15 @@ cells_of-whole a b first count mark known agrees within some before now marked =
 pub cells_of-cleared : (a b : Map) (first count : ℕ) → HasClasses a → AgreesOff a b first count →
     first + count ≤ a.pages → 0 < count →
     ((distance : ℕ) → distance < count → use_at a (first + distance) ≡ use_in_whole count distance) →
-    AreUnused b first count → cells_of b ≡ with_cell (cells_of a) (4096 * first) None
+    AreUnused b first count → cells_of b ≡ with_run (with_cell (cells_of a) (4096 * first) None) first 0
 cells_of-cleared a b first count known agrees within some before now =
     let first_is : use_at a first ≡ First count = ap (use_at a) (omega arith) ∙ before 0 some in
-    cells_of-changed a b first 0 (4096 * first) None (record {
+    cells_of-changed a b first 0 (4096 * first) None (set (runs_of a) first 0)
+    (runs-changed a b first 0 agrees.same.pages (omega arith)
+    (λ other below apart. elim (outside_or_inside first count other) [
+      | inl outside ↦ ap run_of (agrees.uses other outside)
+      | inr inside ↦ ap run_of (now other inside.from inside.to) ∙ sym (whole-run a first count other before inside apart)
+    ]) (ap run_of (now first (omega arith) (omega arith)))) (record {
       same = agrees.same;
       within = omega arith;
       low = omega arith;

@@ -7,9 +7,9 @@ use Rattle.std.specs.List.{range_with_len}
 use Rattle.mm_words.specs.Location.{Location}
 use Rattle.mm_cells.specs.declared.page_use.PageUse.{PageUse}
 use Rattle.mm_cells.specs.declared.page_use.PageUse.TheVariants.{Unused, Class, First, Later}
-use Rattle.mm_cells.specs.Map.{Map, mark_at, IsUntouched}
+use Rattle.mm_cells.specs.Map.{Map, use_at, mark_at, IsUntouched}
 use Rattle.mm_cells.specs.Cells.{Taken, fresh}
-use Rattle.mm_cells.specs.Kept.{taken_in, taken_at, cells_of, KeepsCells}
+use Rattle.mm_cells.specs.Kept.{taken_in, taken_at, run_of, cells_of, KeepsCells}
 use Rattle.mm_cells.proofs.Tables.Changed.{cells-same}
 
 pub KeepsCells-untouched : (location : Location) (pages : ℕ) (m : Map) → 2 ≤ pages → pages ≤ 4096 → IsUntouched location pages m →
@@ -43,19 +43,19 @@ taken_at-untouched : (location : Location) (pages : ℕ) (m : Map) → IsUntouch
 taken_at-untouched location pages m none grain =
     ap (λ (u : PageUse). taken_in u (mark_at m (grain / 256)) (16 * (grain % 256))) (none.unused (grain / 256))
 
-range-none : (f : ℕ → Option Taken) (n : ℕ) → ((i : ℕ) → f i ≡ None) →
-    map f (range_with_len 0 n) ≡ replicate n None
-range-none f n none =
-    ext_get_or None (map f (range_with_len 0 n)) (replicate n None)
-    (length-map-range_with_len f 0 n ∙ sym (length-replicate n None))
+range-all : {X : Type 0} (f : ℕ → X) (n : ℕ) (x : X) → ((i : ℕ) → f i ≡ x) → map f (range_with_len 0 n) ≡ replicate n x
+range-all f n x all =
+    ext_get_or x (map f (range_with_len 0 n)) (replicate n x)
+    (length-map-range_with_len f 0 n ∙ sym (length-replicate n x))
     (λ i h.
     let within : i < n = omega (arith, length-map-range_with_len f 0 n) in
-    get_or-map-range_with_len f 0 n i i None within (omega arith) ∙ none i
-    ∙ sym (get_or-replicate n i None None within))
+    get_or-map-range_with_len f 0 n i i x within (omega arith) ∙ all i ∙ sym (get_or-replicate n i x x within))
 
 pub cells_of-untouched : (location : Location) (pages : ℕ) (m : Map) → IsUntouched location pages m →
     cells_of m ≡ fresh location pages
 cells_of-untouched location pages m none =
     cells-same (cells_of m) (fresh location pages) none.same_location none.same_pages
     (ap (λ (n : ℕ). map (taken_at m) (range_with_len 0 (256 * n))) none.same_pages
-    ∙ range-none (taken_at m) (256 * pages) (taken_at-untouched location pages m none))
+    ∙ range-all (taken_at m) (256 * pages) None (taken_at-untouched location pages m none))
+    (ap (λ (n : ℕ). map (λ page. run_of (use_at m page)) (range_with_len 0 n)) none.same_pages
+    ∙ range-all (λ page. run_of (use_at m page)) pages 0 (λ page. ap run_of (none.unused page)))

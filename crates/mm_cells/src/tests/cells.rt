@@ -1,6 +1,6 @@
 // Cells over a page heap, against places worked out by hand.
 ghost use Rattle.std.specs.Prelude.{◌≡◌, ◌+◌, ◌<◌, ◌≤◌};
-ghost use Rattle.mm_cells.specs.Parking.{Fits};
+ghost use Rattle.mm_pages.specs.Parked.{AreParked};
 
 use crate::{Cells, cells_words};
 use mm_model::Colour;
@@ -18,7 +18,7 @@ struct Trial {
     arena: Arena,
     heap: PageHeap,
     cells: Cells,
-    ghost fits: { Fits cells heap },
+    ghost parked: { AreParked cells.runs heap },
     ghost heap_own: { heap.table.arena ≡ arena.name },
     ghost cells_own: { cells.table.arena ≡ arena.name },
     ghost owed: { arena.out ≡ heap.table.size + cells.table.size },
@@ -101,7 +101,6 @@ impl Trial {
             heap,
             cells,
         } = self;
-        let _limit = heap.limit();
         if heap.top() != 1 {
             rt.abort();
         }

@@ -7,7 +7,7 @@ pub loop-distance-init : goal.loop-distance-init
 loop-distance-init c = SetsUses-none c.args.table.now c.args.first (λ distance. Unused)
 
 pub set_use-requires-clause-within : goal.set_use-requires-clause-within
-set_use-requires-clause-within c = omega (arith, c.requires, c.loop-distance.invariant.same.pages)
+set_use-requires-clause-within c = omega (arith, c.requires.within, c.loop-distance.invariant.same.pages)
 
 pub loop-distance-preserved : goal.loop-distance-preserved
 loop-distance-preserved c =

@@ -37,8 +37,8 @@ lowest_taken-requires-clause-cells c =
     let known = (c.requires.kept.classes c.args.page c.args.class c.requires.used).0 in
     omega (arith, c.cells_per_page.ensures, cells_in-most c.args.class known)
 
-pub returns-in-Some-clause-gone : goal.returns-in-Some-clause-gone
-returns-in-Some-clause-gone c =
+pub returns-in-Some-clause-stays : goal.returns-in-Some-clause-stays
+returns-in-Some-clause-stays c = λ stays.
     let a : Map = c.args.table.now in
     let b : Map = c.set_mark.new.self in
     let known = (c.requires.kept.classes c.args.page c.args.class c.requires.used).0 in
@@ -69,14 +69,15 @@ returns-in-Some-clause-kept c =
     KeepsCells-stays a b c.set_room.new.self c.args.page c.args.class (c.args.offset / class_size c.args.class)
     c.in-Some.field-0 c.requires.kept c.requires.used number.within marked taken c.set_room.ensures
 
-pub returns-in-Some-clause-stays : goal.returns-in-Some-clause-stays
-returns-in-Some-clause-stays c = λ stays.
-    class-IsPageOf c.set_room.new.self c.args.page c.args.class (returns-in-Some-clause-kept c)
+pub returns-in-Some-clause-another : goal.returns-in-Some-clause-another
+returns-in-Some-clause-another c = λ stays.
+    let p = class-IsPageOf c.set_room.new.self c.args.page c.args.class (returns-in-Some-clause-kept c)
     (use_at-same c.set_mark.new.self c.set_room.new.self c.args.page c.set_room.ensures.uses
-    ∙ use_at-same c.args.table.now c.set_mark.new.self c.args.page c.set_mark.ensures.uses ∙ c.requires.used)
+    ∙ use_at-same c.args.table.now c.set_mark.new.self c.args.page c.set_mark.ensures.uses ∙ c.requires.used) in
+    (p.base, p.cell, p.begins, p.inside)
 
-pub returns-in-None-clause-gone : goal.returns-in-None-clause-gone
-returns-in-None-clause-gone c =
+pub returns-in-None-clause-goes : goal.returns-in-None-clause-goes
+returns-in-None-clause-goes c = λ goes.
     let a : Map = c.args.table.now in
     let b : Map = c.set_mark.new.self in
     let number : IsNumberOf c.args.class c.args.offset (c.args.offset / class_size c.args.class) =
@@ -97,8 +98,8 @@ returns-in-None-clause-kept c =
     c.args.class (c.args.offset / c.extent_of.result) c.requires.kept c.requires.used c.set_mark.ensures
     c.set_use.ensures c.set_room-in-None.ensures
 
-pub returns-in-None-clause-goes : goal.returns-in-None-clause-goes
-returns-in-None-clause-goes c = λ goes base cell begins.
+pub returns-in-None-clause-none : goal.returns-in-None-clause-none
+returns-in-None-clause-none c = λ goes base cell begins.
     unused-none_begins c.set_room-in-None.new.self c.args.page base cell (returns-in-None-clause-kept c)
     (use_at-goes c.set_mark.new.self c.set_use.new.self c.set_room-in-None.new.self c.args.page c.args.class
     c.set_use.ensures c.set_room-in-None.ensures) begins

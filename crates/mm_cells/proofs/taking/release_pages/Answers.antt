@@ -4,8 +4,8 @@ use Rattle.mm_cells.proofs.Region.Released.{KeepsCells-cleared, cells_of-cleared
 use Rattle.mm_cells.proofs.Region.PageCells.{unused-none_begins}
 use Rattle.mm_cells.proofs.taking.release_pages.Goals as goal
 
-pub clear_uses-requires : goal.clear_uses-requires
-clear_uses-requires c = (c.requires.kept.wholes c.args.first c.args.count c.requires.used).within
+pub clear_uses-requires-clause-within : goal.clear_uses-requires-clause-within
+clear_uses-requires-clause-within c = (c.requires.kept.wholes c.args.first c.args.count c.requires.used).within
 
 pub returns-clause-gone : goal.returns-clause-gone
 returns-clause-gone c =

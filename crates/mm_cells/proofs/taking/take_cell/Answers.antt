@@ -1,4 +1,4 @@
-use Rattle.std.proofs.Common.{ℕ, ◌+◌, ◌*◌, arith, sym, ◌∙◌, ap, subst}
+use Rattle.std.proofs.Common.{ℕ, ◌+◌, ◌*◌, ◌/◌, arith, sym, ◌∙◌, ap, subst}
 use Rattle.mm_cells.specs.declared.marks.Mark.{Mark}
 use Rattle.mm_cells.specs.Marks.{IsLowestFree, NoneFree}
 use Rattle.mm_cells.specs.Map.{Map, mark_at}
@@ -7,7 +7,7 @@ use Rattle.mm_cells.specs.Kept.{class_size, cells_in, taken_as, cells_of}
 use Rattle.mm_cells.proofs.Sizes.ClassSizes.{cells_in-most}
 use Rattle.mm_cells.proofs.Tables.Placed.{KeepsCells-cell, cells_of-cell}
 use Rattle.mm_cells.proofs.Region.Released.{class-within}
-use Rattle.mm_cells.proofs.Region.PageCells.{IsLowestRoom-class, IsLowestCell-lowest}
+use Rattle.mm_cells.proofs.Region.PageCells.{IsLowestRoom-class, IsLowest-lowest, cell-page}
 use Rattle.mm_cells.proofs.taking.take_cell.Goals as goal
 
 pub lowest_free-requires-clause-cells : goal.lowest_free-requires-clause-cells
@@ -20,18 +20,18 @@ set_mark-requires-clause-cell c =
     c.in-Some.ensures in
     omega (arith, free.within, c.cells_per_page-cells.ensures, cells_in-most c.args.class c.requires.class)
 
-pub returns-in-Some-clause-lowest : goal.returns-in-Some-clause-lowest
-returns-in-Some-clause-lowest c =
+pub returns-clause-lowest : goal.returns-clause-lowest
+returns-clause-lowest c =
     let a : Map = c.args.table.now in
     let free : IsLowestFree (mark_at a c.args.page) (cells_in c.args.class) c.in-Some.cell =
     subst (λ (n : ℕ). IsLowestFree (mark_at a c.args.page) n c.in-Some.cell) c.cells_per_page-cells.ensures
     c.in-Some.ensures in
-    IsLowestCell-lowest a c.args.class c.args.page c.in-Some.cell
+    IsLowest-lowest a c.args.class c.args.page c.in-Some.cell
     (4096 * c.args.page + c.in-Some.cell * c.extent_of.result) c.requires.kept c.requires.class c.requires.lowest free
     (ap (λ (n : ℕ). 4096 * c.args.page + c.in-Some.cell * n) c.extent_of.ensures.value)
 
-pub returns-in-Some-clause-taken : goal.returns-in-Some-clause-taken
-returns-in-Some-clause-taken c =
+pub returns-clause-taken : goal.returns-clause-taken
+returns-clause-taken c =
     let a : Map = c.args.table.now in
     let base : ℕ = 4096 * c.args.page + c.in-Some.cell * c.extent_of.result in
     let free : IsLowestFree (mark_at a c.args.page) (cells_in c.args.class) c.in-Some.cell =
@@ -44,8 +44,8 @@ returns-in-Some-clause-taken c =
     c.set_mark.ensures c.set_room.ensures
     ∙ ap (λ (mark : Mark). with_cell (cells_of a) base (taken_as (class_size c.args.class) mark)) c.new_mark.ensures
 
-pub returns-in-Some-clause-kept : goal.returns-in-Some-clause-kept
-returns-in-Some-clause-kept c =
+pub returns-clause-kept : goal.returns-clause-kept
+returns-clause-kept c =
     let a : Map = c.args.table.now in
     let free : IsLowestFree (mark_at a c.args.page) (cells_in c.args.class) c.in-Some.cell =
     subst (λ (n : ℕ). IsLowestFree (mark_at a c.args.page) n c.in-Some.cell) c.cells_per_page-cells.ensures
@@ -60,16 +60,22 @@ returns-in-Some-clause-kept c =
       taken = λ is. absurd (let e = sym c.new_mark.ensures ∙ sym c.set_mark.ensures.here ∙ is in cc);
     }) c.set_room.ensures c.has_room-has_room.ensures
 
-pub returns-in-None-clause-lowest : goal.returns-in-None-clause-lowest
-returns-in-None-clause-lowest c =
-    let found = IsLowestRoom-class c.args.table.now c.args.class c.args.page c.requires.kept c.requires.class
-    c.requires.lowest in
-    let none : NoneFree (mark_at c.args.table.now c.args.page) c.cells_per_page-cells.result = c.in-None.ensures in
-    absurd (none found.1.cell (omega (arith, found.1.within, c.cells_per_page-cells.ensures)) found.1.free)
+pub returns-clause-here : goal.returns-clause-here
+returns-clause-here c =
+    let free : IsLowestFree (mark_at c.args.table.now c.args.page) (cells_in c.args.class) c.in-Some.cell =
+    subst (λ (n : ℕ). IsLowestFree (mark_at c.args.table.now c.args.page) n c.in-Some.cell)
+    c.cells_per_page-cells.ensures c.in-Some.ensures in
+    ap (λ (n : ℕ). (4096 * c.args.page + c.in-Some.cell * n) / 4096) c.extent_of.ensures.value
+    ∙ cell-page c.args.page c.in-Some.cell c.args.class c.requires.class free.within
 
-pub returns-in-None-clause-taken : goal.returns-in-None-clause-taken
-returns-in-None-clause-taken c =
+pub returns-clause-used : goal.returns-clause-used
+returns-clause-used c =
+    (IsLowestRoom-class c.args.table.now c.args.class c.args.page c.requires.kept c.requires.class c.requires.lowest).0
+
+-- the page has a free cell
+pub unreachable-requires : goal.unreachable-requires
+unreachable-requires c =
     let found = IsLowestRoom-class c.args.table.now c.args.class c.args.page c.requires.kept c.requires.class
     c.requires.lowest in
     let none : NoneFree (mark_at c.args.table.now c.args.page) c.cells_per_page-cells.result = c.in-None.ensures in
-    absurd (none found.1.cell (omega (arith, found.1.within, c.cells_per_page-cells.ensures)) found.1.free)
+    none found.1.cell (omega (arith, found.1.within, c.cells_per_page-cells.ensures)) found.1.free

@@ -1,7 +1,7 @@
 use Rattle.std.proofs.Common.{◌*◌, sym, ◌∙◌, ap}
 use Rattle.mm_cells.specs.declared.marks.Mark.{Mark}
 use Rattle.mm_cells.specs.Map.{Map}
-use Rattle.mm_cells.specs.Cells.{with_cell}
+use Rattle.mm_cells.specs.Cells.{with_cell, with_run}
 use Rattle.mm_cells.specs.Kept.{taken_as, cells_of}
 use Rattle.mm_cells.proofs.Tables.Placed.{KeepsCells-pages, cells_of-pages}
 use Rattle.mm_cells.proofs.taking.take_pages.Goals as goal
@@ -11,7 +11,8 @@ returns-clause-taken c =
     let a : Map = c.args.table.now in
     cells_of-pages a c.fill_uses.new.table c.set_mark.new.self c.args.first c.args.count c.new_mark.result
     c.requires.kept c.requires.some c.requires.within c.requires.unused c.fill_uses.ensures c.set_mark.ensures
-    ∙ ap (λ (mark : Mark). with_cell (cells_of a) (4096 * c.args.first) (taken_as (4096 * c.args.count) mark))
+    ∙ ap (λ (mark : Mark). with_run (with_cell (cells_of a) (4096 * c.args.first) (taken_as (4096 * c.args.count) mark))
+    c.args.first c.args.count)
     c.new_mark.ensures
 
 pub returns-clause-kept : goal.returns-clause-kept

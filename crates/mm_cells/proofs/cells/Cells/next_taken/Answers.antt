@@ -1,8 +1,9 @@
 use Rattle.std.proofs.Common.{arith, sym, ap, subst}
-use Rattle.mm_cells.specs.Cells.{Cells}
+use Rattle.mm_cells.specs.Cells.{Cells, IsSoundCells}
 use Rattle.mm_cells.specs.Seats.{NoneInPage, IsLowestInPage}
 use Rattle.mm_cells.proofs.Region.Lowest.{NoneBefore, NoneBefore-first, NoneBefore-more, IsNextTaken-lowest}
 use Rattle.mm_cells.proofs.Region.Lowest.{NoneTakenFrom-before}
+use Rattle.mm_cells.proofs.Region.Soundness.{IsSoundCells-kept}
 use Rattle.mm_cells.proofs.cells.Cells.next_taken.Goals as goal
 
 pub loop-page-init : goal.loop-page-init
@@ -34,3 +35,11 @@ returns-clause-base g c = rw (← c.self.view_is) (NoneTakenFrom-before c.self.i
 
 pub returns-clause-cost : goal.returns-clause-cost
 returns-clause-cost g c = omega (arith, c.loop-page.invariant.ticked, c.loop-page.invariant.few)
+
+pub returns-in-Some-clause-sound : goal.returns-in-Some-clause-sound
+returns-in-Some-clause-sound g c =
+    subst IsSoundCells c.self.view_is (IsSoundCells-kept c.self.inside.table c.self.invariant)
+
+pub returns-clause-sound : goal.returns-clause-sound
+returns-clause-sound g c =
+    subst IsSoundCells c.self.view_is (IsSoundCells-kept c.self.inside.table c.self.invariant)

@@ -1,85 +1,83 @@
-use Rattle.std.proofs.Common.{◌≡◌, ℕ, ◌+◌, ◌*◌, ◌≤◌, inl, refl, arith, sym, ap, subst}
-use Rattle.mm_model.specs.declared.object.Size.TheVariants.{Small}
-use Rattle.mm_pages.specs.Pages as heaps
-use Rattle.mm_pages.specs.Pages.{with_parked}
-use Rattle.mm_cells.specs.Cells.{Cells, newly_taken}
+-- A cell of a page that has room, or the first one of a fresh page.
+use Rattle.std.proofs.Common.{◌≡◌, ℕ, ◌+◌, ◌*◌, ◌/◌, ◌<◌, set, slice_index, List, refl, arith, sym, ◌∙◌, ap, subst}
+use Rattle.std.specs.Prelude.{Some}
+use Rattle.mm_model.specs.Lowest.{IsLowest, IsNowhere, Of_first, Of_second}
+use Rattle.mm_pages.specs.Parked.{AreParked}
+use Rattle.mm_cells.specs.declared.page_use.PageUse.TheVariants.{Class}
+use Rattle.mm_cells.specs.Cells.{Cells, newly_taken, with_cell, IsSoundCells}
 use Rattle.mm_cells.specs.Kept.{class_size, cells_of}
-use Rattle.mm_cells.specs.Parking.{Fits}
-use Rattle.mm_cells.specs.Placing.{IsPlaced, NoRoom, Into_page, Into_fresh_page, No_cell}
-use Rattle.mm_cells.proofs.Sizes.ClassSizes.{class_size-most}
-use Rattle.mm_cells.proofs.Region.Fitting.{Fits-page, Fits-fresh, OnErr-any}
-use Rattle.mm_cells.proofs.Region.PageCells.{NoRoom-none, IsLowestCell-page, run-within, free-unused}
+use Rattle.mm_cells.specs.Placing.{IsFreeCell}
+use Rattle.mm_cells.proofs.Region.PageCells.{IsNowhere-none}
+use Rattle.mm_cells.proofs.Region.Parking.{with_run-there, with_parked-there, run-seen, run-parked, runs-seen, seen-unused}
+use Rattle.mm_cells.proofs.Region.Parking.{IsLowest-run, IsNowhere-run}
+use Rattle.mm_cells.proofs.Region.Soundness.{IsSoundCells-kept}
 use Rattle.mm_cells.proofs.cells.Cells.place_small.Goals as goal
-
-pub returns-in_err-page-in-None-clause-none : goal.returns-in_err-page-in-None-clause-none
-returns-in_err-page-in-None-clause-none g c =
-    OnErr-any c.from_residual.result (No_cell c.args.class
-    (subst (λ (v : Cells). NoRoom v (class_size c.args.class)) c.self.view_is
-    (NoRoom-none c.self.inside.table c.args.class c.self.invariant c.requires.class c.in-None.ensures))
-    c.in_err-page-in-None.ensures.none)
-
-pub take_fresh_page-requires-clause-off_zero : goal.take_fresh_page-requires-clause-off_zero
-take_fresh_page-requires-clause-off_zero g c =
-    (c.in_ok-page-in-None.ensures.lowest.free c.in_ok-page-in-None.page (omega arith) (omega arith)).off_zero
 
 pub take_fresh_page-requires-clause-within : goal.take_fresh_page-requires-clause-within
 take_fresh_page-requires-clause-within g c =
-    let pages : c.self.inside.table.pages ≡ c.args.self.now.pages = ap (λ (v : Cells). v.pages) c.self.view_is in
-    let within : c.in_ok-page-in-None.page + 1 ≤ c.self.inside.table.pages =
-    run-within c.args.pages.now c.in_ok-page-in-None.page 1 c.self.inside.table.pages (omega arith)
-    c.park_lowest.ensures.sound c.in_ok-page-in-None.ensures.lowest.free (omega (arith, c.requires.fits.pages)) in
-    omega arith
+    omega (
+      arith,
+      runs-seen c.self.inside.table c.args.self.now c.self.view_is,
+      c.requires.parked.pages,
+      c.in-Ok.ensures.within,
+    )
 
 pub take_fresh_page-requires-clause-unused : goal.take_fresh_page-requires-clause-unused
 take_fresh_page-requires-clause-unused g c =
-    free-unused c.self.inside.table c.args.pages.now c.in_ok-page-in-None.page c.self.invariant
-    (subst (λ (v : Cells). Fits v c.args.pages.now) (sym c.self.view_is) c.requires.fits)
-    (c.in_ok-page-in-None.ensures.lowest.free c.in_ok-page-in-None.page (omega arith) (omega arith))
-
-pub overflow_mul-result : goal.overflow_mul-result
-overflow_mul-result g c =
-    let pages : c.self.inside.table.pages ≡ c.args.self.now.pages = ap (λ (v : Cells). v.pages) c.self.view_is in
-    omega (
-      arith,
-      run-within c.args.pages.now c.in_ok-page-in-None.page 1 c.self.inside.table.pages (omega arith)
-          c.park_lowest.ensures.sound c.in_ok-page-in-None.ensures.lowest.free (omega (arith, c.requires.fits.pages)),
-      c.self.invariant.most,
-    )
+    seen-unused c.self.inside.table c.args.self.now c.in-Ok.page c.self.view_is c.self.invariant
+    (take_fresh_page-requires-clause-within g c)
+    (c.in-Ok.ensures.vacant c.args.self.now.runs c.requires.parked c.in-Ok.page (omega arith) (omega arith))
 
 pub returns-in-Some-clause-place : goal.returns-in-Some-clause-place
 returns-in-Some-clause-place g c =
-    subst (λ (v : Cells). IsPlaced v c.args.pages.now (Small c.args.class) c.take_cell.result c.args.pages.now)
-    c.self.view_is (Into_page c.args.class c.take_cell.result c.take_cell.ensures.lowest)
+    Of_first c.take_cell.result refl
+    (subst (λ (v : Cells). IsLowest (IsFreeCell v (class_size c.args.class)) c.take_cell.result) c.self.view_is
+    c.take_cell.ensures.lowest)
 
-pub returns-in-Some-clause-fits : goal.returns-in-Some-clause-fits
-returns-in-Some-clause-fits g c =
-    let v : Cells = cells_of c.self.inside.table in
-    let fits : Fits v c.args.pages.now =
-    subst (λ (v : Cells). Fits v c.args.pages.now) (sym c.self.view_is) c.requires.fits in
-    subst (λ (v : Cells). Fits v c.args.pages.now) (sym c.take_cell.ensures.taken)
-    (Fits-page v c.args.pages.now c.take_cell.result (newly_taken (class_size c.args.class) c.args.colour) fits
-    (IsLowestCell-page c.self.inside.table c.args.class c.take_cell.result c.requires.class
-    c.take_cell.ensures.lowest))
+pub returns-in-Some-clause-taken : goal.returns-in-Some-clause-taken
+returns-in-Some-clause-taken g c =
+    let base : ℕ = c.take_cell.result in
+    let cell = newly_taken (class_size c.args.class) c.args.colour in
+    let now : Cells = with_cell c.args.self.now base (Some cell) in
+    let there = run-seen c.self.inside.table c.args.self.now c.in-Some.page (Class c.args.class) c.self.view_is
+    c.in-Some.ensures.within c.take_cell.ensures.used in
+    c.take_cell.ensures.taken ∙ ap (λ (v : Cells). with_cell v base (Some cell)) c.self.view_is
+    ∙ sym (with_run-there now (base / 4096) 1 (omega arith) (ap (λ (p : ℕ). slice_index now.runs p) c.take_cell.ensures.here ∙ there))
 
-pub returns-in_ok-page-in-None-clause-place : goal.returns-in_ok-page-in-None-clause-place
-returns-in_ok-page-in-None-clause-place g c =
-    let page : ℕ = c.in_ok-page-in-None.page in
-    subst (λ (heap : heaps.Pages). IsPlaced c.args.self.now c.args.pages.now (Small c.args.class) (4096 * page) heap)
-    (sym c.in_ok-page-in-None.ensures.parked)
-    (Into_fresh_page c.args.class page
-    (subst (λ (v : Cells). NoRoom v (class_size c.args.class)) c.self.view_is
-    (NoRoom-none c.self.inside.table c.args.class c.self.invariant c.requires.class c.in-None.ensures))
-    c.in_ok-page-in-None.ensures.lowest)
+pub returns-in-Some-clause-heap : goal.returns-in-Some-clause-heap
+returns-in-Some-clause-heap g c =
+    let there = run-parked c.self.inside.table c.args.self.now c.args.pages.now c.in-Some.page (Class c.args.class)
+    c.self.view_is c.in-Some.ensures.within c.take_cell.ensures.used (omega arith) c.requires.parked in
+    sym (with_parked-there c.args.pages.now (c.take_cell.result / 4096) 1 (omega arith)
+    (ap (λ (p : ℕ). slice_index c.args.pages.now.parked p) c.take_cell.ensures.here ∙ there))
 
-pub returns-in_ok-page-in-None-clause-fits : goal.returns-in_ok-page-in-None-clause-fits
-returns-in_ok-page-in-None-clause-fits g c =
-    let page : ℕ = c.in_ok-page-in-None.page in
-    let fits : Fits (cells_of c.self.inside.table) c.args.pages.now =
-    subst (λ (v : Cells). Fits v c.args.pages.now) (sym c.self.view_is) c.requires.fits in
-    subst (λ (heap : heaps.Pages). Fits (cells_of c.take_fresh_page.new.table) heap)
-    (sym c.in_ok-page-in-None.ensures.parked)
-    (subst (λ (v : Cells). Fits v (with_parked c.args.pages.now page 1)) (sym c.take_fresh_page.ensures.taken)
-    (Fits-fresh (cells_of c.self.inside.table) c.args.pages.now page 1
-    (newly_taken (class_size c.args.class) c.args.colour) fits c.park_lowest.ensures.sound
-    c.in_ok-page-in-None.ensures.lowest.free (omega arith)
-    (inl (refl, omega (arith, class_size-most c.args.class c.requires.class)))))
+pub returns-in-Some-clause-sound : goal.returns-in-Some-clause-sound
+returns-in-Some-clause-sound g c = IsSoundCells-kept c.take_cell.new.table c.take_cell.ensures.kept
+
+pub returns-in-Ok-clause-place : goal.returns-in-Ok-clause-place
+returns-in-Ok-clause-place g c =
+    Of_second
+    (subst (λ (v : Cells). IsNowhere (IsFreeCell v (class_size c.args.class))) c.self.view_is
+    (IsNowhere-none c.self.inside.table c.args.class c.self.invariant c.requires.class c.in-None.ensures))
+    (IsLowest-run c.args.pages.now c.in-Ok.page 1 (4096 * c.in-Ok.page) refl c.in-Ok.ensures.lowest)
+
+pub returns-in-Ok-clause-parked : goal.returns-in-Ok-clause-parked
+returns-in-Ok-clause-parked g c =
+    subst (λ (runs : List ℕ). AreParked runs c.park_lowest.new.self)
+    (sym (ap (λ (w : Cells). w.runs) c.take_fresh_page.ensures.taken
+    ∙ ap (λ (w : Cells). set w.runs c.in-Ok.page 1) c.self.view_is))
+    (c.in-Ok.ensures.fits c.args.self.now.runs c.requires.parked)
+
+pub returns-in-Ok-clause-sound : goal.returns-in-Ok-clause-sound
+returns-in-Ok-clause-sound g c = IsSoundCells-kept c.take_fresh_page.new.table c.take_fresh_page.ensures.kept
+
+pub returns-in-Err-clause-place : goal.returns-in-Err-clause-place
+returns-in-Err-clause-place g c =
+    Of_second
+    (subst (λ (v : Cells). IsNowhere (IsFreeCell v (class_size c.args.class))) c.self.view_is
+    (IsNowhere-none c.self.inside.table c.args.class c.self.invariant c.requires.class c.in-None.ensures))
+    (IsNowhere-run c.args.pages.now 1 c.in-Err.ensures.none)
+
+pub returns-in-Err-clause-sound : goal.returns-in-Err-clause-sound
+returns-in-Err-clause-sound g c =
+    subst IsSoundCells c.self.view_is (IsSoundCells-kept c.self.inside.table c.self.invariant)

@@ -1,58 +1,40 @@
-use Rattle.std.proofs.Common.{◌≡◌, ℕ, ◌*◌, inr, refl, arith, sym, ap, subst}
-use Rattle.mm_model.specs.declared.object.Size.TheVariants.{Pages}
-use Rattle.mm_pages.specs.Pages as heaps
-use Rattle.mm_pages.specs.Pages.{with_parked}
-use Rattle.mm_cells.specs.Cells.{Cells, newly_taken}
-use Rattle.mm_cells.specs.Kept.{cells_of}
-use Rattle.mm_cells.specs.Parking.{Fits}
-use Rattle.mm_cells.specs.Placing.{IsPlaced, Into_whole_pages, No_pages}
-use Rattle.mm_cells.proofs.Region.Fitting.{Fits-fresh, OnErr-any}
-use Rattle.mm_cells.proofs.Region.PageCells.{run-within, free-unused}
+-- The lowest run of so many pages.
+use Rattle.std.proofs.Common.{ℕ, ◌+◌, ◌*◌, ◌<◌, set, List, refl, arith, sym, ◌∙◌, ap, subst}
+use Rattle.mm_pages.specs.Parked.{AreParked}
+use Rattle.mm_cells.specs.Cells.{Cells, IsSoundCells}
+use Rattle.mm_cells.proofs.Region.Parking.{runs-seen, seen-unused, IsLowest-run}
+use Rattle.mm_cells.proofs.Region.Soundness.{IsSoundCells-kept}
 use Rattle.mm_cells.proofs.cells.Cells.place_whole.Goals as goal
-
-pub returns-in_err-first-clause-none : goal.returns-in_err-first-clause-none
-returns-in_err-first-clause-none g c =
-    OnErr-any c.from_residual.result (No_pages c.args.count c.in_err-first.ensures.none)
-
-pub take_pages-requires-clause-off_zero : goal.take_pages-requires-clause-off_zero
-take_pages-requires-clause-off_zero g c =
-    (c.in_ok-first.ensures.lowest.free c.in_ok-first.first (omega arith) (omega (arith, c.requires.some))).off_zero
 
 pub take_pages-requires-clause-within : goal.take_pages-requires-clause-within
 take_pages-requires-clause-within g c =
-    let pages : c.self.inside.table.pages ≡ c.args.self.now.pages = ap (λ (v : Cells). v.pages) c.self.view_is in
-    run-within c.args.pages.now c.in_ok-first.first c.args.count c.self.inside.table.pages c.requires.some
-    c.park_lowest.ensures.sound c.in_ok-first.ensures.lowest.free (omega (arith, c.requires.fits.pages))
+    omega (
+      arith,
+      runs-seen c.self.inside.table c.args.self.now c.self.view_is,
+      c.requires.parked.pages,
+      c.in-Ok.ensures.within,
+    )
 
 pub take_pages-requires-clause-unused : goal.take_pages-requires-clause-unused
 take_pages-requires-clause-unused g c = λ page from to.
-    free-unused c.self.inside.table c.args.pages.now page c.self.invariant
-    (subst (λ (v : Cells). Fits v c.args.pages.now) (sym c.self.view_is) c.requires.fits)
-    (c.in_ok-first.ensures.lowest.free page from to)
+    seen-unused c.self.inside.table c.args.self.now page c.self.view_is c.self.invariant
+    (omega (arith, take_pages-requires-clause-within g c))
+    (c.in-Ok.ensures.vacant c.args.self.now.runs c.requires.parked page from to)
 
-pub overflow_mul-result : goal.overflow_mul-result
-overflow_mul-result g c =
-    let pages : c.self.inside.table.pages ≡ c.args.self.now.pages = ap (λ (v : Cells). v.pages) c.self.view_is in
-    omega (
-      arith,
-      run-within c.args.pages.now c.in_ok-first.first c.args.count c.self.inside.table.pages c.requires.some
-          c.park_lowest.ensures.sound c.in_ok-first.ensures.lowest.free (omega (arith, c.requires.fits.pages)),
-      c.self.invariant.most,
-    )
+pub returns-in-Ok-clause-place : goal.returns-in-Ok-clause-place
+returns-in-Ok-clause-place g c =
+    IsLowest-run c.args.pages.now c.in-Ok.first c.args.count (4096 * c.in-Ok.first) refl c.in-Ok.ensures.lowest
 
-pub returns-clause-place : goal.returns-clause-place
-returns-clause-place g c =
-    subst (λ (heap : heaps.Pages). IsPlaced c.args.self.now c.args.pages.now (Pages c.args.count)
-    (4096 * c.in_ok-first.first) heap) (sym c.in_ok-first.ensures.parked)
-    (Into_whole_pages c.args.count c.in_ok-first.first c.in_ok-first.ensures.lowest)
+pub returns-in-Ok-clause-parked : goal.returns-in-Ok-clause-parked
+returns-in-Ok-clause-parked g c =
+    subst (λ (runs : List ℕ). AreParked runs c.park_lowest.new.self)
+    (sym (ap (λ (w : Cells). w.runs) c.take_pages.ensures.taken
+    ∙ ap (λ (w : Cells). set w.runs c.in-Ok.first c.args.count) c.self.view_is))
+    (c.in-Ok.ensures.fits c.args.self.now.runs c.requires.parked)
 
-pub returns-clause-fits : goal.returns-clause-fits
-returns-clause-fits g c =
-    let first : ℕ = c.in_ok-first.first in
-    let fits : Fits (cells_of c.self.inside.table) c.args.pages.now =
-    subst (λ (v : Cells). Fits v c.args.pages.now) (sym c.self.view_is) c.requires.fits in
-    subst (λ (heap : heaps.Pages). Fits (cells_of c.take_pages.new.table) heap) (sym c.in_ok-first.ensures.parked)
-    (subst (λ (v : Cells). Fits v (with_parked c.args.pages.now first c.args.count)) (sym c.take_pages.ensures.taken)
-    (Fits-fresh (cells_of c.self.inside.table) c.args.pages.now first c.args.count
-    (newly_taken (4096 * c.args.count) c.args.colour) fits c.park_lowest.ensures.sound
-    c.in_ok-first.ensures.lowest.free c.requires.some (inr refl)))
+pub returns-in-Ok-clause-sound : goal.returns-in-Ok-clause-sound
+returns-in-Ok-clause-sound g c = IsSoundCells-kept c.take_pages.new.table c.take_pages.ensures.kept
+
+pub returns-in-Err-clause-sound : goal.returns-in-Err-clause-sound
+returns-in-Err-clause-sound g c =
+    subst IsSoundCells c.self.view_is (IsSoundCells-kept c.self.inside.table c.self.invariant)

@@ -1,6 +1,6 @@
 use Rattle.std.proofs.Common.{◌-◌, ◌/◌, arith, sym, ◌∙◌}
 use Rattle.mm_cells.proofs.Region.Covering.{none-past, none-unused, none-free, class-has, whole-has, MatchOption-map}
-use Rattle.mm_cells.proofs.Region.Sound.{IsSoundCells-kept}
+use Rattle.mm_cells.proofs.Region.Soundness.{IsSoundCells-kept}
 use Rattle.mm_cells.proofs.cells.Cells.resolve.Goals as goal
 
 pub returns-then-pages-page-clause-cell : goal.returns-then-pages-page-clause-cell

@@ -1,6 +1,4 @@
-use Rattle.std.proofs.Common.{refl, sym, subst}
-use Rattle.mm_cells.specs.Parking.{Fits}
-use Rattle.mm_cells.proofs.Region.Fitting.{Fits-told}
+use Rattle.mm_cells.proofs.Region.Soundness.{IsSoundCells-kept}
 use Rattle.mm_cells.proofs.Region.Seats.{KeepsCells-told, cells_of-coloured}
 use Rattle.mm_cells.proofs.cells.Cells.set_colour.Goals as goal
 
@@ -15,8 +13,5 @@ returns-clause-colour g c = rw (← c.self.view_is) (λ cell begins.
     c.args.base c.told_at-told.result.colour c.args.colour c.told_at-told.result.flags c.self.invariant
     c.seat_of-seat.ensures c.told_at-told.ensures c.set_mark.ensures cell begins)
 
-pub returns-clause-fits : goal.returns-clause-fits
-returns-clause-fits g c = λ heap fits.
-    let told = c.requires in
-    subst (λ v. Fits v heap) (sym (returns-clause-colour g c told.0 told.1))
-    (Fits-told _ heap c.args.base told.0 _ told.1 refl fits)
+pub returns-clause-sound : goal.returns-clause-sound
+returns-clause-sound g c = IsSoundCells-kept c.set_mark.new.self (invariant_of-self g c)

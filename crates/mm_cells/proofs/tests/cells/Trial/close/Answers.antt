@@ -10,5 +10,5 @@ close-requires g c = λ base cell begins.
 
 pub close-requires-in-None : goal.close-requires-in-None
 close-requires-in-None g c =
-    HasNoRun-unused c.args.self.heap (c.top.result - 1) c.limit-limit.ensures.sound c.top.ensures.highest
+    HasNoRun-unused c.args.self.heap (c.top.result - 1) c.top.ensures.sound c.top.ensures.highest
     (omega (arith, c.if-top-ne1.false))
