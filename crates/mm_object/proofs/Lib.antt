@@ -1,0 +1,17 @@
+pub mod Bare
+pub mod Born
+pub mod Calls
+pub mod Created
+pub mod Erased
+pub mod Extents
+pub mod Flags
+pub mod Gone
+pub mod Making
+pub mod Newborn
+pub mod Objects
+pub mod RawWords
+pub mod Recolouring
+pub mod Sound
+pub mod Told
+pub mod Vacant
+pub mod Writes

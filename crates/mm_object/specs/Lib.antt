@@ -1,0 +1,4 @@
+pub mod Header
+pub mod Heap
+pub mod Kept
+pub mod Object
