@@ -11,6 +11,8 @@ pub mod Newborn
 pub mod Objects
 pub mod RawWords
 pub mod Recolouring
+pub mod Resized
+pub mod Shading
 pub mod Sound
 pub mod Told
 pub mod Vacant

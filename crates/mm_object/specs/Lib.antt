@@ -1,3 +1,4 @@
+pub mod Colours
 pub mod Header
 pub mod Heap
 pub mod Kept
