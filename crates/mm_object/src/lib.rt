@@ -9,6 +9,8 @@ mod raw;
 mod resizing;
 mod slot;
 mod slots;
+#[cfg(test)]
+mod tests;
 
 pub use heap::{Found, Heap};
 pub use slot::Slot;
