@@ -13,7 +13,7 @@ use Rattle.mm_cells.specs.Cells.{Taken, Cells, with_cell, Begins, IsTaken, IsSou
 use Rattle.mm_object.specs.Object.{StoredObject, shape_of, flags_with, has_finalizer, has_weak_object}
 use Rattle.mm_object.specs.Heap.{Heap, with_object, Covers, FallsInNone, HasSlot, IsSound}
 use Rattle.mm_object.specs.Header.{shape_in}
-use Rattle.mm_object.specs.Kept.{shape_told, extent_words, object_told, object_at, heap_of, IsHeaded, KeepsHeap}
+use Rattle.mm_object.specs.Kept.{shape_told, extent_words, object_told, object_at, heap_of, KeepsHeap}
 use Rattle.mm_object.proofs.Extents.{extent_words-get}
 use Rattle.mm_object.proofs.Objects.{object-begins}
 use Rattle.mm_object.proofs.Sound.{length-extent, length-slots, shape-object, covers-cell, cell-covers, IsSound-kept}
