@@ -7,9 +7,9 @@ use Rattle.mm_model.specs.State.{State, Lives}
 use Rattle.mm_model.specs.Words.{root_words}
 use Rattle.mm_model.specs.Marking.{is_white, colour_in, with_grayed}
 use Rattle.mm_model.specs.Phase.{lists, IsAscending, AreBasesOf, AreReaped, AreCollected, AreFinished}
-use Rattle.mm_examples.proofs.Members.{Numbered, numbered, living, has_birth, from_any, each_from_all, each_implied, at_live, each_living}
-use Rattle.mm_examples.proofs.Growth.{is_closed}
-use Rattle.mm_examples.proofs.Sets.{joins_reached, joins_marked, joins_reapable, reached_members, marked_members, reapable_members, reached_from_member, member_from_reached, marked_from_member, member_from_marked, reapable_from_member, member_from_reapable, white_if}
+use Rattle.mm_model.proofs.Decided.Members.{Numbered, numbered, living, has_birth, from_any, each_from_all, each_implied, at_live, each_living}
+use Rattle.mm_model.proofs.Decided.Growth.{is_closed}
+use Rattle.mm_model.proofs.Decided.Closures.{joins_reached, joins_kept, joins_reapable, reached_members, kept_members, reapable_members, reached_from_member, member_from_reached, kept_from_member, member_from_kept, reapable_from_member, member_from_reapable, white_if}
 
 abbrev pub is_ascending : List ℕ → Bool
 is_ascending [] = true
@@ -116,16 +116,16 @@ is_unmarked g members m = is_white (colour_in g.cycle m.birth) && not (has_birth
 
 abbrev finishes_among : State → State → List Numbered → List ℕ → Bool
 finishes_among a g members bases =
-    is_closed (joins_marked g) g members && are_bases_of a (is_unmarked g members) bases
+    is_closed (joins_kept g) g members && are_bases_of a (is_unmarked g members) bases
 
 abbrev pub finishes : State → List ℕ → Bool
-finishes a bases = finishes_among a (with_grayed (root_words a) a) (marked_members (with_grayed (root_words a) a)) bases
+finishes a bases = finishes_among a (with_grayed (root_words a) a) (kept_members (with_grayed (root_words a) a)) bases
 
 pub finished_if : (a : State) (bases : List ℕ) → finishes a bases ≡ true → AreFinished a bases
 finished_if a bases e =
     let g = with_grayed (root_words a) a in
-    let members = marked_members g in
-    let parts = and_parts (is_closed (joins_marked g) g members) (are_bases_of a (is_unmarked g members) bases) e in
+    let members = kept_members g in
+    let parts = and_parts (is_closed (joins_kept g) g members) (are_bases_of a (is_unmarked g members) bases) e in
     bases_from_test a _ (is_unmarked g members)
     (λ birth object lives p.
     let white = and_parts (is_white (colour_in g.cycle birth)) (not (has_birth members birth)) p in
@@ -133,11 +133,11 @@ finished_if a bases e =
       white = white_if (colour_in g.cycle birth) white.0;
       unmarked = λ is.
           let refuted : not true ≡ true =
-          subst (λ b. not b ≡ true) (member_from_marked g parts.0 birth is) white.1 in cc;
+          subst (λ b. not b ≡ true) (member_from_kept g parts.0 birth is) white.1 in cc;
     })
     (λ birth object lives dead.
     and_from (is_white (colour_in g.cycle birth)) (not (has_birth members birth)) (ap is_white dead.white)
-    (⊎_elim (λ (p : has_birth members birth ≡ true). absurd (dead.unmarked (marked_from_member g birth p)))
+    (⊎_elim (λ (p : has_birth members birth ≡ true). absurd (dead.unmarked (kept_from_member g birth p)))
     (λ (p : has_birth members birth ≡ false). not_from_false (has_birth members birth) p)
     (cases_Bool (has_birth members birth))))
     bases parts.1

@@ -1,6 +1,3 @@
-pub mod Members
-pub mod Growth
-pub mod Sets
 pub mod Freeing
 pub mod Searching
 pub mod Scanning

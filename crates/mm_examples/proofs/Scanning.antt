@@ -11,8 +11,8 @@ use Rattle.mm_model.specs.Marking.{MayScan, is_gray, colour_in, may_continue, pa
 use Rattle.mm_model.specs.Scan.{AreScanned, IsEnough, Nothing_asked, Cost_reached, Nothing_left, IsNothingGray, costs}
 use Rattle.mm_model.specs.Step.{Scans}
 use Rattle.mm_model.specs.After.{birth_at, part_done_at, parts_done}
-use Rattle.mm_examples.proofs.Members.{living, each_from_all, at_live}
-use Rattle.mm_examples.proofs.Sets.{gray_if}
+use Rattle.mm_model.proofs.Decided.Members.{living, each_from_all, at_live}
+use Rattle.mm_model.proofs.Decided.Closures.{gray_if}
 
 abbrev part_line : State → ℕ → Object → Line
 part_line a birth object = lines.Scan object.base (length (part_slots a birth object))

@@ -20,6 +20,7 @@ use Rattle.mm_model.specs.Store.{is_counted_slot}
 use Rattle.mm_model.specs.FlatView.{FlatView, FlatObject, FlatShows}
 use Rattle.mm_model.specs.FlatEffect.{FlatEffect, flat_resolved, flat_slot_kind, flat_new_effect, one_more_carried_out}
 use Rattle.mm_model.proofs.Good.Around.{carried_out_is_good, shows-carried_out}
+use Rattle.mm_model.proofs.Good.Steps.{shape_allowed}
 use Rattle.mm_model.proofs.FlatView.Creating.{Refines, place-shown, new-refines}
 use Rattle.mm_model.proofs.FlatView.PlainEffects.{IsUncounted, plain-refines}
 use Rattle.mm_model.proofs.FlatView.RefusalsShown.{is_told, refusal-shown}
@@ -79,7 +80,8 @@ module _ (view : FlatView) (a : State) (good : IsGood a) (shows : FlatShows view
   carried-refines (commands.New shape) built uncounted allowed =
       let place = place_grown a Objects (object_bytes shape.slots) in
       subst (λ found. Refines (flat_new_effect view shape found) (new_effect a shape place))
-      (sym (place-shown view a good shows shape)) (new-refines view a good shows shape place refl)
+      (sym (place-shown view a good shows shape))
+      (new-refines view a good shows shape (shape_allowed a shape allowed) place refl)
   carried-refines (commands.Push word) built uncounted allowed =
       plain-refines view a good shows (commands.Push word) refl allowed uncounted
   carried-refines (commands.Dup i) built uncounted allowed =

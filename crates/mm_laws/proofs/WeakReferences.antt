@@ -1,5 +1,5 @@
 -- What `weak` makes, and what `look` tells of it.
-use Rattle.std.proofs.Common.{◌≡◌, ℕ, ◌≤◌, Bool, true, false, not, List, [], ◌∷◌, ◌++◌, length, Option, Some, None, refl, sym, ap, ◌∙◌, subst, arith, ◌⊎◌, inl, inr}
+use Rattle.std.proofs.Common.{◌≡◌, ℕ, Bool, true, false, not, List, [], ◌∷◌, ◌++◌, length, Option, Some, None, refl, sym, ap, ◌∙◌, subst, arith, ◌⊎◌, inl, inr}
 use Rattle.std.proofs.lemmas.List.{length-set}
 use Rattle.std.specs.Prelude.{◌≢◌, IfSome, slice_get, slice_set}
 use Rattle.mm_model.specs.declared.command.Command.TheVariants as commands
@@ -146,13 +146,13 @@ made_for-weak a i target group before base b step written means =
 
 -- and lives at the base that the reply tells
 pub lives-weak : (a : State) (i target : ℕ) (group before : List Line) (base : ℕ) (b : State) → IsGood a
-    → a.settings.pages ≤ a.settings.max → IsStep a (commands.Weak i) group b
+    → IsStep a (commands.Weak i) group b
     → group ≡ before ++ lines.Reply (replies.New base) ∷ [] → meant_at a i ≡ Some target
     → (weak : Object) × Lives b (length a.objects) weak × (weak.base ≡ base)
-lives-weak a i target group before base b good least step written means =
+lives-weak a i target group before base b good step written means =
     let one = made_at-step a i target group before base b step written means in
     let weak = lives-reference b 0 (length a.objects) (reference base (length a.objects))
-    (step_is_good a (commands.Weak i) group b good least step) one.top refl in
+    (step_is_good a (commands.Weak i) group b good step) one.top refl in
     (weak.0, weak.1, one.place weak.0 weak.1.is)
 
 -- what is gone doesn't live

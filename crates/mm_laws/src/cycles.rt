@@ -1,5 +1,5 @@
 // Laws on incremental cycles.
-ghost use Rattle.std.specs.Prelude.{◌≡◌, ◌≤◌, ◌↔◌, ◌⊎◌, ℕ, List, None, is_some, IsTrue};
+ghost use Rattle.std.specs.Prelude.{◌≡◌, ◌↔◌, ◌⊎◌, ℕ, List, None, is_some, IsTrue};
 ghost use Rattle.mm_model.specs.declared.command.Command.{Command};
 ghost use Rattle.mm_model.specs.declared.command.Command.TheVariants as commands;
 ghost use Rattle.mm_model.specs.declared.line.Line.{Line};
@@ -21,9 +21,8 @@ pub fn begin_marks_only_what_is_reached()
 /// While a cycle runs, what marking comes to reach is reached.
 pub fn marking_gains_only_what_is_reached()
     ensures { (a : State) (command : Command) (group : List Line) (b : State) → IsGood a
-        → a.settings.pages ≤ a.settings.max → IsStep a command group b → IsTrue (is_some a.cycle)
-        → IsTrue (is_some b.cycle) → (birth : ℕ) → IsMarked b birth → (object : Object)
-        → Lives a birth object → IsMarked a birth ⊎ IsReached b birth }
+        → IsStep a command group b → IsTrue (is_some a.cycle) → IsTrue (is_some b.cycle) → (birth : ℕ)
+        → IsMarked b birth → (object : Object) → Lives a birth object → IsMarked a birth ⊎ IsReached b birth }
 {}
 
 /// `finish` frees exactly the live objects that are neither reached nor reached by marking.

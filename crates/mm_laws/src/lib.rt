@@ -26,7 +26,7 @@ pub use spelling::{
     no_spelling_begins_another,
 };
 pub use states::{empty_is_good, legal_logs_lead_to_good_states, steps_keep_states_good};
-pub use steps::{lines_determine_the_state, only_step_chooses};
+pub use steps::{each_command_has_a_step, lines_determine_the_state, only_step_chooses};
 pub use traces::{lines_are_cut_at_newlines, traces_join_at_a_newline};
 pub use weak::{
     look_is_empty_exactly_once_the_target_is_gone, looks_tell_whether_the_target_is_gone,

@@ -8,15 +8,15 @@ ghost use Rattle.mm_model.specs.Good.{IsGood};
 ghost use Rattle.mm_model.specs.Log.{IsLegal};
 ghost use Rattle.mm_model.specs.Step.{IsStep};
 
-/// The empty state is good.
+/// The empty state is good, where the least number of pages isn't above the greatest.
 pub fn empty_is_good()
-    ensures { (settings : Settings) → IsGood (empty_state settings) }
+    ensures { (settings : Settings) → settings.pages ≤ settings.max → IsGood (empty_state settings) }
 {}
 
-/// Every step of a good state leads to a good one, where the least number of pages isn't above the greatest.
+/// Every step of a good state leads to a good one.
 pub fn steps_keep_states_good()
     ensures { (a : State) (command : Command) (group : List Line) (b : State) → IsGood a
-        → a.settings.pages ≤ a.settings.max → IsStep a command group b → IsGood b }
+        → IsStep a command group b → IsGood b }
 {}
 
 /// So blocks never overlap, references mean live objects and counts are right after every legal log.

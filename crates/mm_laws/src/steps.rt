@@ -22,3 +22,9 @@ pub fn only_step_chooses()
         → ((k : ℕ) → command ≢ commands.Step k) → IsStep a command group b → IsStep a command other c
         → group ≡ other }
 {}
+
+/// From each good state each command has a step, so each legal log can go on with any command.
+pub fn each_command_has_a_step()
+    ensures { (a : State) (command : Command) → IsGood a
+        → (group : List Line) × (b : State) × IsStep a command group b }
+{}

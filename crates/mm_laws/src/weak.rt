@@ -1,5 +1,5 @@
 // Laws on weak references: each is empty exactly once its target is freed.
-ghost use Rattle.std.specs.Prelude.{◌≡◌, ◌≢◌, ◌≤◌, ◌↔◌, ◌⊎◌, ◌∷◌, ◌++◌, [], ℕ, List, Some, false, length};
+ghost use Rattle.std.specs.Prelude.{◌≡◌, ◌≢◌, ◌↔◌, ◌⊎◌, ◌∷◌, ◌++◌, [], ℕ, List, Some, false, length};
 ghost use Rattle.mm_model.specs.declared.command.Command.{Command};
 ghost use Rattle.mm_model.specs.declared.command.Command.TheVariants as commands;
 ghost use Rattle.mm_model.specs.declared.line.Line.{Line};
@@ -23,7 +23,7 @@ pub fn weak_references_are_made_for_a_target()
         → IsStep a (commands.Weak i) group b → group ≡ before ++ lines.Reply (replies.New base) ∷ []
         → meant_at a i ≡ Some target → IsMadeFor b (length a.objects) target }
     ensures lives { (a : State) (i target : ℕ) (group before : List Line) (base : ℕ) (b : State) → IsGood a
-        → a.settings.pages ≤ a.settings.max → IsStep a (commands.Weak i) group b
+        → IsStep a (commands.Weak i) group b
         → group ≡ before ++ lines.Reply (replies.New base) ∷ [] → meant_at a i ≡ Some target
         → (weak : Object) × Lives b (length a.objects) weak × (weak.base ≡ base) }
 {}

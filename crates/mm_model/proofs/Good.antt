@@ -18,6 +18,7 @@ pub mod Releases
 pub mod Scanning
 pub mod Searching
 pub mod Shading
+pub mod Shapes
 pub mod Starting
 pub mod Steps
 pub mod Sticking

@@ -1,6 +1,9 @@
 pub mod Cycle
+pub mod Decided
 pub mod FlatView
 pub mod Good
 pub mod Lists
 pub mod Places
+pub mod Steps
 pub mod Text
+pub mod View

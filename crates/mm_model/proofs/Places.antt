@@ -1,4 +1,5 @@
 pub mod Choosing
+pub mod Ends
 pub mod Falling
 pub mod LeastClass
 pub mod Placing

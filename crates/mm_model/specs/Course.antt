@@ -1,5 +1,5 @@
 -- The course of a cycle: the state after `begin`, and the one after each command since.
-use Rattle.std.specs.Prelude.{◌≡◌, ℕ, ◌≤◌, true, IsTrue, List, [], ◌∷◌, Some, None, is_some, slice_get}
+use Rattle.std.specs.Prelude.{◌≡◌, ℕ, true, IsTrue, List, [], ◌∷◌, Some, None, is_some, slice_get}
 use Rattle.mm_model.specs.declared.command.Command.{Command}
 use Rattle.mm_model.specs.declared.command.Command.TheVariants as commands
 use Rattle.mm_model.specs.declared.line.Line.{Line}
@@ -12,8 +12,6 @@ use Rattle.mm_model.specs.Step.{IsStep}
 pub record IsBegun (begun : State) : Type 0 where
   pub before : State
   pub good : IsGood before
-  -- as in each state of a heap within its limits
-  pub growing : before.settings.pages ≤ before.settings.max
   -- `begin` is refused in a cycle alone
   pub idle : before.cycle ≡ None
   pub group : List Line

@@ -42,7 +42,7 @@ pub record FlatPartlyScanned : Type 0 where
 
 pub record FlatCycle : Type 0 where
   pub colours : List FlatColour
-  pub gone : ℕ
+  pub gone_before : ℕ
   pub partly_scanned : Option FlatPartlyScanned
 
 pub record FlatView : Type 0 where
@@ -104,7 +104,7 @@ flat_partly_scanned a partly_scanned = option_map (λ base. record { base = base
 pub record FlatShowsCycle (held : FlatCycle) (a : State) (cycle : Cycle) : Type 0 where
   pub colours : (base : ℕ) →
       option_map (λ entry. entry.colour) (find (λ entry. nat_eq entry.base base) held.colours) ≡ colour_at a cycle base
-  pub gone : held.gone ≡ cycle.gone
+  pub gone_before : held.gone_before ≡ cycle.gone_before
   pub partly_scanned : held.partly_scanned ≡ option_and_then (flat_partly_scanned a) cycle.partly_scanned
 
 abbrev pub FlatShowsCycles : Option FlatCycle → State → Option Cycle → Type 0

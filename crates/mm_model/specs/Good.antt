@@ -2,16 +2,17 @@
 use Rattle.std.specs.Prelude.{◌≡◌, ℕ, ◌+◌, ◌*◌, ◌%◌, ◌<◌, ◌≤◌, ◌⊎◌, ◌≢◌, Bool, false, ◌||◌, ◌==◌, IsTrue, List, [], ◌∷◌, map, Some, IfSome, slice_get, length, take, ⊤}
 use Rattle.std.specs.List.{AllByRecursion, Contains}
 use Rattle.mm_model.specs.declared.object.Colour.TheVariants.{White, Gray, Black}
-use Rattle.mm_model.specs.SizeClass.{class_sizes}
+use Rattle.mm_model.specs.SizeClass.{class_sizes, extent_of, object_bytes, area_bytes}
 use Rattle.mm_model.specs.Place.{Piece, overlaps, live_pieces}
 use Rattle.mm_model.specs.Value.{Value}
-use Rattle.mm_model.specs.Object.{Object, is_counted, is_weak}
+use Rattle.mm_model.specs.Object.{Object, is_leaf, is_counted, is_weak}
 use Rattle.mm_model.specs.State.{State, Area, Cycle, PartlyScanned, Lives}
 use Rattle.mm_model.specs.Words.{SlotKind, slot_kind, cell_kind, scanned_slots, counted_words, names, falls}
 use Rattle.mm_model.specs.Meaning.{stored}
 use Rattle.mm_model.specs.Count.{refs, names_counted}
 use Rattle.mm_model.specs.Marking.{colour_of}
 use Rattle.mm_model.specs.Areas.{most_areas}
+use Rattle.mm_model.specs.Refusing.{most_slots}
 use Rattle.mm_model.specs.Phase.{IsAscending}
 
 -- it begins on the grid of its size class
@@ -94,6 +95,26 @@ pub record IsPartlyScanned (a : State) (cycle : Cycle) (partly_scanned : PartlyS
   pub some_left : partly_scanned.slots_done < length (scanned_slots object)
   pub names : NamesNoWhite a cycle (take partly_scanned.slots_done (scanned_slots object))
 
+-- An object takes the room of its slots, and its shape is one that `new` accepts, or that of a weak reference.
+pub record IsShaped (object : Object) : Type 0 where
+  pub extent : object.extent ≡ extent_of (object_bytes (length object.slots))
+  pub most : length object.slots ≤ most_slots
+  pub counted : object.counted ≤ length object.slots
+  -- a leaf has no counted slot
+  pub leaf : IsTrue (is_leaf object.kind) → object.counted ≡ 0
+  -- a weak reference has no slot and no finalizer
+  pub no_slot : IsTrue (is_weak object.kind) → length object.slots ≡ 0
+  pub no_finalizer : IsTrue (is_weak object.kind) → object.finalize ≡ false
+
+-- An area takes the room of its cells, and its shape is one that `root` or `fixed` accepts.
+pub record IsAreaShaped (area : Area) : Type 0 where
+  pub extent : area.extent ≡ extent_of (area_bytes (length area.cells))
+  pub some : 1 ≤ length area.cells
+  pub most : length area.cells ≤ most_slots
+  pub counted : area.counted ≤ length area.cells
+  -- only a scanned area has counted cells
+  pub raw : area.scanned ≡ false → area.counted ≡ 0
+
 -- areas stand by ascending number, each below the greatest number of areas
 pub record AreNumbered (areas : List Area) : Type 0 where
   pub ascending : IsAscending (map (λ area. area.number) areas)
@@ -107,8 +128,14 @@ pub record IsColoured (a : State) (cycle : Cycle) : Type 0 where
   pub partly_scanned : IfSome cycle.partly_scanned (IsPartlyScanned a cycle)
 
 pub record IsGood (a : State) : Type 0 where
+  -- the region grows from the least to the greatest number of pages
+  pub growing : a.settings.pages ≤ a.settings.max
   -- blocks never overlap
   pub placed : IsPlaced a.settings.max (live_pieces a)
+  -- each object has the room and the shape that its slots ask for
+  pub shaped : (birth : ℕ) (object : Object) → Lives a birth object → IsShaped object
+  -- so has each area
+  pub areas_shaped : (n : ℕ) (area : Area) → slice_get a.areas n ≡ Some area → IsAreaShaped area
   -- each area has a number of its own
   pub numbered : AreNumbered a.areas
   -- references mean live objects

@@ -1,11 +1,13 @@
 pub mod After
 pub mod Areas
+pub mod ByBase
 pub mod Count
 pub mod Course
 pub mod Effect
 pub mod FlatEffect
 pub mod FlatView
 pub mod Good
+pub mod GoodView
 pub mod Journal
 pub mod Limits
 pub mod Log
@@ -13,6 +15,7 @@ pub mod Lowest
 pub mod Marking
 pub mod Meaning
 pub mod Object
+pub mod ObjectView
 pub mod Phase
 pub mod Place
 pub mod Protected
@@ -21,6 +24,7 @@ pub mod Reapable
 pub mod Refusing
 pub mod Scan
 pub mod Search
+pub mod SetsByBase
 pub mod SizeClass
 pub mod Spelling
 pub mod State
@@ -29,4 +33,11 @@ pub mod Store
 pub mod Throughout
 pub mod Trace
 pub mod Value
+pub mod View
+pub mod ViewEffect
+pub mod ViewPhase
+pub mod ViewStep
+pub mod ViewStore
+pub mod ViewTests
+pub mod ViewWords
 pub mod Words

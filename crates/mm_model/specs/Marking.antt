@@ -50,7 +50,7 @@ begun a =
     record a {
       cycle = Some (record {
         colours = grayed (root_words a) a.objects (replicate (length a.objects) White);
-        gone = gone_count a;
+        gone_before = gone_count a;
         partly_scanned = None;
       });
     }

@@ -73,45 +73,83 @@ abbrev pub refuses_in_cell : State → ℕ → ℕ → ℕ → Bool
 refuses_in_cell a number s j =
     option_map_or (λ area. refuses_word a (cell_kind area s) (word_at a j)) (area_at a number) false
 
+-- what the refusals of commands ask of a heap, whatever tells it
+pub record Tests : Type 0 where
+  pub is_stack_full : Bool
+  pub are_areas_full : Bool
+  pub is_running : Bool
+  -- no stack cell has this index from the top, and there are fewer than so many
+  pub no_cell : ℕ → Bool
+  pub has_fewer_cells : ℕ → Bool
+  pub no_area : ℕ → Bool
+  -- by stack cell: it means nothing, it means a weak reference, so many bytes further is outside of what it means
+  pub means_nothing : ℕ → Bool
+  pub means_weak : ℕ → Bool
+  pub is_outside : ℕ → ℕ → Bool
+  -- what the stack cell means has no such slot, or a counted one that doesn't take the word of the last stack cell
+  pub has_no_slot : ℕ → ℕ → Bool
+  pub refuses_in_slot : ℕ → ℕ → ℕ → Bool
+  -- the same of the cells of the area with a number
+  pub has_no_area_cell : ℕ → ℕ → Bool
+  pub refuses_in_cell : ℕ → ℕ → ℕ → Bool
+
+abbrev pub tests_of : State → Tests
+tests_of a =
+    record {
+      is_stack_full = is_stack_full a;
+      are_areas_full = are_areas_full a;
+      is_running = is_some a.cycle;
+      no_cell = no_cell a;
+      has_fewer_cells = λ k. nat_lt (length a.stack) k;
+      no_area = no_area a;
+      means_nothing = means_nothing a;
+      means_weak = means_weak a;
+      is_outside = is_outside a;
+      has_no_slot = has_no_slot a;
+      refuses_in_slot = refuses_in_slot a;
+      has_no_area_cell = has_no_area_cell a;
+      refuses_in_cell = refuses_in_cell a;
+    }
+
 -- the row of each command, in the order in which the refusals are tried
-abbrev pub refusal_row : State → Command → List (Bool × Refusal)
-refusal_row a (commands.New shape) = (is_bad_shape shape, refusals.Shape) ∷ (is_stack_full a, refusals.StackFull) ∷ []
-refusal_row a (commands.Push word) = (is_stack_full a, refusals.StackFull) ∷ []
-refusal_row a (commands.Dup i) = (no_cell a i, refusals.NoCell) ∷ (is_stack_full a, refusals.StackFull) ∷ []
-refusal_row a (commands.Pop k) = (nat_lt (length a.stack) k, refusals.NoCell) ∷ []
-refusal_row a (commands.Inner i bytes) =
-    (no_cell a i, refusals.NoCell) ∷ (means_nothing a i, refusals.Nothing) ∷
-    (is_outside a i bytes, refusals.Outside) ∷ (is_stack_full a, refusals.StackFull) ∷ []
-refusal_row a (commands.Get i s) =
-    (no_cell a i, refusals.NoCell) ∷ (means_nothing a i, refusals.Nothing) ∷
-    (has_no_slot a i s, refusals.NoSlot) ∷ (is_stack_full a, refusals.StackFull) ∷ []
-refusal_row a (commands.Put i s j) =
-    (no_cell a i || no_cell a j, refusals.NoCell) ∷ (means_nothing a i, refusals.Nothing) ∷
-    (has_no_slot a i s, refusals.NoSlot) ∷ (refuses_in_slot a i s j, refusals.NotCounted) ∷ []
-refusal_row a (commands.Weak i) =
-    (no_cell a i, refusals.NoCell) ∷ (means_nothing a i, refusals.Nothing) ∷
-    (means_weak a i, refusals.NoWeak) ∷ (is_stack_full a, refusals.StackFull) ∷ []
-refusal_row a (commands.Look i) =
-    (no_cell a i, refusals.NoCell) ∷ (means_nothing a i, refusals.Nothing) ∷
-    (not (means_weak a i), refusals.NoWeak) ∷ (is_stack_full a, refusals.StackFull) ∷ []
-refusal_row a (commands.Root counted cells) =
-    (is_bad_area counted cells, refusals.Shape) ∷ (are_areas_full a, refusals.AreasFull) ∷ []
-refusal_row a (commands.Fixed cells) =
-    (is_bad_area 0 cells, refusals.Shape) ∷ (are_areas_full a, refusals.AreasFull) ∷ []
-refusal_row a (commands.DropArea number) = (no_area a number, refusals.NoArea) ∷ []
-refusal_row a (commands.AreaGet number s) =
-    (no_area a number, refusals.NoArea) ∷ (has_no_area_cell a number s, refusals.NoSlot) ∷
-    (is_stack_full a, refusals.StackFull) ∷ []
-refusal_row a (commands.AreaPut number s j) =
-    (no_cell a j, refusals.NoCell) ∷ (no_area a number, refusals.NoArea) ∷
-    (has_no_area_cell a number s, refusals.NoSlot) ∷ (refuses_in_cell a number s j, refusals.NotCounted) ∷ []
-refusal_row a commands.Reap = []
-refusal_row a commands.Collect = []
-refusal_row a commands.Begin = (is_some a.cycle, refusals.Busy) ∷ []
-refusal_row a (commands.Step k) = (not (is_some a.cycle), refusals.Idle) ∷ []
-refusal_row a commands.Finish = (not (is_some a.cycle), refusals.Idle) ∷ []
-refusal_row a (commands.Map i) = (no_cell a i, refusals.NoCell) ∷ []
-refusal_row a commands.Stat = []
+abbrev pub refusal_row : Tests → Command → List (Bool × Refusal)
+refusal_row t (commands.New shape) = (is_bad_shape shape, refusals.Shape) ∷ (t.is_stack_full, refusals.StackFull) ∷ []
+refusal_row t (commands.Push word) = (t.is_stack_full, refusals.StackFull) ∷ []
+refusal_row t (commands.Dup i) = (t.no_cell i, refusals.NoCell) ∷ (t.is_stack_full, refusals.StackFull) ∷ []
+refusal_row t (commands.Pop k) = (t.has_fewer_cells k, refusals.NoCell) ∷ []
+refusal_row t (commands.Inner i bytes) =
+    (t.no_cell i, refusals.NoCell) ∷ (t.means_nothing i, refusals.Nothing) ∷
+    (t.is_outside i bytes, refusals.Outside) ∷ (t.is_stack_full, refusals.StackFull) ∷ []
+refusal_row t (commands.Get i s) =
+    (t.no_cell i, refusals.NoCell) ∷ (t.means_nothing i, refusals.Nothing) ∷
+    (t.has_no_slot i s, refusals.NoSlot) ∷ (t.is_stack_full, refusals.StackFull) ∷ []
+refusal_row t (commands.Put i s j) =
+    (t.no_cell i || t.no_cell j, refusals.NoCell) ∷ (t.means_nothing i, refusals.Nothing) ∷
+    (t.has_no_slot i s, refusals.NoSlot) ∷ (t.refuses_in_slot i s j, refusals.NotCounted) ∷ []
+refusal_row t (commands.Weak i) =
+    (t.no_cell i, refusals.NoCell) ∷ (t.means_nothing i, refusals.Nothing) ∷
+    (t.means_weak i, refusals.NoWeak) ∷ (t.is_stack_full, refusals.StackFull) ∷ []
+refusal_row t (commands.Look i) =
+    (t.no_cell i, refusals.NoCell) ∷ (t.means_nothing i, refusals.Nothing) ∷
+    (not (t.means_weak i), refusals.NoWeak) ∷ (t.is_stack_full, refusals.StackFull) ∷ []
+refusal_row t (commands.Root counted cells) =
+    (is_bad_area counted cells, refusals.Shape) ∷ (t.are_areas_full, refusals.AreasFull) ∷ []
+refusal_row t (commands.Fixed cells) =
+    (is_bad_area 0 cells, refusals.Shape) ∷ (t.are_areas_full, refusals.AreasFull) ∷ []
+refusal_row t (commands.DropArea number) = (t.no_area number, refusals.NoArea) ∷ []
+refusal_row t (commands.AreaGet number s) =
+    (t.no_area number, refusals.NoArea) ∷ (t.has_no_area_cell number s, refusals.NoSlot) ∷
+    (t.is_stack_full, refusals.StackFull) ∷ []
+refusal_row t (commands.AreaPut number s j) =
+    (t.no_cell j, refusals.NoCell) ∷ (t.no_area number, refusals.NoArea) ∷
+    (t.has_no_area_cell number s, refusals.NoSlot) ∷ (t.refuses_in_cell number s j, refusals.NotCounted) ∷ []
+refusal_row t commands.Reap = []
+refusal_row t commands.Collect = []
+refusal_row t commands.Begin = (t.is_running, refusals.Busy) ∷ []
+refusal_row t (commands.Step k) = (not t.is_running, refusals.Idle) ∷ []
+refusal_row t commands.Finish = (not t.is_running, refusals.Idle) ∷ []
+refusal_row t (commands.Map i) = (t.no_cell i, refusals.NoCell) ∷ []
+refusal_row t commands.Stat = []
 
 abbrev pub refusal : State → Command → Option Refusal
-refusal a command = first_refusal (refusal_row a command)
+refusal a command = first_refusal (refusal_row (tests_of a) command)

@@ -28,7 +28,7 @@ pub record Cycle : Type 0 where
   -- by birth number; that of a gone object says nothing
   pub colours : List Colour
   -- how many objects were gone when the cycle began
-  pub gone : ℕ
+  pub gone_before : ℕ
   pub partly_scanned : Option PartlyScanned
 
 pub record State : Type 0 where

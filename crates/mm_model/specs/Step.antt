@@ -97,6 +97,15 @@ pub data Ends (a : State) (full : Bool) (log : List Line) (b : State) : Type 0 w
   Below_threshold : full ≡ false → zero_count a < a.threshold → log ≡ [] → b ≡ a → Ends a full log b
   At_threshold : full ≡ false → a.threshold ≤ zero_count a → Reaps a log b → Ends a full log b
 
+-- What a command does and answers, with the lines before its reply: its row without the reap at its end. It isn't counted.
+abbrev pub RowUnless : Option Refusal → State → Command → List Line → Effect → Type 0
+RowUnless (Some because) a command log effect =
+    IsPlain log effect (record { state = a; reply = replies.Refused because })
+RowUnless None a command log effect = Carries a command log effect
+
+abbrev pub IsRow : State → Command → List Line → Effect → Type 0
+IsRow a command log effect = RowUnless (refusal a command) a command log effect
+
 -- a command that isn't refused before anything is tried
 pub record IsCarriedOut (a : State) (command : Command) (group : List Line) (b : State) : Type 0 where
   pub log : List Line

@@ -1,5 +1,5 @@
 -- Each step after which a cycle still runs goes on from the state before it, as marking sees it.
-use Rattle.std.proofs.Common.{◌≡◌, ℕ, ◌≤◌, Bool, true, false, not, ◌||◌, List, [], ◌∷◌, Option, Some, None, refl, sym, ap, ◌∙◌, subst, ◌⊎◌}
+use Rattle.std.proofs.Common.{◌≡◌, ℕ, Bool, true, false, not, ◌||◌, List, [], ◌∷◌, Option, Some, None, refl, sym, ap, ◌∙◌, subst, ◌⊎◌}
 use Rattle.std.specs.Prelude.{IsTrue, is_some, slice_get, slice_index, ◌&&◌, ◌==◌, if◌then◌else◌}
 use Rattle.std.specs.Option.{option_map}
 use Rattle.mm_model.specs.declared.command.Command.{Command}
@@ -11,7 +11,7 @@ use Rattle.mm_model.specs.declared.refusal.Refusal.TheVariants as refusals
 use Rattle.mm_model.specs.declared.reply.Reply.TheVariants as replies
 use Rattle.mm_model.specs.SizeClass.{object_bytes, area_bytes}
 use Rattle.mm_model.specs.Value.{Value, words_of}
-use Rattle.mm_model.specs.Object.{Object}
+use Rattle.mm_model.specs.Object.{Object, newborn}
 use Rattle.mm_model.specs.State.{State, Area, Lives, one_more_command, with_black_birth}
 use Rattle.mm_model.specs.Words.{slot_kind, cell_kind, area_words, root_words, names, falls}
 use Rattle.mm_model.specs.Reached.{IsReached}
@@ -24,13 +24,15 @@ use Rattle.mm_model.specs.Phase.{cycle_left, reaped}
 use Rattle.mm_model.specs.Search.{Searches, At_once, After_reap, After_collection}
 use Rattle.mm_model.specs.Store.{is_counted_slot, recounted, with_object, with_slot, with_cell, put_in_slot, put_in_cell}
 use Rattle.mm_model.specs.Effect.{Effect, with_some, made_at, weak_shape, weak_made, new_effect, weak_effect, area_effect, pushes_object, look_effect, plain_effect}
-use Rattle.mm_model.specs.Refusing.{first_refusal, refusal}
+use Rattle.mm_model.specs.Refusing.{first_refusal, refusal, is_bad_shape}
 use Rattle.mm_model.specs.Step.{Makes, IsPlain, MakesWeak, Carries, is_full, Ends, Refused_as_full, Below_threshold, At_threshold, IsCarriedOut, IsStepUnless, IsStep}
-use Rattle.mm_model.specs.Good.{IsGood}
+use Rattle.mm_model.specs.Good.{IsShaped, IsGood}
 use Rattle.mm_model.proofs.Good.Births.{made_is_good}
 use Rattle.mm_model.proofs.Cycle.Continuing.{Continues, marked_before, continues-self, Thins, thins-then, continues-then, thins-same, thins-reaped, thins-recounted, thins-weak, good-each_colour, continues-put, continues-born, continues-scanned}
 use Rattle.mm_model.proofs.Cycle.Marked.{stack_named}
 use Rattle.mm_model.proofs.Good.Searching.{searched_is_found}
+use Rattle.mm_model.proofs.Good.Shapes.{shaped-newborn, shaped-weak}
+use Rattle.mm_model.proofs.Good.Steps.{shape_allowed}
 
 -- the second state goes on from the first, by words that are its roots
 pub record IsContinued (a b : State) : Type 0 where
@@ -202,33 +204,34 @@ module _ (a : State) (family : Family) (bytes : ℕ) (log : List Line) (b : Stat
       continued-thin a _
       (thins-then a b _ (searched-thins a family bytes log b (Some base) search runs) (thins-same b _ refl refl refl))
 
-module _ (a : State) (good : IsGood a) (least : a.settings.pages ≤ a.settings.max) (shape : Shape)
+module _ (a : State) (good : IsGood a) (shape : Shape) (shaped : (base : ℕ) → IsShaped (newborn shape base))
     (log : List Line) (b : State) (base : ℕ)
     (search : Searches a Objects (object_bytes shape.slots) log b (Some base)) (runs : IsTrue (is_some b.cycle)) where
   continues-made : Continues [] a (made_at b shape base)
   continues-made =
-      let found = searched_is_found a Objects (object_bytes shape.slots) log b (Some base) good least search in
+      let found = searched_is_found a Objects (object_bytes shape.slots) log b (Some base) good search in
       let on : Continues [] a b =
       continues-then [] a a b (continues-self a)
       (searched-thins a Objects (object_bytes shape.slots) log b (Some base) search runs) in
       continues-born a b on shape base (good-each_colour b found.good)
-      (made_is_good b shape found.place.0 base found.good found.place.1 found.place.2)
+      (made_is_good b shape found.place.0 base found.good found.place.1 found.place.2 (shaped base))
 
 continued-new : (a : State) (shape : Shape) (log : List Line) (b : State) (found : Option ℕ) → IsGood a
-    → a.settings.pages ≤ a.settings.max → Searches a Objects (object_bytes shape.slots) log b found
+    → is_bad_shape shape ≡ false → Searches a Objects (object_bytes shape.slots) log b found
     → IsTrue (is_some (new_effect b shape found).state.cycle) → IsContinued a (new_effect b shape found).state
-continued-new a shape log b None good least search runs =
+continued-new a shape log b None good accepted search runs =
     continued-searched a Objects (object_bytes shape.slots) log b None search runs
-continued-new a shape log b (Some base) good least search runs =
+continued-new a shape log b (Some base) good accepted search runs =
     continued a _
-    (continues-made a good least shape log b base search (sym (is_some-map with_black_birth b.cycle) ∙ runs))
+    (continues-made a good shape (λ base. shaped-newborn shape base accepted) log b base search
+    (sym (is_some-map with_black_birth b.cycle) ∙ runs))
 
 continued-weak : (a : State) (target : ℕ) (log : List Line) (b : State) (found : Option ℕ) → IsGood a
-    → a.settings.pages ≤ a.settings.max → Searches a Objects (object_bytes 0) log b found
+    → Searches a Objects (object_bytes 0) log b found
     → IsTrue (is_some (weak_effect b target found).state.cycle) → IsContinued a (weak_effect b target found).state
-continued-weak a target log b None good least looked runs =
+continued-weak a target log b None good looked runs =
     continued-searched a Objects (object_bytes 0) log b None looked runs
-continued-weak a target log b (Some base) good least looked runs = split (slice_get b.objects target) refl runs
+continued-weak a target log b (Some base) good looked runs = split (slice_get b.objects target) refl runs
   where
     split : (there : Option Object) → slice_get b.objects target ≡ there
         → IsTrue (is_some (with_some there b
@@ -239,11 +242,12 @@ continued-weak a target log b (Some base) good least looked runs = split (slice_
     split (Some object) is on =
         continued a _
         (continues-then [] a (made_at b weak_shape base) (weak_made b target object base)
-        (continues-made a good least weak_shape log b base looked (sym (is_some-map with_black_birth b.cycle) ∙ on))
+        (continues-made a good weak_shape shaped-weak log b base looked
+        (sym (is_some-map with_black_birth b.cycle) ∙ on))
         (thins-weak b target object base is))
 
 -- the row of a command, where a cycle runs after it
-module _ (a : State) (good : IsGood a) (least : a.settings.pages ≤ a.settings.max) (began : IsTrue (is_some a.cycle))
+module _ (a : State) (good : IsGood a) (began : IsTrue (is_some a.cycle))
     (effect : Effect) (runs : IsTrue (is_some effect.state.cycle)) where
   by_effect : (is : Effect) → effect ≡ is → (IsTrue (is_some is.state.cycle) → IsContinued a is.state)
       → IsContinued a effect.state
@@ -270,7 +274,7 @@ module _ (a : State) (good : IsGood a) (least : a.settings.pages ≤ a.settings.
       by_effect (pushes_object a weak) h.effect_is (λ on. continued-object a weak)
   carried-weak target None log h =
       by_effect (weak_effect h.state target h.found) h.effect_is
-      (λ on. continued-weak a target log h.state h.found good least h.search on)
+      (λ on. continued-weak a target log h.state h.found good h.search on)
 
   ended_cycle : effect.state.cycle ≡ None → IsContinued a effect.state
   ended_cycle e = absurd (not_running effect.state.cycle e runs)
@@ -279,7 +283,9 @@ module _ (a : State) (good : IsGood a) (least : a.settings.pages ≤ a.settings.
       → IsContinued a effect.state
   carried (commands.New shape) log e h =
       by_effect (new_effect h.state shape h.found) h.effect_is
-      (λ on. continued-new a shape log h.state h.found good least h.search on)
+      (λ on.
+      continued-new a shape log h.state h.found good
+      (shape_allowed a shape e) h.search on)
   carried (commands.Push word) log e h = carried-plain (commands.Push word) log e h
   carried (commands.Dup i) log e h = carried-plain (commands.Dup i) log e h
   carried (commands.Pop k) log e h = carried-plain (commands.Pop k) log e h
@@ -332,32 +338,32 @@ ends_is_end a full log b ends =
         })
 
 carried_out-continued : (a : State) (command : Command) (group : List Line) (b : State) → IsGood a
-    → a.settings.pages ≤ a.settings.max → IsTrue (is_some a.cycle) → IsTrue (is_some b.cycle)
+    → IsTrue (is_some a.cycle) → IsTrue (is_some b.cycle)
     → refusal a command ≡ None → IsCarriedOut a command group b → IsContinued a b
-carried_out-continued a command group b good least began runs e h =
+carried_out-continued a command group b good began runs e h =
     let end = ends_is_end h.effect.state (is_full h.effect.reply) h.end_log h.end h.ends in
     let on = subst (λ (x : State). IsTrue (is_some x.cycle)) h.state_is runs in
     subst (IsContinued a) (sym h.state_is)
     (continued-then a h.effect.state (one_more_command h.end)
-    (carried a good least began h.effect (sym end.runs ∙ on) command h.log e h.carries) end.thins end.roots)
+    (carried a good began h.effect (sym end.runs ∙ on) command h.log e h.carries) end.thins end.roots)
 
 -- a step in a cycle that doesn't end it goes on from the state before
 pub step_is_continued : (a : State) (command : Command) (group : List Line) (b : State) → IsGood a
-    → a.settings.pages ≤ a.settings.max → IsStep a command group b → IsTrue (is_some a.cycle)
+    → IsStep a command group b → IsTrue (is_some a.cycle)
     → IsTrue (is_some b.cycle) → IsContinued a b
-step_is_continued a command group b good least step began runs = split (refusal a command) refl step
+step_is_continued a command group b good step began runs = split (refusal a command) refl step
   where
     split : (found : Option Refusal) → refusal a command ≡ found → IsStepUnless found a command group b
         → IsContinued a b
     split (Some because) e h =
         subst (IsContinued a) (sym h.state_is) (continued-same a (one_more_command a) refl refl refl)
-    split None e h = carried_out-continued a command group b good least began runs e h
+    split None e h = carried_out-continued a command group b good began runs e h
 
 -- While a cycle runs, what marking reaches after a command it reached before, or it is reached.
 pub step_continues : (a : State) (command : Command) (group : List Line) (b : State) → IsGood a
-    → a.settings.pages ≤ a.settings.max → IsStep a command group b → IsTrue (is_some a.cycle)
+    → IsStep a command group b → IsTrue (is_some a.cycle)
     → IsTrue (is_some b.cycle) → (j : ℕ) → IsMarked b j → (object : Object) → Lives a j object
     → IsMarked a j ⊎ IsReached b j
-step_continues a command group b good least step began runs =
-    let on = step_is_continued a command group b good least step began runs in
+step_continues a command group b good step began runs =
+    let on = step_is_continued a command group b good step began runs in
     marked_before on.words a b on.continues on.rooted

@@ -1,5 +1,5 @@
 -- What holds of the whole course of a cycle: `finish` frees what was unreachable throughout.
-use Rattle.std.proofs.Common.{◌≡◌, ℕ, ◌<◌, ◌≤◌, Bool, true, false, not, List, [], ◌∷◌, length, get_or, Option, Some, None, refl, sym, ap, ◌∙◌, subst, ⊎_elim, arith}
+use Rattle.std.proofs.Common.{◌≡◌, ℕ, ◌<◌, Bool, true, false, not, List, [], ◌∷◌, length, get_or, Option, Some, None, refl, sym, ap, ◌∙◌, subst, ⊎_elim, arith}
 use Rattle.std.proofs.lemmas.Option.{slice_get-map, slice_get_within, slice_get-get_or}
 use Rattle.std.specs.Prelude.{IsTrue, is_some, slice_get, ◌&&◌, if◌then◌else◌}
 use Rattle.std.specs.Option.{option_map}
@@ -8,7 +8,6 @@ use Rattle.mm_model.specs.declared.command.Command.TheVariants as commands
 use Rattle.mm_model.specs.declared.line.Line.{Line}
 use Rattle.mm_model.specs.declared.refusal.Refusal.{Refusal}
 use Rattle.mm_model.specs.declared.refusal.Refusal.TheVariants as refusals
-use Rattle.mm_model.specs.declared.settings.Settings.{Settings}
 use Rattle.mm_model.specs.Object.{Object}
 use Rattle.mm_model.specs.State.{State, Lives, one_more_command}
 use Rattle.mm_model.specs.Words.{root_words, names}
@@ -21,7 +20,7 @@ use Rattle.mm_model.specs.Step.{is_full, IsCarriedOut, IsStepUnless, IsStep}
 use Rattle.mm_model.specs.Course.{latest, IsCourse, AreGood, IsGone}
 use Rattle.mm_model.specs.Good.{IsGood}
 use Rattle.mm_model.proofs.Cycle.Continuing.{names-alike, Thins}
-use Rattle.mm_model.proofs.Cycle.ContinuedSteps.{IsEnd, ends_is_end, step_is_continued, step_continues}
+use Rattle.mm_model.proofs.Cycle.ContinuedSteps.{IsEnd, ends_is_end, step_continues}
 use Rattle.mm_model.proofs.Cycle.Marked.{not_white-begun, unmarked_iff_neither}
 
 -- a command that isn't refused is carried out
@@ -129,24 +128,6 @@ pub course_runs : (begun : State) (states : List State) → IsCourse begun state
 course_runs begun [] h = (begin_is_end h.before h.group begun h.idle h.step).runs
 course_runs begun (a ∷ earlier) h = h.1.runs
 
-abbrev IsGrowing : State → Type 0
-IsGrowing a = a.settings.pages ≤ a.settings.max
-
-growing-same : (a b : State) → b.settings ≡ a.settings → IsGrowing a → IsGrowing b
-growing-same a b same growing = subst (λ (s : Settings). s.pages ≤ s.max) (sym same) growing
-
--- a course changes no setting
-pub course_grows : (begun : State) (states : List State) → IsCourse begun states → AreGood begun states
-    → (latest begun states).settings.pages ≤ (latest begun states).settings.max
-course_grows begun [] h good =
-    growing-same h.before begun (begin_is_end h.before h.group begun h.idle h.step).thins.settings h.growing
-course_grows begun (a ∷ earlier) h good =
-    let last = latest begun earlier in
-    let least = course_grows begun earlier h.0 good.0 in
-    let on = step_is_continued last h.1.command h.1.group a (latest_is_good begun earlier good.0) least h.1.step
-    (course_runs begun earlier h.0) h.1.runs in
-    growing-same last a on.continues.settings least
-
 latest_unreachable : (begun : State) (states : List State) (birth : ℕ) → IsThroughout begun states birth
     → IsUnreachable (latest begun states) birth
 latest_unreachable begun [] birth h = h
@@ -164,7 +145,7 @@ throughout_is_unmarked begun (a ∷ earlier) h good birth throughout marked =
     (λ (l : IsMarked last birth). throughout_is_unmarked begun earlier h.0 good.0 birth throughout.0 l)
     (λ (r : IsReached a birth). throughout.1.unreached r)
     (step_continues last h.1.command h.1.group a (latest_is_good begun earlier good.0)
-    (course_grows begun earlier h.0 good.0) h.1.step (course_runs begun earlier h.0) h.1.runs birth marked before.object
+    h.1.step (course_runs begun earlier h.0) h.1.runs birth marked before.object
     before.lives)
 
 -- `finish` frees every object that was unreachable throughout the cycle.
@@ -193,13 +174,12 @@ gone_lives_not a birth gone object lives =
 
 -- where each step keeps a state good, each state of a course is good
 pub course_is_good : ((a : State) (command : Command) (group : List Line) (b : State) → IsGood a
-    → a.settings.pages ≤ a.settings.max → IsStep a command group b → IsGood b)
+    → IsStep a command group b → IsGood b)
     → (begun : State) (states : List State) → IsCourse begun states → AreGood begun states
-course_is_good keeps begun [] h = keeps h.before commands.Begin h.group begun h.good h.growing h.step
+course_is_good keeps begun [] h = keeps h.before commands.Begin h.group begun h.good h.step
 course_is_good keeps begun (a ∷ earlier) h =
     let good = course_is_good keeps begun earlier h.0 in
     let last = latest begun earlier in (
       good,
-      keeps last h.1.command h.1.group a (latest_is_good begun earlier good) (course_grows begun earlier h.0 good)
-          h.1.step,
+      keeps last h.1.command h.1.group a (latest_is_good begun earlier good) h.1.step,
     )

@@ -22,7 +22,7 @@ use Rattle.mm_model.proofs.Good.Graying.{not_white-before, white-before, black-b
 -- the cycle that begins, before the roots are gray
 abbrev all_white : State → Cycle
 all_white a =
-    record { colours = replicate (length a.objects) White; gone = gone_count a; partly_scanned = None }
+    record { colours = replicate (length a.objects) White; gone_before = gone_count a; partly_scanned = None }
 
 pub not_white-begun : (a : State) (birth : ℕ) (object : Object) → Lives (begun a) birth object
     → not (is_white (colour_in (begun a).cycle birth)) ≡ true → names (root_words a) object ≡ true

@@ -282,7 +282,7 @@ module _ (a : State) (shape : Shape) (base : ℕ) (good : IsGood a) where
   cycle-made (Some entries) (Some cycle) h shows =
       record {
         colours = λ b. colour-made cycle entries.colours b h.each (shows.colours b);
-        gone = shows.gone;
+        gone_before = shows.gone_before;
         partly_scanned = shows.partly_scanned ∙ partly_scanned-made cycle cycle.partly_scanned h.partly_scanned;
       }
 

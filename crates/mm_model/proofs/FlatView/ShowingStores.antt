@@ -227,7 +227,7 @@ module _ (view : FlatView) (a : State) (good : IsGood a) (shows : FlatShows view
         record {
           colours = λ x. shown.colours x
               ∙ ap (option_map (λ n. slice_index_or cycle.colours n White)) (sym (position-store x));
-          gone = shown.gone;
+          gone_before = shown.gone_before;
           partly_scanned = shown.partly_scanned ∙ partly_scanned-store cycle.partly_scanned;
         }
 
@@ -415,14 +415,14 @@ module _ (view : FlatView) (a : State) (good : IsGood a) (shows : FlatShows view
     cycle_shades marking =
         record {
           colours = λ x. entries-shaded_by x word_names ∙ colours-shaded x;
-          gone = gone word_names;
+          gone_before = gone word_names;
           partly_scanned = kept_partial word_names ∙ shown.partly_scanned ∙ partly_scanned-store cycle.partly_scanned;
         }
       where
         gone : (found : Option FlatObject)
-            → (option_map_or (λ t. record h { colours = map (flat_grayed t) h.colours }) found h).gone ≡ cycle.gone
-        gone None = shown.gone
-        gone (Some t) = shown.gone
+            → (option_map_or (λ t. record h { colours = map (flat_grayed t) h.colours }) found h).gone_before ≡ cycle.gone_before
+        gone None = shown.gone_before
+        gone (Some t) = shown.gone_before
 
         kept_partial : (found : Option FlatObject)
             → (option_map_or (λ t. record h { colours = map (flat_grayed t) h.colours }) found h).partly_scanned ≡ h.partly_scanned

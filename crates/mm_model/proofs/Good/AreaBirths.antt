@@ -15,7 +15,7 @@ use Rattle.mm_model.specs.Areas.{most_areas, free_number, new_area, area_inserte
 use Rattle.mm_model.specs.Phase.{IsAscending}
 use Rattle.mm_model.specs.Place.{Piece, Areas, object_piece, area_piece, live_pieces, first_from, place_of}
 use Rattle.mm_model.specs.Refusing.{are_areas_full}
-use Rattle.mm_model.specs.Good.{IsInside, AreApart, AreAllApart, IsPlaced, IsStored, is_tight, AreNumbered, IsGood}
+use Rattle.mm_model.specs.Good.{IsInside, AreApart, AreAllApart, IsPlaced, IsStored, is_tight, IsAreaShaped, AreNumbered, IsGood}
 use Rattle.mm_model.proofs.Good.Births.{IsZero, zero_words, zero_value, size_of-IsSize, goes-weaker}
 use Rattle.mm_model.proofs.Good.CountedWords.{count_in, refs-sum}
 use Rattle.mm_model.proofs.Lists.Keyed.{refuted}
@@ -206,7 +206,8 @@ apart-inserted new (area ∷ areas) ps h apart =
     split (nat_lt new.number area.number)
 
 module _ (a : State) (scanned : Bool) (counted cells limit base : ℕ) (good : IsGood a) (within : limit ≤ a.settings.max)
-    (room : are_areas_full a ≡ false) (found : place_of a limit Areas (area_bytes cells) ≡ Some base) where
+    (room : are_areas_full a ≡ false) (found : place_of a limit Areas (area_bytes cells) ≡ Some base)
+    (shaped : IsAreaShaped (new_area (free_number a) base scanned counted cells)) where
   abbrev new : Area
   new = new_area (free_number a) base scanned counted cells
 
@@ -259,6 +260,7 @@ module _ (a : State) (scanned : Bool) (counted cells limit base : ℕ) (good : I
   new_fits : IsFit a new
   new_fits =
       record {
+        shaped = shaped;
         cells = λ s value e.
             subst (IsStored a (cell_kind new s)) (sym (zero_value cells s value e))
             (record { refers = tt; kept = refl });

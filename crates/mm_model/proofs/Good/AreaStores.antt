@@ -1,6 +1,7 @@
 -- `aput` keeps a state good.
 use Rattle.std.proofs.Common.{◌≡◌, ℕ, zero, suc, ◌+◌, ◌<◌, false, eqb-true, List, [], ◌∷◌, ◌++◌, map, length, Some, refl, sym, ap, ◌∙◌, subst, ⊎_elim, arith}
 use Rattle.std.proofs.lemmas.Bool.{eq-eqb}
+use Rattle.std.proofs.lemmas.List.{length-set}
 use Rattle.std.specs.Prelude.{IsTrue, slice_get, slice_set, slice_index, ◌==◌, if◌then◌else◌}
 use Rattle.std.specs.List.{AllByRecursion}
 use Rattle.mm_model.specs.Value.{Value, words_of}
@@ -20,6 +21,7 @@ use Rattle.mm_model.proofs.Lists.Growing.{find-Some}
 use Rattle.mm_model.proofs.Good.Living.{each_get}
 use Rattle.mm_model.proofs.Good.OtherAreas.{numbers, IsFit, good_areas_fit, with_areas, sound-areas, few-areas}
 use Rattle.mm_model.proofs.Good.References.{stored-stored, referring-stored}
+use Rattle.mm_model.proofs.Good.Shapes.{area_shaped-cells}
 use Rattle.mm_model.proofs.Lists.Replaced.{get-set_cases, map-set_alike}
 use Rattle.mm_model.proofs.Good.Sticking.{recounted_is_good}
 use Rattle.mm_model.proofs.Good.Stores.{accepted_is_tight}
@@ -98,6 +100,8 @@ module _ (a : State) (good : IsGood a) (n : ℕ) (area : Area) (is : slice_get a
   changed_fits : IsFit a changed
   changed_fits =
       record {
+        shaped = area_shaped-cells area changed refl refl refl (length-set area.cells s (stored a kind value))
+            (good.areas_shaped n area is);
         cells = λ t w e.
             ⊎_elim
             (λ (l : (t ≡ s) × (stored a kind value ≡ w)).

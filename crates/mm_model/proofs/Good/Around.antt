@@ -54,7 +54,10 @@ module _ (a : State) (stack : List Value) (cycle : Option Cycle) (threshold comm
   pub good-around : IsGood a → AllByRecursion (IsReferring a) stack → IfSome cycle (IsColoured a) → IsGood around
   good-around good refers coloured =
       record {
+        growing = good.growing;
         placed = good.placed;
+        shaped = λ birth object h. good.shaped birth object (lives-within birth object h);
+        areas_shaped = good.areas_shaped;
         numbered = good.numbered;
         referred = record {
           stack = each_referring-kept a around keeps-around stack refers;
@@ -99,7 +102,7 @@ cycles-around a stack commands None None shows = tt
 cycles-around a stack commands None (Some cycle) shows = shows
 cycles-around a stack commands (Some entries) None shows = shows
 cycles-around a stack commands (Some entries) (Some cycle) shows =
-    record { colours = shows.colours; gone = shows.gone; partly_scanned = shows.partly_scanned }
+    record { colours = shows.colours; gone_before = shows.gone_before; partly_scanned = shows.partly_scanned }
 
 pub shows-stack : (view : FlatView) (a : State) (stack : List Value) (words : List ℕ) → FlatShows view a
     → words ≡ words_of stack → FlatShows (record view { stack = words }) (with_stack stack a)

@@ -22,7 +22,7 @@ module _ (a : State) where
 
   abbrev first_cycle : Cycle
   first_cycle =
-      record { colours = grayed (root_words a) a.objects white; gone = gone_count a; partly_scanned = None }
+      record { colours = grayed (root_words a) a.objects white; gone_before = gone_count a; partly_scanned = None }
 
   coloured-begun : IsColoured a first_cycle
   coloured-begun =

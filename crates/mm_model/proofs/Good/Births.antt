@@ -20,7 +20,7 @@ use Rattle.mm_model.specs.Words.{counted_slots, scanned_slots, counted_cell_word
 use Rattle.mm_model.specs.Count.{refs, begins_counted, names_counted}
 use Rattle.mm_model.specs.Marking.{colour_of}
 use Rattle.mm_model.specs.Place.{Piece, Objects, object_piece, area_piece, live_pieces, place_of}
-use Rattle.mm_model.specs.Good.{IsInside, AreApart, AreAllApart, IsPlaced, IsStored, IsReferred, is_tight, IsPaired, NamesNoWhite, IsPartlyScanned, IsColoured, IsGood}
+use Rattle.mm_model.specs.Good.{IsInside, AreApart, AreAllApart, IsPlaced, IsStored, IsReferred, is_tight, IsPaired, NamesNoWhite, IsPartlyScanned, IsColoured, IsShaped, IsGood}
 use Rattle.mm_model.specs.Effect.{made_at}
 use Rattle.mm_model.proofs.Good.Around.{if_some-weaker}
 use Rattle.mm_model.proofs.Places.Falling.{falls_from, falls_at_base, named_word}
@@ -110,7 +110,8 @@ scanned_zeros shape base =
     split (is_scanned shape.kind)
 
 module _ (a : State) (shape : Shape) (base : ℕ) (good : IsGood a)
-    (goes : Goes a.settings.max (live_pieces a) (object_piece (newborn shape base))) where
+    (goes : Goes a.settings.max (live_pieces a) (object_piece (newborn shape base)))
+    (shaped : IsShaped (newborn shape base)) where
   abbrev b : State
   b = made_at a shape base
 
@@ -337,8 +338,14 @@ module _ (a : State) (shape : Shape) (base : ℕ) (good : IsGood a)
   pub born_is_good : IsGood b
   born_is_good =
       record {
+        growing = good.growing;
         placed = subst (IsPlaced a.settings.max) (sym (live_pieces-made a shape base))
             (placed-push _ _ _ good.placed goes);
+        shaped = λ birth object h.
+            ⊎_elim (λ (old : Lives a birth object). good.shaped birth object old)
+            (λ (last : (birth ≡ length a.objects) × (newborn shape base ≡ object)). subst IsShaped last.1 shaped)
+            (old_or_newborn birth object h);
+        areas_shaped = good.areas_shaped;
         numbered = good.numbered;
         referred = referred-made;
         tight = tight-made;
@@ -349,5 +356,7 @@ module _ (a : State) (shape : Shape) (base : ℕ) (good : IsGood a)
 
 -- a birth at a place that was found keeps a state good
 pub made_is_good : (a : State) (shape : Shape) (limit base : ℕ) → IsGood a → limit ≤ a.settings.max
-    → place_of a limit Objects (object_bytes shape.slots) ≡ Some base → IsGood (made_at a shape base)
-made_is_good a shape limit base good within e = born_is_good a shape base good (goes_at a shape limit base good within e)
+    → place_of a limit Objects (object_bytes shape.slots) ≡ Some base → IsShaped (newborn shape base)
+    → IsGood (made_at a shape base)
+made_is_good a shape limit base good within e shaped =
+    born_is_good a shape base good (goes_at a shape limit base good within e) shaped

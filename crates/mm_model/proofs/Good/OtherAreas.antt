@@ -11,7 +11,7 @@ use Rattle.mm_model.specs.Count.{refs}
 use Rattle.mm_model.specs.Areas.{most_areas, without_area}
 use Rattle.mm_model.specs.Phase.{IsAscending}
 use Rattle.mm_model.specs.Place.{Piece, object_piece, area_piece, live_pieces}
-use Rattle.mm_model.specs.Good.{IsInside, AreApart, AreAllApart, IsPlaced, IsStored, is_tight, IsPaired, NamesNoWhite, IsPartlyScanned, IsColoured, AreNumbered, IsGood}
+use Rattle.mm_model.specs.Good.{IsInside, AreApart, AreAllApart, IsPlaced, IsStored, is_tight, IsPaired, NamesNoWhite, IsPartlyScanned, IsColoured, IsAreaShaped, AreNumbered, IsGood}
 use Rattle.mm_model.proofs.Good.Around.{if_some-weaker}
 use Rattle.mm_model.proofs.Good.CountedWords.{count_in, get-filter, each_counted_slot, each_counted_cell, each_counted_word, refs-sum}
 use Rattle.mm_model.proofs.Good.Living.{each_before, each_after, each_append}
@@ -21,14 +21,16 @@ use Rattle.mm_model.proofs.Good.Sticking.{IsSound, AreFew, sound_is_good}
 abbrev pub numbers : List Area → List ℕ
 numbers areas = map (λ area. area.number) areas
 
--- an area whose cells a state allows
+-- an area whose shape and cells a state allows
 pub record IsFit (a : State) (area : Area) : Type 0 where
+  pub shaped : IsAreaShaped area
   pub cells : (s : ℕ) (value : Value) → slice_get area.cells s ≡ Some value → IsStored a (cell_kind area s) value
   pub tight : AllByRecursion (λ word. IsTrue (is_tight a word)) (counted_cells area)
 
 pub good_areas_fit : (a : State) → IsGood a → (n : ℕ) (area : Area) → slice_get a.areas n ≡ Some area → IsFit a area
 good_areas_fit a good n area is =
     record {
+      shaped = good.areas_shaped n area is;
       cells = good.referred.cells n area is;
       tight = each_counted_cell (λ word. IsTrue (is_tight a word)) a good.tight n area is;
     }
@@ -73,7 +75,10 @@ module _ (a : State) (areas : List Area) where
         → ((n : ℕ) (area : Area) → slice_get areas n ≡ Some area → IsFit a area) → IsSound with_areas
     sound-areas placed numbered fit =
         record {
+          growing = good.growing;
           placed = placed;
+          shaped = λ birth object h. good.shaped birth object (lives_before birth object h);
+          areas_shaped = λ n area is. (fit n area is).shaped;
           numbered = numbered;
           referred = record {
             stack = each_referring-kept a with_areas keeps-areas a.stack good.referred.stack;

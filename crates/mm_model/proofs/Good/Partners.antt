@@ -11,6 +11,7 @@ use Rattle.mm_model.specs.Count.{refs, begins_counted, names_counted}
 use Rattle.mm_model.specs.Place.{object_piece, area_piece, live_pieces}
 use Rattle.mm_model.specs.Good.{IsPlaced, IsStored, is_tight, IsPaired, NamesNoWhite, IsPartlyScanned, IsColoured, IsGood}
 use Rattle.mm_model.proofs.Good.Around.{if_some-weaker}
+use Rattle.mm_model.proofs.Good.Shapes.{shaped-alike}
 use Rattle.mm_model.proofs.Lists.Keyed.{any-map}
 use Rattle.mm_model.proofs.Places.Placing.{each_weaker}
 use Rattle.mm_model.proofs.Good.References.{Keeps, is_stored-kept, each_referring-kept}
@@ -170,7 +171,20 @@ module _ (a : State) (objects : List Object) (alike : map alone objects ≡ map 
       → IsGood with_objects
   partners_are_good good paired =
       record {
+        growing = good.growing;
         placed = subst (IsPlaced a.settings.max) (sym live_pieces-partners) good.placed;
+        shaped = λ birth object h.
+            let w = was birth object h in
+            shaped-alike w.before object
+            (record {
+              extent = ap (λ (o : Object). o.extent) (sym w.same);
+              kind = ap (λ (o : Object). o.kind) (sym w.same);
+              finalize = ap (λ (o : Object). o.finalize) (sym w.same);
+              counted = ap (λ (o : Object). o.counted) (sym w.same);
+              slots = ap (λ (o : Object). length o.slots) (sym w.same);
+            })
+            (good.shaped birth w.before w.lived);
+        areas_shaped = good.areas_shaped;
         numbered = good.numbered;
         referred = record {
           stack = each_referring-kept a with_objects keeps-partners a.stack good.referred.stack;

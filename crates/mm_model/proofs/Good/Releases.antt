@@ -15,10 +15,11 @@ use Rattle.mm_model.specs.Meaning.{keeps, kept_origin, stored}
 use Rattle.mm_model.specs.Count.{refs, begins_counted, names_counted}
 use Rattle.mm_model.specs.Place.{object_piece, area_piece, live_pieces}
 use Rattle.mm_model.specs.Phase.{lists, is_freed, is_freed_birth, unless_freed, after_release, partly_scanned_left, cycle_left, released}
-use Rattle.mm_model.specs.Good.{IsPlaced, IsReferring, IsStored, IsReferred, is_tight, IsPaired, NamesNoWhite, IsPartlyScanned, IsColoured, IsGood}
+use Rattle.mm_model.specs.Good.{IsPlaced, IsReferring, IsStored, IsReferred, is_tight, IsPaired, NamesNoWhite, IsPartlyScanned, IsColoured, IsShaped, IsGood}
 use Rattle.mm_model.proofs.Lists.Growing.{any_get, any_from_get}
 use Rattle.mm_model.proofs.Good.Living.{each_after, each_before, each_append}
 use Rattle.mm_model.proofs.Lists.Parts.{each-part, all_apart-part, part-behind, each_of-live, each_live-of, map_live-part, count_live-part}
+use Rattle.mm_model.proofs.Good.Shapes.{shaped-alike}
 use Rattle.mm_model.proofs.Places.Placing.{both}
 
 -- the object with a birth number is none of those that are freed
@@ -241,6 +242,14 @@ module _ (a : State) (good : IsGood a) (bases : List ℕ) (closed : IsClosed a b
       let same : refs a object.base ≡ refs a w.before.base = ap (λ (o : Object). refs a o.base) (sym w.is) in
       omega arith
 
+  shaped : (birth : ℕ) (object : Object) → Lives b birth object → IsShaped object
+  shaped birth object h =
+      let w = stayed birth object h in
+      subst IsShaped w.is
+      (shaped-alike w.before (record w.before { partner = unless_freed a bases w.before.partner })
+      (record { extent = refl; kind = refl; finalize = refl; counted = refl; slots = refl })
+      (good.shaped birth w.before w.lived))
+
   placed : IsPlaced b.settings.max (live_pieces b)
   placed =
       let part = part-behind (map area_piece a.areas) (map object_piece (live_objects b.objects))
@@ -334,7 +343,10 @@ module _ (a : State) (good : IsGood a) (bases : List ℕ) (closed : IsClosed a b
   pub released_is_good : IsGood b
   released_is_good =
       record {
+        growing = good.growing;
         placed = placed;
+        shaped = shaped;
+        areas_shaped = good.areas_shaped;
         numbered = good.numbered;
         referred = referred;
         tight = tight;

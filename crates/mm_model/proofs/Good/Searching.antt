@@ -121,9 +121,8 @@ spares-then a b c stack first second birth object lives named =
     }
 
 pub searched_is_found : (a : State) (family : Family) (bytes : ℕ) (log : List Line) (b : State) (found : Option ℕ)
-    → IsGood a → a.settings.pages ≤ a.settings.max → Searches a family bytes log b found
-    → IsFound a family bytes b found
-searched_is_found a family bytes log b found good least (At_once base place lines same is) =
+    → IsGood a → Searches a family bytes log b found → IsFound a family bytes b found
+searched_is_found a family bytes log b found good (At_once base place lines same is) =
     subst (λ c. IsFound a family bytes c found) (sym same)
     (subst (IsFound a family bytes a) (sym is)
     (record {
@@ -133,9 +132,9 @@ searched_is_found a family bytes log b found good least (At_once base place line
       settings = refl;
       spared = λ birth object lives named.
           record { after = object; lives = lives; base = refl; extent = refl; kind = refl; alone = λ e. e };
-      place = (region_pages a, region_pages-most a good.placed least, place);
+      place = (region_pages a, region_pages-most a good.placed good.growing, place);
     }))
-searched_is_found a family bytes log b found good least (After_reap base dead none reapable place lines same is) =
+searched_is_found a family bytes log b found good (After_reap base dead none reapable place lines same is) =
     subst (λ c. IsFound a family bytes c found) (sym same)
     (subst (IsFound a family bytes (reaped dead a)) (sym is)
     (record {
@@ -146,7 +145,7 @@ searched_is_found a family bytes log b found good least (After_reap base dead no
       spared = spares-reaped a good dead reapable;
       place = (a.settings.max, omega arith, place);
     }))
-searched_is_found a family bytes log b found good least (After_collection dead lost none reapable no_place unreached lines same is) =
+searched_is_found a family bytes log b found good (After_collection dead lost none reapable no_place unreached lines same is) =
     let middle = reaped dead a in
     let good_middle = reaped_is_good a dead good reapable in
     let last = collected lost middle in

@@ -8,22 +8,26 @@ use Rattle.std.specs.Prelude.{IsTrue, IfSome, slice_get, nat_le, ◌&&◌, ◌==
 use Rattle.std.specs.List.{AllByRecursion, flat_map, count_by}
 use Rattle.std.specs.Option.{option_map}
 use Rattle.mm_model.specs.Object.{Object, is_live, is_counted, live_objects}
-use Rattle.mm_model.specs.State.{State, Cycle, Lives}
+use Rattle.mm_model.specs.State.{State, Area, Cycle, Lives}
 use Rattle.mm_model.specs.Words.{SlotKind, slot_kind, cell_kind, counted_slots, scanned_slots, counted_cell_words, counted_words, names}
 use Rattle.mm_model.specs.Count.{refs, begins_counted, names_counted, made_sticky, with_sticky}
 use Rattle.mm_model.specs.Place.{object_piece, area_piece, live_pieces}
 use Rattle.mm_model.specs.Store.{is_counted_slot, recounted}
-use Rattle.mm_model.specs.Good.{IsPlaced, AreNumbered, IsStored, IsReferred, is_tight, IsPaired, NamesNoWhite, IsPartlyScanned, IsColoured, IsGood}
+use Rattle.mm_model.specs.Good.{IsPlaced, IsShaped, IsAreaShaped, AreNumbered, IsStored, IsReferred, is_tight, IsPaired, NamesNoWhite, IsPartlyScanned, IsColoured, IsGood}
 use Rattle.mm_model.proofs.Good.Around.{if_some-weaker}
 use Rattle.mm_model.proofs.Good.CountedWords.{adds, adds-other, adds-same}
 use Rattle.mm_model.proofs.Lists.Keyed.{any-map}
 use Rattle.mm_model.proofs.Places.Placing.{each_weaker}
+use Rattle.mm_model.proofs.Good.Shapes.{shaped-alike}
 use Rattle.mm_model.proofs.Good.References.{Keeps, is_stored-kept, each_referring-kept}
 use Rattle.mm_model.proofs.Lists.Replaced.{map-map_alike, flat_map-map}
 
 -- all that is good of a state but how many counted places hold its objects
 pub record IsSound (a : State) : Type 0 where
+  pub growing : a.settings.pages ≤ a.settings.max
   pub placed : IsPlaced a.settings.max (live_pieces a)
+  pub shaped : (birth : ℕ) (object : Object) → Lives a birth object → IsShaped object
+  pub areas_shaped : (n : ℕ) (area : Area) → slice_get a.areas n ≡ Some area → IsAreaShaped area
   pub numbered : AreNumbered a.areas
   pub referred : IsReferred a
   pub tight : AllByRecursion (λ word. IsTrue (is_tight a word)) (counted_words a)
@@ -39,7 +43,10 @@ AreFew a Where =
 pub sound_is_good : (a : State) → IsSound a → AreFew a (λ base. Unit {0}) → IsGood a
 sound_is_good a sound few =
     record {
+      growing = sound.growing;
       placed = sound.placed;
+      shaped = sound.shaped;
+      areas_shaped = sound.areas_shaped;
       numbered = sound.numbered;
       referred = sound.referred;
       tight = sound.tight;
@@ -173,7 +180,15 @@ module _ (a : State) (word : ℕ) where
     sound-made_sticky : IsSound b
     sound-made_sticky =
         record {
+          growing = sound.growing;
           placed = subst (IsPlaced a.settings.max) (sym live_pieces-made_sticky) sound.placed;
+          shaped = λ birth object h.
+              let was = before_made_sticky birth object h in
+              subst IsShaped was.2
+              (shaped-alike was.0 (made_sticky a word was.0)
+              (record { extent = refl; kind = refl; finalize = refl; counted = refl; slots = refl })
+              (sound.shaped birth was.0 was.1));
+          areas_shaped = sound.areas_shaped;
           numbered = sound.numbered;
           referred = referred-made_sticky;
           tight = subst (AllByRecursion (λ w. IsTrue (is_tight b w))) (sym counted_words-made_sticky)

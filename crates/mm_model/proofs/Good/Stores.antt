@@ -15,13 +15,14 @@ use Rattle.mm_model.specs.Count.{refs, begins_counted, names_counted}
 use Rattle.mm_model.specs.Marking.{is_raw, is_black, colour_of, done_in}
 use Rattle.mm_model.specs.Place.{object_piece, area_piece}
 use Rattle.mm_model.specs.Store.{is_counted_slot, refuses_word, with_slot}
-use Rattle.mm_model.specs.Good.{IsPlaced, IsReferring, IsStored, IsReferred, is_tight, IsPaired, IsPartlyScanned, IsColoured, IsGood}
+use Rattle.mm_model.specs.Good.{IsPlaced, IsReferring, IsStored, IsReferred, is_tight, IsPaired, IsPartlyScanned, IsColoured, IsShaped, IsGood}
 use Rattle.mm_model.proofs.Good.Around.{if_some-weaker}
 use Rattle.mm_model.proofs.Good.CountedWords.{count_in, adds, uncounted_place, count_in-set, each_counted-set, each_counted_slot, each_counted_cell, each_counted_word, refs-set_object}
 use Rattle.mm_model.proofs.Good.Living.{lives_same}
 use Rattle.mm_model.proofs.Places.Placing.{each_weaker}
 use Rattle.mm_model.proofs.Good.References.{IsKept, Keeps, referring-kept, stored-kept, is_stored-kept, each_referring-kept, stored-stored, referring-stored}
 use Rattle.mm_model.proofs.Lists.Replaced.{get-set_same, get-set_other, get-set_cases, map-set, map_live-set, any-set_alike, any_take-set, any-set}
+use Rattle.mm_model.proofs.Good.Shapes.{shaped-alike}
 use Rattle.mm_model.proofs.Good.Sticking.{IsSound, AreFew, sound_is_good}
 
 -- a word that names an object among the scanned slots is an old one, or the new one in a scanned slot
@@ -280,9 +281,26 @@ module _ (a : State) (good : IsGood a) (birth : ℕ) (object : Object) (lives : 
   pub sound-any_store : refuses_word a (slot_kind object s) value.word ≡ false → IsSound any_store
   sound-any_store accepted =
       record {
+        growing = good.growing;
         placed = subst (IsPlaced a.settings.max)
             (ap (λ ps. map area_piece a.areas ++ ps)
             (sym (map_live-set object_piece a.objects birth object changed lives.is refl refl))) good.placed;
+        shaped = λ j o h.
+            ⊎_elim
+            (λ (l : (j ≡ birth) × (changed ≡ o)).
+            subst IsShaped l.1
+            (shaped-alike object changed
+            (record {
+              extent = refl;
+              kind = refl;
+              finalize = refl;
+              counted = refl;
+              slots = length-set object.slots s (stored a (slot_kind object s) value);
+            })
+            (good.shaped birth object lives)))
+            (λ (r : Lives a j o). good.shaped j o r)
+            (old_or_changed j o h);
+        areas_shaped = good.areas_shaped;
         numbered = good.numbered;
         referred = referred;
         tight = tight accepted;

@@ -15,6 +15,7 @@ use Rattle.mm_model.proofs.Places.Falling.{falls_at_base}
 use Rattle.mm_model.proofs.Lists.Growing.{get-front, get-push, get-last}
 use Rattle.mm_model.proofs.Good.Living.{lives_same, lives_extent}
 use Rattle.mm_model.proofs.Good.Partners.{alone, partners_are_good}
+use Rattle.mm_model.proofs.Good.Shapes.{shaped-weak}
 use Rattle.mm_model.proofs.Lists.Replaced.{get-set_same, get-set_other, get-set_cases, map-set_alike}
 
 -- a reference to a live object keeps a state good
@@ -126,4 +127,4 @@ pub weak_made_is_good : (a : State) (target : ℕ) (object : Object) (limit base
     → object.partner ≡ None → is_weak object.kind ≡ false → limit ≤ a.settings.max
     → place_of a limit Objects (object_bytes 0) ≡ Some base → IsGood (weak_made a target object base)
 weak_made_is_good a target object limit base good lives free not_weak within e =
-    paired_is_good a target object base good lives free not_weak (made_is_good a weak_shape limit base good within e)
+    paired_is_good a target object base good lives free not_weak (made_is_good a weak_shape limit base good within e (shaped-weak base))

@@ -25,6 +25,15 @@ find-Some {X} test (y ∷ ys) x e =
     ] in
     split (test y) refl e
 
+pub find-None : {X : Type 0} (test : X → Bool) (xs : List X) → find test xs ≡ None
+    → AllByRecursion (λ x. test x ≡ false) xs
+find-None test [] e = tt
+find-None {X} test (x ∷ xs) e =
+    let split : (b : Bool) → test x ≡ b → ◌≡◌ {A = Option X} (cond b (Some x) (find test xs)) None
+    → AllByRecursion (λ y. test y ≡ false) (x ∷ xs) =
+    elim [ true ↦ λ p q. cc | false ↦ λ p q. (p, find-None test xs q) ] in
+    split (test x) refl e
+
 pub find-push : {X : Type 0} (test : X → Bool) (xs : List X) (y : X)
     → find test (xs ++ y ∷ []) ≡ option_or (find test xs) (cond (test y) (Some y) None)
 find-push test [] y = refl
