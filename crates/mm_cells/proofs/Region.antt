@@ -1,10 +1,10 @@
 pub mod Begins
 pub mod Covering
 pub mod Empty
+pub mod Indexes
 pub mod Lowest
 pub mod PageCells
 pub mod Parking
 pub mod Released
-pub mod Seats
 pub mod Sound
 pub mod Soundness

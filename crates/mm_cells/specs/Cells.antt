@@ -1,11 +1,12 @@
 -- What callers see of the cells of a region: which are taken, and what is told of each.
-use Rattle.std.specs.Prelude.{◌≡◌, ◌≢◌, ◌+◌, ◌-◌, ◌*◌, ◌/◌, ◌<◌, ◌≤◌, ℕ, false, List, length, replicate}
+use Rattle.std.specs.Prelude.{◌≡◌, ◌≢◌, ◌+◌, ◌-◌, ◌*◌, ◌/◌, ◌<◌, ◌≤◌, ℕ, List, length, replicate}
 use Rattle.std.specs.Prelude.{Option, Some, None, slice_get, slice_index, slice_set}
 use Rattle.mm_model.specs.declared.object.Colour.{Colour}
 use Rattle.mm_model.specs.Place.{Piece, Objects}
 use Rattle.mm_model.specs.Good.{IsInside, AreApart}
 use Rattle.mm_words.specs.Location.{Location}
 use Rattle.mm_cells.specs.declared.marks.CellBits.{CellBits}
+use Rattle.mm_cells.specs.Marks.{no_flags, IsFlags}
 
 -- a taken cell: its bytes, the colour of the object in it, and what else is told of the object
 pub record Taken : Type 0 where
@@ -47,7 +48,7 @@ IsTaken v base = (cell : Taken) × Begins v base cell
 -- a cell of which nothing but its size and colour is told yet
 abbrev pub newly_taken : ℕ → Colour → Taken
 newly_taken extent colour =
-    record { extent = extent; colour = colour; flags = record { finalize = false; has_weak = false } }
+    record { extent = extent; colour = colour; flags = no_flags }
 
 -- a word falls in the cell, which begins at the base
 pub record Covers (v : Cells) (word base : ℕ) (cell : Taken) : Type 0 where
@@ -77,6 +78,7 @@ pub record IsSoundCells (v : Cells) : Type 0 where
   pub inside : (base : ℕ) (cell : Taken) → Begins v base cell → IsInside v.pages (piece_at base cell)
   pub apart : (base other_base : ℕ) (cell other : Taken) → Begins v base cell → Begins v other_base other
       → base ≢ other_base → AreApart (piece_at base cell) (piece_at other_base other)
+  pub flags : (base : ℕ) (cell : Taken) → Begins v base cell → IsFlags cell.flags
   pub in_run : (base : ℕ) (cell : Taken) → Begins v base cell
       → base + cell.extent ≤ 4096 * (base / 4096 + slice_index v.runs (base / 4096))
   pub runs : (page : ℕ) → 0 < slice_index v.runs page → IsRunOfCells v page

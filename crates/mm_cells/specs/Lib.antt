@@ -1,9 +1,9 @@
 pub mod Cells
+pub mod Indexes
 pub mod Kept
 pub mod Map
 pub mod Marks
 pub mod Placing
-pub mod Seats
 pub mod Sizes
 pub mod Spans
 pub mod Uses

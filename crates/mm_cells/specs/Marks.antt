@@ -1,5 +1,5 @@
 -- What a table of marks says: each word has the marks of eight cells, each of them in four bits.
-use Rattle.std.specs.Prelude.{◌≡◌, ◌≢◌, ℕ, ◌+◌, ◌*◌, ◌/◌, ◌%◌, ◌^◌, ◌<◌, ◌≤◌, ◌==◌, if◌then◌else◌, List, slice_index}
+use Rattle.std.specs.Prelude.{◌≡◌, ◌≢◌, ℕ, ◌+◌, ◌*◌, ◌/◌, ◌%◌, ◌^◌, ◌<◌, ◌≤◌, ◌==◌, if◌then◌else◌, List, slice_index, ⊤}
 use Rattle.mm_model.specs.declared.object.Colour.{Colour}
 use Rattle.mm_model.specs.declared.object.Colour.TheVariants.{White, Gray, Black}
 use Rattle.mm_cells.specs.declared.marks.CellBits.{CellBits}
@@ -10,13 +10,34 @@ use Rattle.mm_cells.specs.declared.marks.Mark.TheVariants.{Free, Taken}
 abbrev pub colour_of : ℕ → Colour
 colour_of low = if low == 0 then White else (if low == 1 then Black else Gray)
 
--- the other two bits: 4 with a finalizer, 8 with a live weak object
-abbrev pub bits_of : ℕ → CellBits
-bits_of code = record { finalize = code / 4 % 2 == 1; has_weak = code / 8 % 2 == 1 }
+-- the other two bits: 1 with a finalizer, 2 with a live weak object
+abbrev pub flags_of : ℕ → CellBits
+flags_of code = record { 0 = code / 4 }
+
+abbrev pub no_flags : CellBits
+no_flags = record { 0 = 0 }
+
+-- flags that these two bits can say
+abbrev pub IsFlags : CellBits → Type 0
+IsFlags flags = flags.0 < 4
+
+abbrev pub IsMark : Mark → Type 0
+IsMark Free = ⊤
+IsMark (Taken colour flags) = IsFlags flags
+
+-- the four bits of a mark: a free cell is 3 with neither flag
+abbrev pub colour_code : Colour → ℕ
+colour_code White = 0
+colour_code Black = 1
+colour_code Gray = 2
+
+abbrev pub code_of : Mark → ℕ
+code_of Free = 3
+code_of (Taken colour flags) = colour_code colour + 4 * flags.0
 
 -- the mark that four bits mean: a cell is free where the low two of them are 3
 abbrev pub mark_of : ℕ → Mark
-mark_of code = if code % 4 == 3 then Free else Taken (colour_of (code % 4)) (bits_of code)
+mark_of code = if code % 4 == 3 then Free else Taken (colour_of (code % 4)) (flags_of code)
 
 -- the four bits at one of the eight places of a word
 abbrev pub code_in : ℕ → ℕ → ℕ
@@ -25,6 +46,10 @@ code_in word place = word / 16 ^ place % 16
 -- the mark there
 abbrev pub mark_in : ℕ → ℕ → Mark
 mark_in word place = mark_of (code_in word place)
+
+-- the four bits of a cell
+abbrev pub code_of_cell : List ℕ → ℕ → ℕ
+code_of_cell table cell = code_in (slice_index table (cell / 8)) (cell % 8)
 
 -- the mark of a cell
 abbrev pub mark_of_cell : List ℕ → ℕ → Mark

@@ -4,15 +4,16 @@ ghost use Rattle.mm_words.specs.Location.{location_of};
 ghost use Rattle.mm_pages.specs.Pages.{Pages};
 ghost use Rattle.mm_pages.specs.Parked.{AreParked};
 ghost use Rattle.mm_cells.specs.Map.{table_size, use_at, mark_at};
+ghost use Rattle.mm_cells.specs.Marks.{IsFlags};
 ghost use Rattle.mm_cells.specs.Cells.{Taken, fresh, with_cell, Begins, IsTaken, Covers, HasNoCell, IsSoundCells};
 ghost use Rattle.mm_cells.specs.Cells.{IsNextTaken, NoneTakenFrom, IsWalk};
 ghost use Rattle.mm_cells.specs.Kept.{class_size, cells_in, cells_of, KeepsCells};
-ghost use Rattle.mm_cells.specs.Seats.{IsSeatOf, NoneInPage, IsLowestInPage, IsTakenIn, NoneIn, IsLowestIn};
+ghost use Rattle.mm_cells.specs.Indexes.{IsMarkIndex, NoneInPage, IsLowestInPage, IsTakenIn, NoneIn, IsLowestIn};
 
 use crate::class::{PAGE_BYTES, cells_per_page, extent_of};
 use crate::marks::{CellBits, Mark};
 use crate::page_use::PageUse;
-use crate::table::Table;
+use crate::table::{CLASSES, PAGE_WORDS, Table};
 use mm_model::{Colour, Size};
 use mm_sets::set_words;
 use mm_steps::Steps;
@@ -52,7 +53,7 @@ pub fn cells_words(pages: u32) -> u32
     requires most { pages ≤ 4096 }
     ensures { result ≡ table_size pages }
 {
-    33 * pages + 19 * set_words(pages)
+    PAGE_WORDS * pages + CLASSES * set_words(pages)
 }
 
 impl Cells {
@@ -108,7 +109,7 @@ impl Cells {
         ensures cost { steps.new ≡ steps.old + 1 }
     {
         steps.tick();
-        told_at(&self.table, seat_of(&self.table, base)).colour
+        object_mark_at(&self.table, mark_index_of(&self.table, base)).colour
     }
 
     pub fn set_colour<L: Ledger>(&mut self, base: u32, colour: Colour, steps: &mut Steps<L>)
@@ -119,10 +120,10 @@ impl Cells {
         ensures cost { steps.new ≡ steps.old + 1 }
     {
         steps.tick();
-        let seat = seat_of(&self.table, base);
-        let told = told_at(&self.table, seat);
+        let index = mark_index_of(&self.table, base);
+        let told = object_mark_at(&self.table, index);
         self.table
-            .set_mark(seat.page, seat.number, Mark::Taken(colour, told.flags));
+            .set_mark(index.page, index.number, Mark::Taken(colour, told.flags));
     }
 
     /// What else is told of the object in a taken cell.
@@ -133,21 +134,22 @@ impl Cells {
         ensures cost { steps.new ≡ steps.old + 1 }
     {
         steps.tick();
-        told_at(&self.table, seat_of(&self.table, base)).flags
+        object_mark_at(&self.table, mark_index_of(&self.table, base)).flags
     }
 
     pub fn set_flags<L: Ledger>(&mut self, base: u32, flags: CellBits, steps: &mut Steps<L>)
-        requires { IsTaken self.old base }
+        requires taken { IsTaken self.old base }
+        requires known { IsFlags flags }
         ensures flags { (cell : Taken) → Begins self.old base cell
             → self.new ≡ with_cell self.old base (Some (record cell { flags = flags })) }
         ensures sound { IsSoundCells self.new }
         ensures cost { steps.new ≡ steps.old + 1 }
     {
         steps.tick();
-        let seat = seat_of(&self.table, base);
-        let told = told_at(&self.table, seat);
+        let index = mark_index_of(&self.table, base);
+        let told = object_mark_at(&self.table, index);
         self.table
-            .set_mark(seat.page, seat.number, Mark::Taken(told.colour, flags));
+            .set_mark(index.page, index.number, Mark::Taken(told.colour, flags));
     }
 
     /// The least base of a taken cell that is at least `from`. A page without taken cells costs one step.
@@ -168,14 +170,14 @@ impl Cells {
 
 /// Where the mark of a cell stands.
 #[derive(Clone, Copy)]
-struct Seat {
+struct MarkIndex {
     page: u32,
     number: u32,
 }
 
 /// What is told of the object in a taken cell.
 #[derive(Clone, Copy)]
-struct Told {
+struct ObjectMark {
     colour: Colour,
     flags: CellBits,
 }
@@ -229,28 +231,29 @@ fn cell_from(table: &Table, page: u32) -> Cell
 }
 
 /// Where the mark of the taken cell stands that begins at a base.
-fn seat_of(table: &Table, base: u32) -> Seat
+fn mark_index_of(table: &Table, base: u32) -> MarkIndex
     requires kept { KeepsCells table.now }
     requires taken { IsTaken (cells_of table.now) base }
-    ensures { IsSeatOf table.now result.page result.number base }
+    ensures { IsMarkIndex table.now result.page result.number base }
 {
     let page = base / PAGE_BYTES;
     let number = match table.use_at(page) {
         PageUse::Class(class) => base % PAGE_BYTES / extent_of(Size::Small(class)),
         _ => 0,
     };
-    Seat { page, number }
+    MarkIndex { page, number }
 }
 
 /// What the mark of a taken cell tells.
-fn told_at(table: &Table, seat: Seat) -> Told
-    requires page { seat.page < table.now.pages }
-    requires number { seat.number < 256 }
-    requires taken { mark_at table.now seat.page seat.number ≢ Mark.Free }
-    ensures { mark_at table.now seat.page seat.number ≡ Mark.Taken result.colour result.flags }
+fn object_mark_at(table: &Table, index: MarkIndex) -> ObjectMark
+    requires page { index.page < table.now.pages }
+    requires number { index.number < 256 }
+    requires taken { mark_at table.now index.page index.number ≢ Mark.Free }
+    ensures mark { mark_at table.now index.page index.number ≡ Mark.Taken result.colour result.flags }
+    ensures known { IsFlags result.flags }
 {
-    match table.mark_at(seat.page, seat.number) {
-        Mark::Taken(colour, flags) => Told { colour, flags },
+    match table.mark_at(index.page, index.number) {
+        Mark::Taken(colour, flags) => ObjectMark { colour, flags },
         Mark::Free => unreachable!(),
     }
 }

@@ -1,17 +1,47 @@
 // The marks of cells in a table of words: four bits for each cell, and those of eight cells in each word.
 ghost use Rattle.std.specs.Prelude.{◌≡◌, ◌≢◌, ℕ, ◌+◌, ◌*◌, ◌/◌, ◌%◌, ◌<◌, ◌≤◌, ◌⊎◌, length, MatchOption};
-ghost use Rattle.mm_cells.specs.Marks.{code_in, colour_of, bits_of, mark_of, mark_in, mark_of_cell, page_marks};
+ghost use Rattle.mm_cells.specs.Marks.{code_in, code_of, colour_code, no_flags, IsMark, mark_of, mark_in};
+ghost use Rattle.mm_cells.specs.Marks.{code_of_cell, mark_of_cell, page_marks};
 ghost use Rattle.mm_cells.specs.Marks.{NoneFree, IsLowestFree, AllFreeFrom, IsLowestTaken};
 
+use bitflags::{Flag, Flags, bitflag_items};
 use mm_model::Colour;
 
 /// What a taken cell says of its object beside the colour.
 #[derive(Clone, Copy, Debug, PartialEq, Eq)]
-pub struct CellBits {
-    /// It has a finalizer.
-    pub finalize: bool,
-    /// It has a live weak object.
-    pub has_weak: bool,
+pub struct CellBits(u8);
+
+bitflag_items! {
+    impl CellBits: u8 {
+        /// The object has a finalizer.
+        const FINALIZE = 1;
+        /// It has a live weak object.
+        const HAS_WEAK = 2;
+    }
+}
+
+impl Flags for CellBits {
+    ghost use Rattle.std.specs.Prelude.{⊤, [], ◌∷◌, codes};
+
+    type Bits = u8;
+
+    ghost exact = { ⊤ };
+
+    ghost table = { (codes "FINALIZE", 1) ∷ (codes "HAS_WEAK", 2) ∷ [] };
+
+    ghost set_of = { λ flags. flags.0 };
+
+    fn flags<'a>() -> &'a [Flag<CellBits>] {
+        CellBits::FLAGS
+    }
+
+    fn bits(&self) -> u8 {
+        self.0
+    }
+
+    fn from_bits_retain(bits: u8) -> CellBits {
+        CellBits(bits)
+    }
 }
 
 /// What a table says of a cell.
@@ -29,10 +59,6 @@ const GRAY: u32 = 2;
 
 const FREE: u32 = 3;
 
-const FINALIZE: u32 = 4;
-
-const HAS_WEAK: u32 = 8;
-
 /// The lowest bit of each of a word's eight marks.
 const LOWEST_BITS: u32 = 0x1111_1111;
 
@@ -40,7 +66,7 @@ const LOWEST_BITS: u32 = 0x1111_1111;
 const ALL_FREE: u32 = 0x3333_3333;
 
 fn colour_code(colour: Colour) -> u32
-    ensures means { colour_of result ≡ colour }
+    ensures code { result ≡ colour_code colour }
     ensures small { result < 3 }
 {
     match colour {
@@ -50,24 +76,23 @@ fn colour_code(colour: Colour) -> u32
     }
 }
 
-fn bits_code(bits: CellBits) -> u32
-    ensures means { bits_of result ≡ bits }
-    ensures high { result % 4 ≡ 0 }
-    ensures small { result < 16 }
+/// The mark of a cell with a new object, of which nothing but its colour is told yet.
+pub(crate) fn new_mark(colour: Colour) -> Mark
+    ensures { result ≡ Mark.Taken colour no_flags }
 {
-    let finalize = if bits.finalize { FINALIZE } else { 0 };
-    let has_weak = if bits.has_weak { HAS_WEAK } else { 0 };
-    finalize + has_weak
+    Mark::Taken(colour, CellBits(0))
 }
 
 /// The four bits of a mark.
 fn encode(mark: Mark) -> u32
+    requires { IsMark mark }
+    ensures code { result ≡ code_of mark }
     ensures means { mark_of result ≡ mark }
     ensures small { result < 16 }
 {
     match mark {
         Mark::Free => FREE,
-        Mark::Taken(colour, bits) => colour_code(colour) + bits_code(bits),
+        Mark::Taken(colour, flags) => colour_code(colour) + 4 * flags.0 as u32,
     }
 }
 
@@ -76,14 +101,11 @@ fn decode(code: u32) -> Mark
     requires { code < 16 }
     ensures { result ≡ mark_of code }
 {
-    let bits = CellBits {
-        finalize: code & FINALIZE != 0,
-        has_weak: code & HAS_WEAK != 0,
-    };
+    let flags = CellBits((code / 4) as u8);
     match code % 4 {
-        WHITE => Mark::Taken(Colour::White, bits),
-        BLACK => Mark::Taken(Colour::Black, bits),
-        GRAY => Mark::Taken(Colour::Gray, bits),
+        WHITE => Mark::Taken(Colour::White, flags),
+        BLACK => Mark::Taken(Colour::Black, flags),
+        GRAY => Mark::Taken(Colour::Gray, flags),
         _ => Mark::Free,
     }
 }
@@ -99,7 +121,9 @@ fn code_at(word: u32, place: u32) -> u32
 
 /// A word with another mark at one of its places.
 fn with_mark(word: u32, place: u32, mark: Mark) -> u32
-    requires { place < 8 }
+    requires place { place < 8 }
+    requires mark { IsMark mark }
+    ensures code { code_in result place ≡ code_of mark }
     ensures given { mark_in result place ≡ mark }
     ensures others { (p : ℕ) → p < 8 → p ≢ place → mark_in result p ≡ mark_in word p }
 {
@@ -142,7 +166,9 @@ pub(crate) fn mark_at(table: &[u32], cell: u32) -> Mark
 
 /// Gives a cell another mark.
 pub(crate) fn set_mark(table: &mut [u32], cell: u32, mark: Mark)
-    requires { cell / 8 < length table.old }
+    requires within { cell / 8 < length table.old }
+    requires mark { IsMark mark }
+    ensures code { code_of_cell table.new cell ≡ code_of mark }
     ensures given { mark_of_cell table.new cell ≡ mark }
     ensures others { (c : ℕ) → c ≢ cell → mark_of_cell table.new c ≡ mark_of_cell table.old c }
 {

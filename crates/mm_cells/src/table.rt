@@ -1,7 +1,7 @@
 // The words of the cells' table, and what stands where in them.
 ghost use Rattle.std.specs.Prelude.{◌≡◌, ◌≢◌, ℕ, ◌+◌, ◌*◌, ◌<◌, ◌≤◌, length, MatchOption};
 ghost use Rattle.mm_sets.specs.Set.{members, IsSet, Admits};
-ghost use Rattle.mm_cells.specs.Marks.{NoneFree, IsLowestFree, AllFreeFrom, IsLowestTaken};
+ghost use Rattle.mm_cells.specs.Marks.{IsMark, NoneFree, IsLowestFree, AllFreeFrom, IsLowestTaken};
 ghost use Rattle.mm_cells.specs.Uses.{IsUse};
 ghost use Rattle.mm_cells.specs.Map.{use_at, mark_at, room_at, SetsUse, SetsMark, FreesPage, SetsRoom};
 ghost use Rattle.mm_cells.specs.Map.{NoPageWithRoom, IsLowestRoom};
@@ -13,8 +13,13 @@ use mm_sets::{insert, lowest, remove, set_words};
 use mm_words::Words;
 use std::marker::Model;
 
+/// How many words the marks of a page take, and how many its use and its marks.
+pub(crate) const MARK_WORDS: u32 = 32;
+
+pub(crate) const PAGE_WORDS: u32 = 1 + MARK_WORDS;
+
 /// How many size classes there are.
-const CLASSES: u32 = 19;
+pub(crate) const CLASSES: u32 = 19;
 
 /// Makes a page a member of a set, or no member.
 fn set_member(set: &mut [u32], page: u32, is_member: bool)
@@ -59,7 +64,7 @@ impl Table {
     {
         let mut words = words;
         words.fill(0, pages, 0);
-        words.fill(33 * pages, CLASSES * set_words(pages), 0);
+        words.fill(PAGE_WORDS * pages, CLASSES * set_words(pages), 0);
         Table { words, pages }
     }
 
@@ -109,10 +114,11 @@ impl Table {
     pub fn set_mark(&mut self, page: u32, cell: u32, mark: Mark)
         requires page { page < self.old.pages }
         requires cell { cell < 256 }
+        requires mark { IsMark mark }
         ensures { SetsMark self.old self.new page cell mark }
     {
         marks::set_mark(
-            self.words.part_mut(self.pages, 32 * self.pages),
+            self.words.part_mut(self.pages, MARK_WORDS * self.pages),
             256 * page + cell,
             mark,
         );
@@ -123,7 +129,10 @@ impl Table {
         requires { page < self.old.pages }
         ensures { FreesPage self.old self.new page }
     {
-        marks::fill_free(self.words.part_mut(self.pages, 32 * self.pages), 32 * page);
+        marks::fill_free(
+            self.words.part_mut(self.pages, MARK_WORDS * self.pages),
+            MARK_WORDS * page,
+        );
     }
 
     /// The lowest free one of the first cells of a page.
@@ -134,7 +143,7 @@ impl Table {
             MatchOption result (NoneFree marks cells) (λ cell. IsLowestFree marks cells cell) }
     {
         let marks = self.marks();
-        marks::lowest_free(marks, 32 * page, cells)
+        marks::lowest_free(marks, MARK_WORDS * page, cells)
     }
 
     /// The lowest taken one of the cells of a page from `from` to before `cells`.
@@ -145,7 +154,7 @@ impl Table {
             MatchOption result (AllFreeFrom marks from cells) (λ cell. IsLowestTaken marks from cells cell) }
     {
         let marks = self.marks();
-        marks::lowest_taken(marks, 32 * page, from, cells)
+        marks::lowest_taken(marks, MARK_WORDS * page, from, cells)
     }
 
     /// The lowest page of a class that has room.
@@ -154,7 +163,10 @@ impl Table {
         ensures { MatchOption result (NoPageWithRoom self.now class) (λ page. IsLowestRoom self.now class page) }
     {
         let size = set_words(self.pages);
-        lowest(self.words.part(33 * self.pages + class * size, size))
+        lowest(
+            self.words
+                .part(PAGE_WORDS * self.pages + class * size, size),
+        )
     }
 
     /// Notes whether a page of a class has room.
@@ -164,7 +176,9 @@ impl Table {
         ensures { SetsRoom self.old self.new class page has_room }
     {
         let size = set_words(self.pages);
-        let set = self.words.part_mut(33 * self.pages + class * size, size);
+        let set = self
+            .words
+            .part_mut(PAGE_WORDS * self.pages + class * size, size);
         set_member(set, page, has_room);
     }
 }
@@ -175,6 +189,6 @@ impl Table {
         ensures sized { length result.now ≡ 32 * self.now.pages }
         ensures most { self.now.pages ≤ 4096 }
     {
-        self.words.part(self.pages, 32 * self.pages)
+        self.words.part(self.pages, MARK_WORDS * self.pages)
     }
 }

@@ -10,21 +10,10 @@ ghost use Rattle.mm_cells.specs.Spans.{use_in_whole, SetsUses, AreUnused};
 ghost use Rattle.mm_cells.specs.Uses.{IsUse};
 
 use crate::class::{PAGE_BYTES, cells_per_page, extent_of};
-use crate::marks::{CellBits, Mark};
+use crate::marks::{Mark, new_mark};
 use crate::page_use::PageUse;
 use crate::table::Table;
 use mm_model::{Colour, Size};
-
-/// The mark of a cell of which nothing but its colour is told yet.
-fn new_mark(colour: Colour) -> Mark
-    ensures { result ≡ Mark.Taken colour (record { finalize = false; has_weak = false }) }
-{
-    let bits = CellBits {
-        finalize: false,
-        has_weak: false,
-    };
-    Mark::Taken(colour, bits)
-}
 
 /// Whether a page of a class has a free cell.
 fn has_room(table: &Table, page: u32, class: u32) -> bool

@@ -1,7 +1,7 @@
 // Sizes at the edges of the classes, and marks in literal words.
 mod cells;
 
-use crate::marks::{Mark, fill_free, lowest_free, mark_at, set_mark};
+use crate::marks::{Mark, fill_free, lowest_free, mark_at, new_mark, set_mark};
 use crate::{CellBits, PAGE_BYTES, cells_per_page, class_of, extent_of};
 use mm_model::{Colour, Size};
 use std::test::Fail;
@@ -34,20 +34,8 @@ fn a_page_has_as_many_cells_as_fit(rt: HostRuntime) -> Result<(), Fail> {
 
 #[test]
 fn a_mark_takes_four_bits(rt: HostRuntime) -> Result<(), Fail> {
-    let gray = Mark::Taken(
-        Colour::Gray,
-        CellBits {
-            finalize: true,
-            has_weak: false,
-        },
-    );
-    let black = Mark::Taken(
-        Colour::Black,
-        CellBits {
-            finalize: false,
-            has_weak: true,
-        },
-    );
+    let gray = Mark::Taken(Colour::Gray, CellBits::FINALIZE);
+    let black = Mark::Taken(Colour::Black, CellBits::HAS_WEAK);
     let mut table: [u32; 2] = [0, 0x8000_0000];
     set_mark(&mut table, 0, gray);
     set_mark(&mut table, 7, Mark::Free);
@@ -62,13 +50,7 @@ fn a_mark_takes_four_bits(rt: HostRuntime) -> Result<(), Fail> {
 
 #[test]
 fn the_lowest_free_cell_of_a_page_is_found(rt: HostRuntime) -> Result<(), Fail> {
-    let taken = Mark::Taken(
-        Colour::White,
-        CellBits {
-            finalize: false,
-            has_weak: false,
-        },
-    );
+    let taken = new_mark(Colour::White);
     let mut table: [u32; 64] = [0x2222_2222; 64];
     assert_eq!(rt; lowest_free(&table, 32, 256), None);
     fill_free(&mut table, 32);

@@ -1,12 +1,17 @@
 -- A word as eight digits of four bits, and what it is when one of them is replaced.
-use Rattle.std.proofs.Common.{◌≡◌, ◌≢◌, ℕ, zero, suc, ◌+◌, ◌-◌, ◌*◌, ◌/◌, ◌%◌, ◌^◌, ◌<◌, ◌≤◌, bit_and, refl}
+use Rattle.std.proofs.Common.{◌≡◌, ◌≢◌, ℕ, zero, suc, ◌+◌, ◌-◌, ◌*◌, ◌/◌, ◌%◌, ◌^◌, ◌<◌, ◌≤◌, bit_and, refl, List, get_or, Bool, subst}
 use Rattle.std.proofs.Common.{sym, ap, ◌∙◌, inl, inr, arith}
 use Rattle.std.proofs.Math.Nat.{pow-suc, pow-succ', div-div-eq-div-mul, mul-add-div_right}
 use Rattle.std.proofs.Math.Nat.{mul-add-mod_self_right, one-le-pow, add-mul}
 use Rattle.std.proofs.lemmas.Bool.{cases_lt}
 use Rattle.std.proofs.lemmas.Nat.{pow-add, and_mask, shl_whole, div-mul-add, div-add-mod', mod_below, div_below}
 use Rattle.std.proofs.lemmas.Nat.{mul-add-lt}
-use Rattle.mm_cells.specs.Marks.{code_in}
+use Rattle.std.specs.Prelude.{◌==◌, if◌then◌else◌}
+use Rattle.std.proofs.lemmas.Bool.{cases_Bool}
+use Rattle.mm_model.specs.declared.object.Colour.{Colour}
+use Rattle.mm_cells.specs.declared.marks.CellBits.{CellBits}
+use Rattle.mm_cells.specs.declared.marks.Mark.TheVariants.{Free, Taken}
+use Rattle.mm_cells.specs.Marks.{code_in, colour_of, flags_of, mark_of, mark_of_cell, IsFlags}
 
 pub pow-sixteen : (k : ℕ) → 2 ^ (4 * k) ≡ 16 ^ k
 pow-sixteen zero = refl
@@ -141,3 +146,24 @@ code_in-mask word place = rw pow-sixteen (and_mask (word / 16 ^ place) 4)
 pub code-shifted : (code place : ℕ) → code < 16 → place < 8 → code * 2 ^ (4 * place) % 2 ^ 32 ≡ code * 16 ^ place
 code-shifted code place small within =
     shl_whole code 4 (4 * place) 32 small (omega arith) ∙ ap (λ x. code * x) (pow-sixteen place)
+
+-- the flags of a mark that four bits mean
+pub IsFlags-mark : (code : ℕ) (colour : Colour) (flags : CellBits) → code < 16 → mark_of code ≡ Taken colour flags →
+    IsFlags flags
+IsFlags-mark code colour flags small is = elim (cases_Bool (code % 4 == 3)) [
+  | inl free ↦
+      let none : mark_of code ≡ Free =
+      ap (λ (test : Bool). if test then Free else Taken (colour_of (code % 4)) (flags_of code)) free in
+      absurd (cc)
+  | inr taken ↦
+      let some : mark_of code ≡ Taken (colour_of (code % 4)) (flags_of code) =
+      ap (λ (test : Bool). if test then Free else Taken (colour_of (code % 4)) (flags_of code)) taken in
+      let same : flags_of code ≡ flags = cc in
+      subst IsFlags same (let low : code / 4 < 4 = omega arith in low)
+]
+
+pub IsFlags-cell : (table : List ℕ) (cell : ℕ) (colour : Colour) (flags : CellBits) →
+    mark_of_cell table cell ≡ Taken colour flags → IsFlags flags
+IsFlags-cell table cell colour flags is =
+    IsFlags-mark (code_in (get_or table (cell / 8) 0) (cell % 8)) colour flags
+    (mod_below (get_or table (cell / 8) 0 / 16 ^ (cell % 8)) 16 (omega arith)) is

@@ -8,11 +8,11 @@ use Rattle.mm_cells.specs.declared.marks.Mark.TheVariants as marks
 use Rattle.mm_cells.specs.Map.{Map, use_at, mark_at}
 use Rattle.mm_cells.specs.Cells.{Taken, Covers}
 use Rattle.mm_cells.specs.Kept.{class_size, cells_in, taken_as, cells_of, KeepsCells, IsWhole}
-use Rattle.mm_cells.specs.Seats.{IsTakenIn}
+use Rattle.mm_cells.specs.Indexes.{IsTakenIn}
 use Rattle.mm_cells.proofs.Sizes.ClassSizes.{class_size-least, cells_in-fit}
 use Rattle.mm_cells.proofs.Sizes.Grains.{cell-fits, div-rest}
 use Rattle.mm_cells.proofs.Region.Begins.{IsSmallCell, IsWholeCell, IsCellOf, small, whole, Begins-cell, cell-Begins}
-use Rattle.mm_cells.proofs.Region.Seats.{number-in}
+use Rattle.mm_cells.proofs.Region.Indexes.{number-in}
 use Rattle.mm_cells.proofs.Region.Sound.{taken_as-extent, IsSpaced-kept}
 
 -- what a mark that isn't free is read as

@@ -10,11 +10,11 @@ use Rattle.mm_cells.specs.declared.marks.Mark.TheVariants as marks
 use Rattle.mm_cells.specs.Map.{Map, use_at, mark_at}
 use Rattle.mm_cells.specs.Cells.{Taken, Cells, Begins, IsNextTaken, NoneTakenFrom}
 use Rattle.mm_cells.specs.Kept.{class_size, taken_as, cells_of, KeepsCells, IsWhole}
-use Rattle.mm_cells.specs.Seats.{NoneInPage, IsLowestInPage, NoneIn, IsLowestIn}
+use Rattle.mm_cells.specs.Indexes.{NoneInPage, IsLowestInPage, NoneIn, IsLowestIn}
 use Rattle.mm_cells.proofs.Sizes.ClassSizes.{class_size-least}
 use Rattle.mm_cells.proofs.Region.Begins.{IsSmallCell, small, whole, Begins-cell, cell-Begins}
 use Rattle.mm_cells.proofs.Region.Covering.{taken_as-some}
-use Rattle.mm_cells.proofs.Region.Seats.{small-page}
+use Rattle.mm_cells.proofs.Region.Indexes.{small-page}
 use Rattle.mm_cells.proofs.Region.Sound.{IsSpaced-kept}
 
 -- a cell of a class begins at some number of the page

@@ -19,6 +19,9 @@ use Rattle.mm_cells.proofs.Sizes.ClassSizes.{class_size-least, class_size-most, 
 use Rattle.mm_cells.proofs.Sizes.Grains.{cell-fits, mod-whole}
 use Rattle.mm_cells.proofs.Tables.Changed.{run-at, length-runs}
 use Rattle.mm_cells.proofs.Region.Begins.{IsSmallCell, IsWholeCell, IsCellOf, small, whole, Begins-cell}
+use Rattle.mm_cells.specs.Marks.{IsFlags}
+use Rattle.mm_cells.proofs.Bits.Codes.{IsFlags-cell}
+use Rattle.mm_cells.proofs.Region.Indexes.{taken_as-mark}
 use Rattle.mm_cells.proofs.Region.Sound.{taken_as-extent, IsSpaced-kept}
 use Rattle.mm_cells.proofs.Region.PageCells.{class-IsPageOf, whole-Begins}
 
@@ -134,6 +137,15 @@ alike m base other_base page cell other kept (whole p count w) (whole q n x) apa
       | inr h ↦ omega (arith, i.begins, i.extent, j.begins, j.extent)
     ])
 
+-- the flags of a cell are read from its mark
+cell-flags : (m : Map) (base : ℕ) (cell : Taken) → IsCellOf m base cell → IsFlags cell.flags
+cell-flags m base cell (small page class number s) =
+    IsFlags-cell m.marks (256 * page + number) cell.colour cell.flags
+    (taken_as-mark (class_size class) (mark_at m page number) cell s.taken)
+cell-flags m base cell (whole page count w) =
+    IsFlags-cell m.marks (256 * page + 0) cell.colour cell.flags
+    (taken_as-mark (4096 * count) (mark_at m page 0) cell w.taken)
+
 -- a cell lies in the run that begins at its page
 cell-in_run : (m : Map) (base : ℕ) (cell : Taken) → KeepsCells m → IsCellOf m base cell →
     base + cell.extent ≤ 4096 * (base / 4096 + slice_index (runs_of m) (base / 4096))
@@ -218,6 +230,7 @@ IsSoundCells-kept m kept =
                   refl,
                 );
           };
+      flags = λ base cell begins. cell-flags m base cell (Begins-cell m base cell begins);
       in_run = λ base cell begins. cell-in_run m base cell kept (Begins-cell m base cell begins);
       runs = λ page some.
           let within = run-within m page some in

@@ -11,7 +11,7 @@ use Rattle.mm_cells.specs.Map.{Map, use_at, mark_at, room_at, IsSame, SetsMark}
 use Rattle.mm_cells.specs.Uses.{use_of}
 use Rattle.mm_cells.specs.Cells.{with_cell}
 use Rattle.mm_cells.specs.Kept.{class_size, cells_in, taken_as, taken_in, runs_of, cells_of, KeepsCells}
-use Rattle.mm_cells.specs.Seats.{IsSeat, in_class, in_whole}
+use Rattle.mm_cells.specs.Indexes.{MarksCell, in_class, in_whole}
 use Rattle.mm_cells.proofs.Sizes.ClassSizes.{class_size-least, cells_in-fit, cells_in-most, cell-units}
 use Rattle.mm_cells.proofs.Sizes.Grains.{cell-fits}
 use Rattle.mm_cells.proofs.Region.Begins.{taken_in-class_here}
@@ -81,7 +81,7 @@ whole-changed a b page count mark known sets within used =
     }
 
 pub cells_of-marked : (a b : Map) (page number base extent : ℕ) (mark : Mark) → HasClasses a →
-    IsSeat a page number base extent → SetsMark a b page number mark →
+    MarksCell a page number base extent → SetsMark a b page number mark →
     cells_of b ≡ with_cell (cells_of a) base (taken_as extent mark)
 cells_of-marked a b page number base extent mark known (in_class class within low used small begins whole) sets =
     cells_of-changed a b page (number * (class_size class / 16)) base (taken_as (class_size class) mark)

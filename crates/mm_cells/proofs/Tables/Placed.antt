@@ -9,7 +9,7 @@ use Rattle.mm_cells.specs.declared.marks.Mark.{Mark}
 use Rattle.mm_cells.specs.declared.marks.Mark.TheVariants as marks
 use Rattle.mm_cells.specs.Map.{Map, use_at, mark_at, room_at, SetsUse, SetsMark, FreesPage, SetsRoom}
 use Rattle.mm_cells.specs.Cells.{with_cell, with_run}
-use Rattle.mm_cells.specs.Seats.{in_class}
+use Rattle.mm_cells.specs.Indexes.{in_class}
 use Rattle.mm_cells.specs.Kept.{class_size, cells_in, taken_as, cells_of, KeepsCells, HasTaken, HasFree}
 use Rattle.mm_cells.specs.Spans.{use_in_whole, SetsUses, AreUnused}
 use Rattle.mm_cells.proofs.Sizes.ClassSizes.{cells_in-most}

@@ -13,7 +13,7 @@ returns-clause-others c = λ d other.
       | inl here ↦
           let there : d % 8 ≢ c.args.cell % 8 = λ e. other (omega arith) in
           ap (λ k. mark_in (get_or (slice_set table word c.with_mark.result) k 0) (d % 8)) here
-          ∙ ap (λ w. mark_in w (d % 8)) (get_or-set_same table word c.with_mark.result 0 c.requires)
+          ∙ ap (λ w. mark_in w (d % 8)) (get_or-set_same table word c.with_mark.result 0 c.requires.within)
           ∙ c.with_mark.ensures.others (d % 8) (omega arith) there
           ∙ ap (λ k. mark_in (get_or table k 0) (d % 8)) (sym here)
       | inr there ↦ ap (λ w. mark_in w (d % 8)) (get_or-set_other table word (d / 8) c.with_mark.result 0 there)

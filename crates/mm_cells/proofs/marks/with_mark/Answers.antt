@@ -1,5 +1,5 @@
 -- The old digit goes and the new one comes, which changes no other.
-use Rattle.std.proofs.Common.{◌≡◌, ◌+◌, ◌-◌, ◌*◌, ◌/◌, ◌%◌, ◌^◌, ◌<◌, ℕ, ap, arith}
+use Rattle.std.proofs.Common.{◌≡◌, ◌∙◌, ◌+◌, ◌-◌, ◌*◌, ◌/◌, ◌%◌, ◌^◌, ◌<◌, ℕ, ap, arith}
 use Rattle.std.proofs.lemmas.Nat.{mod_below}
 use Rattle.mm_cells.specs.Marks.{mark_of, code_in}
 use Rattle.mm_cells.proofs.Bits.Codes.{Replaces, replaces, code-le, code-shifted}
@@ -21,17 +21,23 @@ overflow_sub-result c =
 pub overflow_add-result : goal.overflow_add-result
 overflow_add-result c =
     let r = replaced c.args.word c.args.place c.code_at.result c.encode.result c.code_at.ensures.value
-    c.encode.ensures.small c.requires in
-    let fits = r.fits c.requires (omega arith) in omega arith
+    c.encode.ensures.small c.requires.place in
+    let fits = r.fits c.requires.place (omega arith) in omega arith
+
+pub returns-clause-code : goal.returns-clause-code
+returns-clause-code c =
+    let r = replaced c.args.word c.args.place c.code_at.result c.encode.result c.code_at.ensures.value
+    c.encode.ensures.small c.requires.place in
+    r.same ∙ c.encode.ensures.code
 
 pub returns-clause-given : goal.returns-clause-given
 returns-clause-given c =
     let r = replaced c.args.word c.args.place c.code_at.result c.encode.result c.code_at.ensures.value
-    c.encode.ensures.small c.requires in
+    c.encode.ensures.small c.requires.place in
     rw r.same c.encode.ensures.means
 
 pub returns-clause-others : goal.returns-clause-others
 returns-clause-others c = λ p within other.
     let r = replaced c.args.word c.args.place c.code_at.result c.encode.result c.code_at.ensures.value
-    c.encode.ensures.small c.requires in
+    c.encode.ensures.small c.requires.place in
     ap mark_of (r.others p other)

@@ -1,6 +1,6 @@
 use Rattle.std.proofs.Common.{arith, sym, ap, subst}
 use Rattle.mm_cells.specs.Cells.{Cells, IsSoundCells}
-use Rattle.mm_cells.specs.Seats.{NoneInPage, IsLowestInPage}
+use Rattle.mm_cells.specs.Indexes.{NoneInPage, IsLowestInPage}
 use Rattle.mm_cells.proofs.Region.Lowest.{NoneBefore, NoneBefore-first, NoneBefore-more, IsNextTaken-lowest}
 use Rattle.mm_cells.proofs.Region.Lowest.{NoneTakenFrom-before}
 use Rattle.mm_cells.proofs.Region.Soundness.{IsSoundCells-kept}

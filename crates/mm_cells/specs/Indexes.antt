@@ -7,21 +7,21 @@ use Rattle.mm_cells.specs.Cells.{Taken, Cells, Begins}
 use Rattle.mm_cells.specs.Kept.{class_size, cells_in, cells_of}
 
 -- the cell of this mark begins at the base, and has so many bytes
-pub data IsSeat (m : Map) (page number base extent : ℕ) : Type 0 where
+pub data MarksCell (m : Map) (page number base extent : ℕ) : Type 0 where
   -- one of the cells of a page of a class
   in_class : (class : ℕ) → page < m.pages → class < 19 → use_at m page ≡ Class class → number < cells_in class
-      → base ≡ 4096 * page + number * class_size class → extent ≡ class_size class → IsSeat m page number base extent
+      → base ≡ 4096 * page + number * class_size class → extent ≡ class_size class → MarksCell m page number base extent
   -- the one of some whole pages
   in_whole : (count : ℕ) → page < m.pages → use_at m page ≡ First count → number ≡ 0 → base ≡ 4096 * page
-      → extent ≡ 4096 * count → IsSeat m page number base extent
+      → extent ≡ 4096 * count → MarksCell m page number base extent
 
 -- the mark is that of the taken cell that begins at the base
-pub record IsSeatOf (m : Map) (page number base : ℕ) : Type 0 where
+pub record IsMarkIndex (m : Map) (page number base : ℕ) : Type 0 where
   pub page_within : page < m.pages
   pub number_within : number < 256
   pub cell : Taken
   pub begins : Begins (cells_of m) base cell
-  pub seat : IsSeat m page number base cell.extent
+  pub seat : MarksCell m page number base cell.extent
   pub mark : mark_at m page number ≡ marks.Taken cell.colour cell.flags
 
 -- no taken cell that begins in the page does so at `from` or above

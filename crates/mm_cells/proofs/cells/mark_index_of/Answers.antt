@@ -1,7 +1,7 @@
 use Rattle.std.proofs.Common.{ℕ, ◌/◌, ◌%◌, sym, ◌∙◌, subst}
-use Rattle.mm_cells.specs.Seats.{IsSeatOf}
-use Rattle.mm_cells.proofs.Region.Seats.{taken-page, seat-class, seat-whole}
-use Rattle.mm_cells.proofs.cells.seat_of.Goals as goal
+use Rattle.mm_cells.specs.Indexes.{IsMarkIndex}
+use Rattle.mm_cells.proofs.Region.Indexes.{taken-page, seat-class, seat-whole}
+use Rattle.mm_cells.proofs.cells.mark_index_of.Goals as goal
 
 pub use_at-requires : goal.use_at-requires
 use_at-requires c = taken-page c.args.table.now c.args.base c.requires.taken c.requires.kept
@@ -12,7 +12,7 @@ extent_of-requires c =
 
 pub returns-in-Class : goal.returns-in-Class
 returns-in-Class c =
-    subst (λ (size : ℕ). IsSeatOf c.args.table.now (c.args.base / 4096) (c.args.base % 4096 / size) c.args.base)
+    subst (λ (size : ℕ). IsMarkIndex c.args.table.now (c.args.base / 4096) (c.args.base % 4096 / size) c.args.base)
     (sym c.extent_of.ensures.value)
     (seat-class c.args.table.now c.args.base c.in-Class.class c.requires.kept c.requires.taken (sym c.in-Class.ensures))
 

@@ -10,7 +10,7 @@ use Rattle.mm_cells.specs.declared.marks.Mark.TheVariants as marks
 use Rattle.mm_cells.specs.Map.{Map, use_at, mark_at, SetsMark}
 use Rattle.mm_cells.specs.Cells.{Taken, Cells, Begins, IsTaken, with_cell}
 use Rattle.mm_cells.specs.Kept.{class_size, cells_in, taken_as, cells_of, KeepsCells, IsWhole}
-use Rattle.mm_cells.specs.Seats.{in_class, in_whole, IsSeatOf}
+use Rattle.mm_cells.specs.Indexes.{in_class, in_whole, IsMarkIndex}
 use Rattle.mm_cells.proofs.Sizes.ClassSizes.{class_size-least, cells_in-fit, cells_in-most}
 use Rattle.mm_cells.proofs.Sizes.Grains.{cell-fits}
 use Rattle.mm_cells.proofs.Region.Begins.{IsSmallCell, IsWholeCell, small, whole, Begins-cell}
@@ -56,7 +56,7 @@ small-number m page class number base cell kept s =
     (omega (arith, (small-page m page class number base cell kept s).1)) (omega arith)
 
 small-seat : (m : Map) (page class number base : ℕ) (cell : Taken) → KeepsCells m → Begins (cells_of m) base cell →
-    IsSmallCell m page class number base cell → IsSeatOf m page number base
+    IsSmallCell m page class number base cell → IsMarkIndex m page number base
 small-seat m page class number base cell kept begins s =
     let low : class < 19 = (kept.classes page class s.used).0 in
     record {
@@ -70,7 +70,7 @@ small-seat m page class number base cell kept begins s =
     }
 
 whole-seat : (m : Map) (page count base : ℕ) (cell : Taken) → KeepsCells m → Begins (cells_of m) base cell →
-    IsWholeCell m page count base cell → IsSeatOf m page 0 base
+    IsWholeCell m page count base cell → IsMarkIndex m page 0 base
 whole-seat m page count base cell kept begins w =
     let known : IsWhole m page count = kept.wholes page count w.used in
     let within : page < m.pages = omega (arith, known.some, known.within) in
@@ -98,7 +98,7 @@ taken-page m base taken kept = elim (Begins-cell m base taken.0 taken.1) [
 
 -- the mark by the use of the page
 pub seat-class : (m : Map) (base class : ℕ) → KeepsCells m → IsTaken (cells_of m) base →
-    use_at m (base / 4096) ≡ Class class → IsSeatOf m (base / 4096) (base % 4096 / class_size class) base
+    use_at m (base / 4096) ≡ Class class → IsMarkIndex m (base / 4096) (base % 4096 / class_size class) base
 seat-class m base class kept taken used = elim (Begins-cell m base taken.0 taken.1) [
   | small page class' number s ↦
       let here : base / 4096 ≡ page = (small-page m page class' number base taken.0 kept s).0 in
@@ -106,8 +106,8 @@ seat-class m base class kept taken used = elim (Begins-cell m base taken.0 taken
       let one : class ≡ class' = cc in
       let count : base % 4096 / class_size class ≡ number =
       ap (λ (c : ℕ). base % 4096 / class_size c) one ∙ small-number m page class' number base taken.0 kept s in
-      subst (λ (p : ℕ). IsSeatOf m p (base % 4096 / class_size class) base) (sym here)
-      (subst (λ (n : ℕ). IsSeatOf m page n base) (sym count)
+      subst (λ (p : ℕ). IsMarkIndex m p (base % 4096 / class_size class) base) (sym here)
+      (subst (λ (n : ℕ). IsMarkIndex m page n base) (sym count)
       (small-seat m page class' number base taken.0 kept taken.1 s))
   | whole page count w ↦
       let here : base / 4096 ≡ page = omega (arith, w.begins) in
@@ -116,18 +116,18 @@ seat-class m base class kept taken used = elim (Begins-cell m base taken.0 taken
 ]
 
 pub seat-whole : (m : Map) (base : ℕ) → KeepsCells m → IsTaken (cells_of m) base →
-    ((class : ℕ) → use_at m (base / 4096) ≡ Class class → ⊥) → IsSeatOf m (base / 4096) 0 base
+    ((class : ℕ) → use_at m (base / 4096) ≡ Class class → ⊥) → IsMarkIndex m (base / 4096) 0 base
 seat-whole m base kept taken other = elim (Begins-cell m base taken.0 taken.1) [
   | small page class number s ↦
       let here : base / 4096 ≡ page = (small-page m page class number base taken.0 kept s).0 in
       absurd (other class (ap (λ (p : ℕ). use_at m p) here ∙ s.used))
   | whole page count w ↦
       let here : base / 4096 ≡ page = omega (arith, w.begins) in
-      subst (λ (p : ℕ). IsSeatOf m p 0 base) (sym here) (whole-seat m page count base taken.0 kept taken.1 w)
+      subst (λ (p : ℕ). IsMarkIndex m p 0 base) (sym here) (whole-seat m page count base taken.0 kept taken.1 w)
 ]
 
 -- a taken cell isn't free
-pub seat-taken : (m : Map) (page number base : ℕ) → IsSeatOf m page number base →
+pub seat-taken : (m : Map) (page number base : ℕ) → IsMarkIndex m page number base →
     mark_at m page number ≡ marks.Free → ⊥
 seat-taken m page number base seat free =
     let both : marks.Free ≡ marks.Taken seat.cell.colour seat.cell.flags = sym free ∙ seat.mark in
@@ -135,13 +135,13 @@ seat-taken m page number base seat free =
 
 -- its mark tells something else
 pub KeepsCells-told : (a b : Map) (page number base : ℕ) (colour : Colour) (flags : CellBits) → KeepsCells a →
-    IsSeatOf a page number base → SetsMark a b page number (marks.Taken colour flags) → KeepsCells b
+    IsMarkIndex a page number base → SetsMark a b page number (marks.Taken colour flags) → KeepsCells b
 KeepsCells-told a b page number base colour flags kept seat sets =
     KeepsCells-marked a b page number (marks.Taken colour flags) kept sets seat.number_within
     (seat-taken a page number base seat) (λ e. absurd (cc))
 
 pub cells_of-told : (a b : Map) (page number base : ℕ) (colour : Colour) (flags : CellBits) → KeepsCells a →
-    IsSeatOf a page number base → SetsMark a b page number (marks.Taken colour flags) → (cell : Taken) →
+    IsMarkIndex a page number base → SetsMark a b page number (marks.Taken colour flags) → (cell : Taken) →
     Begins (cells_of a) base cell →
     cells_of b ≡ with_cell (cells_of a) base (Some (record cell { colour = colour; flags = flags }))
 cells_of-told a b page number base colour flags kept seat sets cell begins =
@@ -151,7 +151,7 @@ cells_of-told a b page number base colour flags kept seat sets cell begins =
 
 -- what the mark tells
 pub told-colour : (m : Map) (page number base : ℕ) (colour : Colour) (flags : CellBits) (cell : Taken) →
-    IsSeatOf m page number base → mark_at m page number ≡ marks.Taken colour flags → Begins (cells_of m) base cell →
+    IsMarkIndex m page number base → mark_at m page number ≡ marks.Taken colour flags → Begins (cells_of m) base cell →
     colour ≡ cell.colour
 told-colour m page number base colour flags cell seat mark begins =
     let same : seat.cell ≡ cell = Begins-one (cells_of m) base seat.cell cell seat.begins begins in
@@ -160,7 +160,7 @@ told-colour m page number base colour flags cell seat mark begins =
     told ∙ ap (λ (c : Taken). c.colour) same
 
 pub told-flags : (m : Map) (page number base : ℕ) (colour : Colour) (flags : CellBits) (cell : Taken) →
-    IsSeatOf m page number base → mark_at m page number ≡ marks.Taken colour flags → Begins (cells_of m) base cell →
+    IsMarkIndex m page number base → mark_at m page number ≡ marks.Taken colour flags → Begins (cells_of m) base cell →
     flags ≡ cell.flags
 told-flags m page number base colour flags cell seat mark begins =
     let same : seat.cell ≡ cell = Begins-one (cells_of m) base seat.cell cell seat.begins begins in
@@ -170,7 +170,7 @@ told-flags m page number base colour flags cell seat mark begins =
 
 -- one of the two changes, and the other is what the mark told
 pub cells_of-coloured : (a b : Map) (page number base : ℕ) (old colour : Colour) (flags : CellBits) → KeepsCells a →
-    IsSeatOf a page number base → mark_at a page number ≡ marks.Taken old flags →
+    IsMarkIndex a page number base → mark_at a page number ≡ marks.Taken old flags →
     SetsMark a b page number (marks.Taken colour flags) → (cell : Taken) → Begins (cells_of a) base cell →
     cells_of b ≡ with_cell (cells_of a) base (Some (record cell { colour = colour }))
 cells_of-coloured a b page number base old colour flags kept seat mark sets cell begins =
@@ -179,7 +179,7 @@ cells_of-coloured a b page number base old colour flags kept seat mark sets cell
     (told-flags a page number base old flags cell seat mark begins)
 
 pub cells_of-flagged : (a b : Map) (page number base : ℕ) (colour : Colour) (old flags : CellBits) → KeepsCells a →
-    IsSeatOf a page number base → mark_at a page number ≡ marks.Taken colour old →
+    IsMarkIndex a page number base → mark_at a page number ≡ marks.Taken colour old →
     SetsMark a b page number (marks.Taken colour flags) → (cell : Taken) → Begins (cells_of a) base cell →
     cells_of b ≡ with_cell (cells_of a) base (Some (record cell { flags = flags }))
 cells_of-flagged a b page number base colour old flags kept seat mark sets cell begins =
