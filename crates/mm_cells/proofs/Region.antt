@@ -10,3 +10,4 @@ pub mod Parking
 pub mod Released
 pub mod Sound
 pub mod Soundness
+pub mod Whitening

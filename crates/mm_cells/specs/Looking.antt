@@ -1,5 +1,5 @@
 -- What is asked of the cell in which a word falls, and of those of one colour.
-use Rattle.std.specs.Prelude.{◌≡◌, ◌≢◌, ◌<◌, ◌≤◌, ◌/◌, ℕ, map, Option, Some, None}
+use Rattle.std.specs.Prelude.{◌≡◌, ◌≢◌, ◌*◌, ◌<◌, ◌≤◌, ◌/◌, ◌⊎◌, ℕ, map, length, get_or, Option, Some, None}
 use Rattle.mm_model.specs.declared.object.Colour.{Colour}
 use Rattle.mm_model.specs.declared.object.Colour.TheVariants.{White, Gray}
 use Rattle.mm_cells.specs.Cells.{Taken, Cells, Begins, Covers, with_cell}
@@ -49,3 +49,15 @@ whitened (Some cell) = Some (record cell { colour = White })
 -- all are
 abbrev pub all_white : Cells → Cells
 all_white v = record v { taken = map whitened v.taken }
+
+-- what begins at a multiple of 16 bytes
+abbrev pub taken_of : Cells → ℕ → Option Taken
+taken_of v grain = get_or v.taken grain None
+
+-- the cells that begin at from .. to are white from now on, and all else is as it was
+pub record Whitens (before after : Cells) (from to : ℕ) : Type 0 where
+  pub same : after ≡ record before { taken = after.taken }
+  pub size : length after.taken ≡ length before.taken
+  pub inside : (grain : ℕ) → from ≤ 16 * grain → 16 * grain < to
+      → taken_of after grain ≡ whitened (taken_of before grain)
+  pub outside : (grain : ℕ) → (16 * grain < from) ⊎ (to ≤ 16 * grain) → taken_of after grain ≡ taken_of before grain

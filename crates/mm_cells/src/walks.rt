@@ -1,7 +1,7 @@
 // Walks over the cells of one colour, and over all.
-ghost use Rattle.std.specs.Prelude.{◌≡◌, ◌≢◌, ◌<◌, MatchOption, true, false};
+ghost use Rattle.std.specs.Prelude.{◌≡◌, ◌≢◌, ◌+◌, ◌*◌, ◌<◌, ◌≤◌, MatchOption, true, false};
 ghost use Rattle.mm_cells.specs.Cells.{IsSoundCells, IsWalk};
-ghost use Rattle.mm_cells.specs.Looking.{IsNextOf, NoneOfFrom, IsLowestOfInPage, NoneOfInPage};
+ghost use Rattle.mm_cells.specs.Looking.{IsNextOf, NoneOfFrom, IsLowestOfInPage, NoneOfInPage, all_white, Whitens};
 
 use crate::cells::{Cells, lowest_in_page};
 use crate::class::PAGE_BYTES;
@@ -24,6 +24,32 @@ impl Cells {
             }
         }
         None
+    }
+
+    /// Makes every taken cell white. All else stays.
+    pub fn whiten<L: Ledger>(&mut self, steps: &mut Steps<L>)
+        ensures white { self.new ≡ all_white self.old }
+        ensures sound { IsSoundCells self.new }
+        ensures cost { steps.new ≡ steps.old + self.old.pages }
+    {
+        for page in 0..self.table.pages() {
+            steps.tick();
+            self.whiten_page(page, PAGE_BYTES * page);
+        }
+    }
+
+    /// Makes those white that begin in a page, from `from` on.
+    fn whiten_page(&mut self, page: u32, from: u32)
+        requires within { page < self.old.pages }
+        requires from { 4096 * page ≤ from }
+        ensures white { Whitens self.old self.new from (4096 * page + 4096) }
+        ensures sound { IsSoundCells self.new }
+    {
+        if let Some(base) = lowest_in_page(&self.table, page, from) {
+            let flags = self.told(base).flags;
+            self.mark_as(base, Colour::White, flags);
+            self.whiten_page(page, base + 1);
+        }
     }
 
     /// The lowest cell of this colour that begins in a page, from `from` on.
