@@ -1,0 +1,37 @@
+-- Blocks as cells: how the cells beneath keep them.
+use Rattle.std.specs.Prelude.{◌≡◌, ℕ, Bool, true, false, map}
+use Rattle.std.specs.Option.{option_map}
+use Rattle.mm_model.specs.declared.object.Colour.{Colour}
+use Rattle.mm_model.specs.declared.object.Colour.TheVariants.{White, Gray, Black}
+use Rattle.mm_cells.specs.Cells as cells
+use Rattle.mm_cells.specs.Cells.{Taken, newly_taken, IsSoundCells}
+use Rattle.mm_fixed.specs.Fixed.{Block, Fixed}
+
+-- a block that is parked is black, one that is out is white
+abbrev pub colour_of : Bool → Colour
+colour_of true = Black
+colour_of false = White
+
+abbrev pub cell_of : Block → Taken
+cell_of block = newly_taken block.extent (colour_of block.parked)
+
+abbrev pub cells_of : Fixed → cells.Cells
+cells_of v = record { table = v.table; pages = v.pages; taken = map (option_map cell_of) v.blocks; runs = v.runs }
+
+-- what they show
+abbrev pub is_parked : Colour → Bool
+is_parked White = false
+is_parked Gray = false
+is_parked Black = true
+
+abbrev pub block_of : Taken → Block
+block_of cell = record { extent = cell.extent; parked = is_parked cell.colour }
+
+abbrev pub fixed_of : cells.Cells → Fixed
+fixed_of c = record { table = c.table; pages = c.pages; blocks = map (option_map block_of) c.taken; runs = c.runs }
+
+-- The cells are those of some blocks: none of them is gray, and none has a flag.
+pub record KeepsBlocks (c : cells.Cells) : Type 0 where
+  pub blocks : Fixed
+  pub is : c ≡ cells_of blocks
+  pub sound : IsSoundCells c

@@ -1,0 +1,9 @@
+//! Unmanaged blocks, in pages of size classes of their own.
+#![tactic(auto)]
+
+mod block;
+mod fixed;
+mod uncounted;
+
+pub use block::FixedBlock;
+pub use fixed::{Fixed, fixed_words};
