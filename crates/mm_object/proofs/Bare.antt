@@ -1,5 +1,6 @@
 -- The words of memory that lie in no object: what is read there, and a write there.
-use Rattle.std.proofs.Common.{◌≡◌, ◌≢◌, ℕ, ◌+◌, ◌*◌, ◌/◌, ◌<◌, ◌≤◌, true, false, List, length, get_or, Option, Some, inl, inr, refl, sym, ap, subst, ◌∙◌, arith}
+use Rattle.std.proofs.Common.{◌≡◌, ◌≢◌, ℕ, ◌+◌, ◌*◌, ◌/◌, ◌<◌, ◌≤◌, true, false, List, length, get_or, Option, Some}
+use Rattle.std.proofs.Common.{inl, inr, refl, sym, ap, subst, ◌∙◌, arith}
 use Rattle.std.specs.Prelude.{slice_get, slice_set, set}
 use Rattle.std.specs.Option.{option_map}
 use Rattle.std.proofs.lemmas.Bool.{cases_eq}
@@ -12,7 +13,8 @@ use Rattle.mm_words.specs.Location.{location_of}
 use Rattle.mm_cells.specs.Cells.{Taken, Cells, Begins}
 use Rattle.mm_object.specs.Object.{StoredObject}
 use Rattle.mm_object.specs.Heap.{Heap, IsRaw, with_raw}
-use Rattle.mm_object.specs.Kept.{extent_words, object_told, objects_from, heap_of, raw_from, is_covered, IsHeaded, KeepsHeap}
+use Rattle.mm_object.specs.Kept.{extent_words, object_told, objects_from, heap_of, raw_from, is_covered, IsHeaded}
+use Rattle.mm_object.specs.Kept.{KeepsHeap}
 use Rattle.mm_object.proofs.Extents.{extent_words-same}
 use Rattle.mm_object.proofs.Objects.{objects-alike}
 use Rattle.mm_object.proofs.RawWords.{is_covered_at, raw_at-bare, raw_at-some, get-raw, kept_raw}

@@ -1,5 +1,6 @@
 -- What the calls on one object read and write.
-use Rattle.std.proofs.Common.{◌≡◌, ℕ, suc, ◌+◌, ◌-◌, ◌*◌, ◌/◌, ◌<◌, ◌≤◌, Bool, true, false, List, [], length, take, drop, get_or, Some, refl, sym, ap, subst, ◌∙◌, arith}
+use Rattle.std.proofs.Common.{◌≡◌, ℕ, suc, ◌+◌, ◌-◌, ◌*◌, ◌/◌, ◌<◌, ◌≤◌, Bool, true, false, List, [], length, take}
+use Rattle.std.proofs.Common.{drop, get_or, Some, refl, sym, ap, subst, ◌∙◌, arith}
 use Rattle.std.specs.Prelude.{if◌then◌else◌, slice_set, slice_index, slice_range, set}
 use Rattle.std.proofs.lemmas.List.{get_or-take, get_or-drop, take-take, take_all, drop-take, drop-drop}
 use Rattle.mm_model.specs.declared.object.Colour.{Colour}

@@ -1,8 +1,11 @@
 -- The words of a new object.
-use Rattle.std.proofs.Common.{◌≡◌, ℕ, ◌+◌, ◌-◌, ◌/◌, ◌<◌, ◌≤◌, Bool, true, false, inl, inr, List, ◌∷◌, ◌++◌, length, take, drop, refl, sym, ap, subst, ◌∙◌, arith}
+use Rattle.std.proofs.Common.{◌≡◌, ℕ, ◌+◌, ◌-◌, ◌/◌, ◌<◌, ◌≤◌, Bool, true, false, inl, inr, List, ◌∷◌, ◌++◌, length}
+use Rattle.std.proofs.Common.{take, drop, refl, sym, ap, subst, ◌∙◌, arith}
 use Rattle.std.specs.Prelude.{replicate, set}
 use Rattle.std.proofs.lemmas.Bool.{cases_lt}
-use Rattle.std.proofs.lemmas.List.{get_or_past, length-replicate, length-append, take_at, take-append-drop, replicate-append-replicate, set-append_left, set-append_right, length-take-le, length-set}
+use Rattle.std.proofs.lemmas.List.{get_or_past, length-replicate, length-append, take_at, take-append-drop}
+use Rattle.std.proofs.lemmas.List.{replicate-append-replicate, set-append_left, set-append_right, length-take-le}
+use Rattle.std.proofs.lemmas.List.{length-set}
 use Rattle.mm_model.specs.declared.object.Shape.{Shape}
 use Rattle.mm_model.specs.declared.object.Colour.{Colour}
 use Rattle.mm_model.specs.SizeClass.{extent_of, object_bytes}

@@ -1,5 +1,6 @@
 -- A write into an object: what its words tell then, and that all else is as it was.
-use Rattle.std.proofs.Common.{◌≡◌, ◌≢◌, ℕ, ◌+◌, ◌*◌, ◌/◌, ◌<◌, ◌≤◌, ◌⊎◌, true, false, List, length, get_or, Option, Some, inl, inr, refl, sym, ap, subst, ◌∙◌, arith}
+use Rattle.std.proofs.Common.{◌≡◌, ◌≢◌, ℕ, ◌+◌, ◌*◌, ◌/◌, ◌<◌, ◌≤◌, ◌⊎◌, true, false, List, length, get_or, Option}
+use Rattle.std.proofs.Common.{Some, inl, inr, refl, sym, ap, subst, ◌∙◌, arith}
 use Rattle.std.specs.Prelude.{slice_get, slice_set, set}
 use Rattle.std.proofs.lemmas.List.{length-set, get_or-set_other, set-get_or}
 use Rattle.std.proofs.lemmas.Bool.{cases_lt, cases_eq}
@@ -11,7 +12,8 @@ use Rattle.mm_words.specs.Piece.{Piece, with_words}
 use Rattle.mm_cells.specs.Cells.{Taken, Cells, Begins}
 use Rattle.mm_object.specs.Object.{StoredObject}
 use Rattle.mm_object.specs.Heap.{with_object}
-use Rattle.mm_object.specs.Kept.{extent_words, object_told, object_at, objects_from, heap_of, raw_from, is_covered, IsHeaded, KeepsHeap}
+use Rattle.mm_object.specs.Kept.{extent_words, object_told, object_at, objects_from, heap_of, raw_from, is_covered}
+use Rattle.mm_object.specs.Kept.{IsHeaded, KeepsHeap}
 use Rattle.mm_object.proofs.Extents.{extent_words-same, extent_words-set}
 use Rattle.mm_object.proofs.Objects.{objects-changed}
 use Rattle.mm_object.proofs.RawWords.{IsCovering, is_covered_at, raw-same}

@@ -62,7 +62,7 @@ returns-clause-cost g c =
     c.args.base c.requires.0 c.requires.1 c.scanned_slots-count.result most) in
     omega (
       arith,
-      c.tick_each.ensures,
+      c.add.ensures,
       range,
       length-take-le c.scanned_slots-count.result c.requires.0.words most,
     )
