@@ -8,8 +8,8 @@ use Rattle.mm_io.specs.Faults.{Rose}
 use Rattle.mm_io.specs.Told.{Gives}
 use Rattle.mmgc.specs.Replaying.{reading_of, most_bytes}
 use Rattle.mmgc.specs.Completing.{IsTrace, IsUnhindered, IsComplete}
-use Rattle.mmgc.specs.Run.{Input, Output, NothingLeft, lines_seen, lines_in, Replayed}
-use Rattle.mmgc.specs.Program.{Traffic, IsInput, LacksMemory, FailsToOpen, Replays, Serves, Refuses, LacksMemoryForWords, Ran, status_of}
+use Rattle.mmgc.specs.Run.{Input, Output, NothingLeft, lines_seen, Replayed}
+use Rattle.mmgc.specs.Program.{Traffic, IsInput, Serves, Ran, status_of}
 use Rattle.clap.specs.Words.{takes}
 use Rattle.mmgc.specs.Words.{Choice, choice_of, choice_read, mmgc_app}
 use Rattle.mmgc.specs.declared.program.Outcome.{Outcome}

@@ -8,13 +8,13 @@ use Rattle.mm_model.specs.declared.line.Totals.{Totals}
 use Rattle.mm_model.specs.State.{State}
 use Rattle.mm_model.specs.FlatView.{FlatView}
 use Rattle.mm_model.specs.Journal.{Writes}
-use Rattle.mm_model.specs.Log.{IsLegal, IsWhole}
+use Rattle.mm_model.specs.Log.{IsLegal}
 use Rattle.mm_model.specs.Spelling.{spelling, spelling_of}
 use Rattle.mm_model.specs.Trace.{lines_of, complete_lines, FaultAt}
 use Rattle.mm_model.proofs.Text.Journals.{writes-append}
 use Rattle.mm_io.specs.Faults.{Rose}
-use Rattle.mm_io.specs.Told.{Appends, AppendsFront, Gives}
-use Rattle.mm_io.proofs.ToldLemmas.{Gives-append, Gives-nothing}
+use Rattle.mm_io.specs.Told.{Appends, Gives}
+use Rattle.mm_io.proofs.ToldLemmas.{Gives-append}
 use Rattle.mm_gc.specs.Built.{Step}
 use Rattle.mmgc.specs.Writing.{kept_bytes, Grows}
 use Rattle.mmgc.specs.Replaying.{reading_of, most_bytes, Kept, Grew, GrewSince, Start, Moment, Stopped, Progress}

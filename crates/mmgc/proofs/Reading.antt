@@ -1,7 +1,7 @@
 -- What the words of a run come to.
-use Rattle.std.proofs.Common.{◌≡◌, ℕ, Bool, true, false, List, Option, None, Result, Ok, Err, refl, ap, ◌∙◌, sym, codes}
+use Rattle.std.proofs.Common.{◌≡◌, Bool, true, false, Option, None, Result, Ok, Err, refl, ap}
 use Rattle.std.specs.Prelude.{if◌then◌else◌, IsErrOf}
-use Rattle.clap.specs.Words.{is_simple, takes}
+use Rattle.clap.specs.Words.{is_simple}
 use Rattle.clap.proofs.OnLiterals.{clap_on_literals}
 use Rattle.mmgc.specs.Words.{Choice, Values, mmgc_app}
 

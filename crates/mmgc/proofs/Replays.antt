@@ -1,5 +1,5 @@
 -- Bytes and lines that are carried out, one after another.
-use Rattle.std.proofs.Common.{◌≡◌, ◌≢◌, ℕ, ◌+◌, ◌<◌, ◌≤◌, Bool, true, false, cond, List, [], ◌∷◌, ◌++◌, length, take, drop, get_or, length-append, Option, Some, None, Result, Ok, Err, refl, sym, ap, ◌∙◌, subst, append-nil, append_assoc, arith}
+use Rattle.std.proofs.Common.{◌≡◌, ◌≢◌, ℕ, ◌+◌, ◌<◌, ◌≤◌, true, false, cond, List, [], ◌∷◌, ◌++◌, length, take, drop, get_or, length-append, Option, Some, None, Result, Ok, Err, refl, sym, ap, ◌∙◌, subst, append-nil, append_assoc, arith}
 use mathlib.Core.Path.{subst₃}
 use Rattle.std.proofs.lemmas.Bool.Decides.{nat_tests}
 use Rattle.std.proofs.lemmas.List.{length_push, length-take-le, drop_more, take_more, take-append-drop}
@@ -23,7 +23,6 @@ use Rattle.mm_model.specs.State.{State, empty_state}
 use Rattle.mm_model.specs.Good.{IsGood}
 use Rattle.mm_model.specs.Log.{Steps, IsRun}
 use Rattle.mm_model.specs.FlatView.{FlatView, FlatShows}
-use Rattle.mm_model.specs.Journal.{Writes}
 use Rattle.mm_model.specs.Spelling.{spelling, spelling_of}
 use Rattle.mm_model.specs.Trace.{line_reading, words_reading, words_of, is_comment, complete_lines, lines_of, Reading, FaultAt}
 use Rattle.mm_model.proofs.Good.Starting.{empty_is_good}

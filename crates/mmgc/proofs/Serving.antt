@@ -3,8 +3,8 @@ use Rattle.std.proofs.Common.{◌≡◌, ℕ, List, Option, None, Some, IsSome, 
 use Rattle.mm_model.specs.declared.settings.Settings.{Settings}
 use Rattle.mm_io.specs.Told.{NamedFile}
 use Rattle.mmgc.specs.declared.program.Outcome.{Outcome}
-use Rattle.mmgc.specs.Run.{Input, Output, Replayed}
-use Rattle.mmgc.specs.Program.{Traffic, IsInput, LacksMemory, FailsToOpen, Replays, Serves}
+use Rattle.mmgc.specs.Run.{Replayed}
+use Rattle.mmgc.specs.Program.{Traffic, IsInput, Serves}
 
 -- what stays as it was, or as it was opened, is the input that was opened
 opened_stays : (file : Option (List ℕ)) (named : Option NamedFile) (left opened after : Option (List ℕ)) →

@@ -1,8 +1,6 @@
 -- What a run promises of each of its ends.
-use Rattle.std.specs.Prelude.{◌≡◌, ℕ, ◌⊎◌, List, Option, None, Some, IfSome, IsSome, codes, length}
-use Rattle.mm_model.specs.declared.settings.Settings.{Settings}
+use Rattle.std.specs.Prelude.{◌≡◌, ℕ, ◌⊎◌, List, Option, None, Some, IsSome, codes}
 use Rattle.mm_model.specs.FlatView.{FlatView}
-use Rattle.mm_model.specs.Trace.{lines_of}
 use Rattle.mm_io.specs.Faults.{Rose}
 use Rattle.mm_io.specs.Told.{NamedFile, Chooses}
 use Rattle.mmgc.specs.declared.program.Outcome.{Outcome}

@@ -1,4 +1,4 @@
-use Rattle.std.proofs.Common.{◌≡◌, true, false, Err, ap, sym, ◌∙◌, map}
+use Rattle.std.proofs.Common.{ap, ◌∙◌, map}
 use Rattle.mm_model.proofs.Lists.Keyed.{refuted}
 use Rattle.clap.specs.Words.{is_simple, matches_of, takes}
 use Rattle.mmgc.specs.Words.{values_in, mmgc_app}

@@ -1,6 +1,6 @@
-use Rattle.std.proofs.Common.{◌++◌, length-append, arith, ◌∙◌, refl}
-use Rattle.mm_io.proofs.ToldLemmas.{Gives-append, Gives-nothing}
-use Rattle.mmgc.specs.Keeping.{keeps-same, keeps-trans}
+use Rattle.std.proofs.Common.{◌++◌, length-append, arith, ◌∙◌}
+use Rattle.mm_io.proofs.ToldLemmas.{Gives-append}
+use Rattle.mmgc.specs.Keeping.{keeps-trans}
 use Rattle.mmgc.specs.Logging.{moment_of}
 use Rattle.mmgc.proofs.Ends.{ended-since}
 use Rattle.mmgc.proofs.replay.Replay.read_all.Goals as goal

@@ -1,10 +1,8 @@
-use Rattle.std.proofs.Common.{◌≡◌, IsTrue, refl, ap, sym, ◌∙◌, subst}
-use mathlib.Core.Path.{subst₂}
+use Rattle.std.proofs.Common.{ap, ◌∙◌}
 use Rattle.mmgc.specs.Keeping.{keeps-trans}
 use Rattle.mmgc.specs.Logging.{kept_by}
 use Rattle.mmgc.specs.Replaying.{Start}
 use Rattle.mmgc.specs.Writing.{kept_bytes}
-use Rattle.mmgc.specs.declared.replay.End.TheVariants.{WriteFailed}
 use Rattle.mmgc.proofs.Replays.{progress-began}
 use Rattle.mmgc.proofs.Ends.{replayed, was_whole}
 use Rattle.mmgc.proofs.replay.Replay.run.Goals as goal
