@@ -1,5 +1,5 @@
 // The program, over whatever its bytes come from and go to.
-ghost use Rattle.std.specs.Prelude.{◌≡◌, ◌≤◌, ◌++◌, ◌∷◌, List, ℕ, None, OnOk, OnErr, IsSome, codes, map, option_map, string_bytes};
+ghost use Rattle.std.specs.Prelude.{◌≡◌, ◌≢◌, ◌≤◌, ◌++◌, ◌∷◌, List, ℕ, None, OnOk, OnErr, IsSome, codes, map, option_map, string_bytes};
 ghost use Rattle.mm_io.specs.Faults.{CountsChoice};
 ghost use Rattle.mm_model.specs.Limits.{IsWithinLimits};
 ghost use Rattle.mmgc.specs.Completing.{IsComplete};
@@ -145,6 +145,8 @@ fn replay<S: Source, K: Sink, E: Sink>(
           };
         })
         result (λ text. IsTold (E.taken err.old) (E.taken err.new) (E.faults err.old) (E.faults err.new) text) }
+    ensures read { result.status ≢ 2 }
+    ensures lacking { result.status ≡ 5 → out.new ≡ out.old }
     ensures source { S.faults source.old ≤ S.faults source.new }
     ensures out { K.faults out.old ≤ K.faults out.new }
     ensures err { E.faults err.old ≤ E.faults err.new }
@@ -188,6 +190,8 @@ fn serve<S: Source, K: Sink, E: Sink>(
           };
         })
         result (λ text. IsTold (E.taken err.old) (E.taken err.new) (E.faults err.old) (E.faults err.new) text) }
+    ensures read { result.status ≢ 2 }
+    ensures lacking { result.status ≡ 5 → out.new ≡ out.old }
     ensures source { S.faults source.old ≤ S.faults source.new }
     ensures out { K.faults out.old ≤ K.faults out.new }
     ensures err { E.faults err.old ≤ E.faults err.new }
@@ -230,6 +234,8 @@ fn serve_words<S: Source, K: Sink, E: Sink>(
           };
         })
         result (λ text. IsTold (E.taken err.old) (E.taken err.new) (E.faults err.old) (E.faults err.new) text) }
+    ensures refused { result.status ≡ 2 → (source.new ≡ source.old) × (out.new ≡ out.old) }
+    ensures lacking { result.status ≡ 5 → out.new ≡ out.old }
     ensures source { S.faults source.old ≤ S.faults source.new }
     ensures out { K.faults out.old ≤ K.faults out.new }
     ensures err { E.faults err.old ≤ E.faults err.new }
@@ -290,6 +296,9 @@ pub fn run<S: Source, K: Sink, E: Sink>(
             faults_after = K.faults out.new;
           };
         }) result.status }
+    // Where no heap was made, what was given is as it was; a file that is named may be open at status 5.
+    ensures refused { result.status ≡ 2 → (source.new ≡ source.old) × (out.new ≡ out.old) }
+    ensures lacking { result.status ≡ 5 → out.new ≡ out.old }
     ensures source { S.faults source.old ≤ S.faults source.new }
     ensures out { K.faults out.old ≤ K.faults out.new }
     ensures err { E.faults err.old ≤ E.faults err.new }
