@@ -1,10 +1,15 @@
 //! Worked examples of the definitions of `mm_model`, each the contract of a function that does nothing.
 #![tactic(auto)]
 
+mod answers;
 mod areas;
 mod collecting;
 mod counting;
 mod cycles;
+mod finalizers;
+mod finishing;
+mod full;
+mod held_often;
 mod places;
 mod room;
 mod text;

@@ -1,2 +1,4 @@
+pub mod Determining
 pub mod Exist
+pub mod Groups
 pub mod Scans

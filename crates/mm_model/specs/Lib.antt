@@ -7,6 +7,7 @@ pub mod Effect
 pub mod FlatEffect
 pub mod FlatView
 pub mod Good
+pub mod GoodView
 pub mod Journal
 pub mod Limits
 pub mod Log

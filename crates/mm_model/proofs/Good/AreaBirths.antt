@@ -176,7 +176,7 @@ sum-inserted f new (area ∷ areas) =
     elim [ true ↦ first | false ↦ omega arith ] in
     split (nat_lt new.number area.number)
 
-apart-sym : (p q : Piece) → AreApart p q → AreApart q p
+pub apart-sym : (p q : Piece) → AreApart p q → AreApart q p
 apart-sym p q h =
     record {
       disjoint = ⊎_elim (λ (l : p.base + p.extent ≤ q.base). inr l) (λ (r : q.base + q.extent ≤ p.base). inl r)

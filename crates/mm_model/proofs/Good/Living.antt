@@ -48,8 +48,9 @@ live_piece P (x ∷ xs) (suc i) o h e l =
     elim [ true ↦ λ k. k.1 | false ↦ λ k. k ] in
     live_piece P xs i o (split (is_live x) h) e l
 
-live_apart : (objects : List Object) (i j : ℕ) (x y : Object) → AreAllApart (map object_piece (live_objects objects))
-    → slice_get objects i ≡ Some x → is_live x ≡ true → slice_get objects j ≡ Some y → is_live y ≡ true → i < j
+pub live_apart : (objects : List Object) (i j : ℕ) (x y : Object)
+    → AreAllApart (map object_piece (live_objects objects)) → slice_get objects i ≡ Some x → is_live x ≡ true
+    → slice_get objects j ≡ Some y → is_live y ≡ true → i < j
     → AreApart (object_piece x) (object_piece y)
 live_apart [] i j x y a e l f m less = cc
 live_apart (o ∷ os) i zero x y a e l f m less = absurd (omega arith)

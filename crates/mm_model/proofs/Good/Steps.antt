@@ -150,7 +150,7 @@ module _ (a : State) (good : IsGood a) where
       not_true true e = refl
       not_true false e = cc
 
-  carries_stays : (command : Command) (log : List Line) (effect : Effect) → refusal a command ≡ None
+  pub carries_stays : (command : Command) (log : List Line) (effect : Effect) → refusal a command ≡ None
       → Carries a command log effect → IsGood effect.state
   carries_stays (commands.New shape) log effect allowed m =
       makes_stays Objects (object_bytes shape.slots) (λ b found. new_effect b shape found) log effect m

@@ -47,4 +47,5 @@ same_bounds m n same =
 pub fold-alike : (least : ℕ) (ps qs : List Piece) → AreSeenAlike ps qs
     → fold page_end least ps ≡ fold page_end least qs
 fold-alike least ps qs alike =
-    same_bounds _ _ (λ k. fold-ends least k ps ∙ ap (λ b. nat_lt k least || b) (alike (ends k)) ∙ sym (fold-ends least k qs))
+    same_bounds _ _ (λ k.
+    fold-ends least k ps ∙ ap (λ b. nat_lt k least || b) (alike (ends k)) ∙ sym (fold-ends least k qs))

@@ -1,8 +1,7 @@
 -- `aput` does to a view what it does to its state.
-use Rattle.std.proofs.Common.{◌≡◌, ℕ, ◌+◌, Bool, true, false, cond, List, [], ◌∷◌, map, Option, Some, None, refl, sym, ap, ◌∙◌}
+use Rattle.std.proofs.Common.{◌≡◌, ℕ, ◌+◌, Bool, true, false, cond, List, [], ◌∷◌, map, refl, sym, ap, ◌∙◌}
 use Rattle.std.proofs.lemmas.List.Sums.{sum_by-append}
-use Rattle.std.proofs.lemmas.Option.{slice_get-map}
-use Rattle.std.specs.Prelude.{slice_get, slice_set, slice_index, ◌==◌, if◌then◌else◌}
+use Rattle.std.specs.Prelude.{slice_set, slice_index, ◌==◌, if◌then◌else◌}
 use Rattle.std.specs.List.{count_by, flat_map}
 use Rattle.mm_model.specs.declared.command.Command.TheVariants as commands
 use Rattle.mm_model.specs.Value.{Value, words_of}
@@ -15,12 +14,13 @@ use Rattle.mm_model.specs.Place.{live_pieces}
 use Rattle.mm_model.specs.Store.{with_cell, put_in_cell}
 use Rattle.mm_model.specs.Effect.{plain_effect}
 use Rattle.mm_model.specs.Good.{IsPlaced}
-use Rattle.mm_model.specs.View.{View, AreaView, seen_area, view_of}
+use Rattle.mm_model.specs.View.{AreaView, seen_area, view_of}
 use Rattle.mm_model.specs.ViewWords.{outside_references, area_in}
 use Rattle.mm_model.specs.ViewStore.{view_recounted, view_with_area, view_area_put}
 use Rattle.mm_model.specs.ViewEffect.{view_plain_effect}
 use Rattle.mm_model.proofs.Lists.Replaced.{map-set}
 use Rattle.mm_model.proofs.View.Puts.{view_store_reply-seen}
+use Rattle.mm_model.proofs.View.Reads.{cell-same}
 use Rattle.mm_model.proofs.View.SameEffects.{SameEffect, found-same}
 use Rattle.mm_model.proofs.View.Sticky.{CountsAlike, view_recounted-seen}
 use Rattle.mm_model.proofs.View.Words.{area_in-seen, references_in-seen, outside_references-seen}
@@ -73,9 +73,7 @@ module _ (a : State) (placed : IsPlaced a.settings.max (live_pieces a)) where
   area_put-seen number s j =
       found-same a seen_area (area_in (view_of a) number) (area_at a number) (area_in-seen a number) _ _
       (λ area is.
-      found-same a (λ value. value.word) (slice_get (words_of a.stack) j) (slice_get a.stack j)
-      (slice_get-map (λ (value : Value). value.word) a.stack j) _ _
-      (λ value e.
+      cell-same a j _ _ (λ value e.
       record {
         view = view_area_put-seen area s value;
         reply = view_store_reply-seen a placed (cell_kind area s) value.word;

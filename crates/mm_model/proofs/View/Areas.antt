@@ -28,7 +28,7 @@ filter-map f test (x ∷ xs) =
     elim [ true ↦ ap (λ ys. f x ∷ ys) rest | false ↦ rest ] in
     split (test (f x))
 
-words_of-zeros : (n : ℕ) → words_of (replicate n (integer 0)) ≡ replicate n 0
+pub words_of-zeros : (n : ℕ) → words_of (replicate n (integer 0)) ≡ replicate n 0
 words_of-zeros zero = refl
 words_of-zeros (suc n) = ap (λ ws. 0 ∷ ws) (words_of-zeros n)
 
@@ -51,7 +51,8 @@ module _ (a : State) where
 
   -- `adrop`
   pub drop_area-seen : (number : ℕ)
-      → SameEffect (view_plain_effect (view_of a) (commands.DropArea number)) (plain_effect a (commands.DropArea number))
+      → SameEffect (view_plain_effect (view_of a) (commands.DropArea number))
+      (plain_effect a (commands.DropArea number))
   drop_area-seen number =
       record {
         view = ap (λ areas. record (view_of a) { areas = areas })
@@ -61,7 +62,8 @@ module _ (a : State) where
 
   -- `aget`
   pub area_get-seen : (number s : ℕ)
-      → SameEffect (view_plain_effect (view_of a) (commands.AreaGet number s)) (plain_effect a (commands.AreaGet number s))
+      → SameEffect (view_plain_effect (view_of a) (commands.AreaGet number s))
+      (plain_effect a (commands.AreaGet number s))
   area_get-seen number s =
       found-same a seen_area (area_in (view_of a) number) (area_at a number) (area_in-seen a number) _ _
       (λ area is.

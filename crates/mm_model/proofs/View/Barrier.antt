@@ -34,7 +34,8 @@ module _ (a : State) (placed : IsPlaced a.settings.max (live_pieces a)) (birth :
       → is_slot_done (option_and_then (seen_partly a) partly) object.base s ≡ nat_lt s (done_in partly birth)
   done-seen None h = sym (none_less s)
   done-seen (Some p) h =
-      ap (λ base. is_slot_done (option_map (λ base. record { base = base; slots_done = p.slots_done }) base) object.base s)
+      ap (λ found. is_slot_done (option_map (λ base. record { base = base; slots_done = p.slots_done }) found)
+      object.base s)
       (ap (option_map (λ (o : Object). o.base)) h.1.is)
       ∙ split (p.object == birth) refl
     where

@@ -87,7 +87,8 @@ based_from-get {X} low (None ∷ entries) (suc k) x e =
 based_from-get {X} low (Some y ∷ entries) zero x e =
     let same : y ≡ x = cc in
     let here : low ≡ low + 16 * 0 = omega arith in
-    (0, ap (λ z. Some (record { base = low; value = z })) same ∙ ap (λ base. Some (record { base = base; value = x })) here)
+    let value = ap (λ z. Some (record { base = low; value = z })) same in
+    (0, value ∙ ap (λ base. Some (record { base = base; value = x })) here)
 based_from-get {X} low (Some y ∷ entries) (suc k) x e =
     let next : low + 16 + 16 * k ≡ low + 16 * suc k = omega arith in
     let rest = based_from-get (low + 16) entries k x e in

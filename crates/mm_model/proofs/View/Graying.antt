@@ -85,7 +85,8 @@ pub view_with_grayed-seen : (a : State) (words : List ℕ) → IsTrue (is_some a
 view_with_grayed-seen a words running each = split a.cycle running each
   where
     split : (c : Option Cycle) → IsTrue (is_some c) → IfSome c (HasColours a)
-        → view_with_grayed words (view_of (record a { cycle = c })) ≡ view_of (with_grayed words (record a { cycle = c }))
+        → view_with_grayed words (view_of (record a { cycle = c }))
+        ≡ view_of (with_grayed words (record a { cycle = c }))
     split None t h = cc
     split (Some cycle) t h =
         ap (λ objects. record (view_of (record a { cycle = Some cycle })) { objects = objects })

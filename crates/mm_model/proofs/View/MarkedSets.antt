@@ -1,10 +1,7 @@
 -- What marking reaches by base, and what `finish` keeps and frees, are the same by birth.
-use Rattle.std.proofs.Common.{◌≡◌, ℕ, Bool, not, List, refl, sym, ap, ◌∙◌, subst}
-use Rattle.std.specs.Prelude.{IsTrue}
-use Rattle.mm_model.specs.declared.object.Colour.{Colour}
-use Rattle.mm_model.specs.declared.object.Colour.TheVariants.{White, Gray}
+use Rattle.std.proofs.Common.{◌≡◌, ℕ, not, Some, refl, sym, ap, ◌∙◌, subst}
 use Rattle.mm_model.specs.Object.{Object}
-use Rattle.mm_model.specs.State.{State, Lives}
+use Rattle.mm_model.specs.State.{State, Cycle, Lives}
 use Rattle.mm_model.specs.Words.{root_words, scanned_slots, names}
 use Rattle.mm_model.specs.Place.{live_pieces}
 use Rattle.mm_model.specs.Good.{IsPlaced}
@@ -14,6 +11,7 @@ use Rattle.mm_model.specs.ObjectView.{ObjectView, names_at, scanned_words_of}
 use Rattle.mm_model.specs.SetsByBase.{with_grayed_objects, IsKeptAtFinishAt, IsFreedAtFinishAt, IsMarkedAt}
 use Rattle.mm_model.specs.View.{seen, seen_objects}
 use Rattle.mm_model.proofs.Good.Living.{lives_same}
+use Rattle.mm_model.proofs.View.Graying.{HasColours, seen_objects-grayed}
 use Rattle.mm_model.proofs.View.Seen.{begins-seen, seen-begins}
 use Rattle.mm_model.proofs.View.Sets.{IsSameSet, own_view, names_at-own}
 
@@ -30,7 +28,8 @@ module _ (a : State) (placed : IsPlaced a.settings.max (live_pieces a)) where
       IsMarkedAt.Already object.base (seen a birth object) (begins-seen a placed birth object lives) coloured
   marked_at birth (IsMarked.By_slot number own by holder there held named marked) object lives =
       let same = lives_same a birth object own lives there in
-      IsMarkedAt.By_slot object.base (seen a birth object) holder.base (seen a by holder) (begins-seen a placed birth object lives)
+      IsMarkedAt.By_slot object.base (seen a birth object) holder.base (seen a by holder)
+      (begins-seen a placed birth object lives)
       (begins-seen a placed by holder held) (ap (names (scanned_slots holder)) same ∙ named)
       (marked_at by marked holder held)
 
@@ -69,7 +68,8 @@ module _ (a : State) (placed : IsPlaced a.settings.max (live_pieces a)) where
       IsKeptAtFinish.Already birth object lives (sym (colour_own base o begins birth object lives at) ∙ gray)
   kept_by base (IsKeptAtFinishAt.By_slot number o by holder begins white held named kept) birth object lives at =
       let s = seen-begins a by holder held in
-      IsKeptAtFinish.By_slot birth object s.birth s.object lives (sym (colour_own base o begins birth object lives at) ∙ white)
+      IsKeptAtFinish.By_slot birth object s.birth s.object lives
+      (sym (colour_own base o begins birth object lives at) ∙ white)
       s.lives
       (sym (names_at-own a placed (scanned_slots s.object) base o begins birth object lives at)
       ∙ ap (λ h. names_at (scanned_words_of h) base o) (sym s.is) ∙ named)
@@ -82,11 +82,14 @@ module _ (a : State) (placed : IsPlaced a.settings.max (live_pieces a)) where
         back = λ birth object lives kept. kept_by object.base kept birth object lives refl;
       }
 
--- What `finish` frees, where graying what the roots name is the same by base.
-module _ (a : State) (placed : IsPlaced a.settings.max (live_pieces a))
-    (grayed : with_grayed_objects (root_words a) (seen_objects a) ≡ seen_objects (with_grayed (root_words a) a)) where
+-- what `finish` frees in a cycle
+module _ (a : State) (placed : IsPlaced a.settings.max (live_pieces a)) (cycle : Cycle) (runs : a.cycle ≡ Some cycle)
+    (each : HasColours a cycle) where
   abbrev rooted : State
   rooted = with_grayed (root_words a) a
+
+  grayed : seen_objects rooted ≡ with_grayed_objects (root_words a) (seen_objects a)
+  grayed = seen_objects-grayed a (root_words a) cycle runs each
 
   freed_at : (birth : ℕ) (object : Object) → Lives a birth object → IsFreedAtFinish a birth
       → IsFreedAtFinishAt (seen_objects a) (root_words a) object.base
@@ -94,27 +97,27 @@ module _ (a : State) (placed : IsPlaced a.settings.max (live_pieces a))
       let on : Lives rooted birth object = record { is = lives.is; live = lives.live } in
       record {
         object = seen rooted birth object;
-        begins = subst (λ os. Begins os object.base (seen rooted birth object)) (sym grayed)
+        begins = subst (λ os. Begins os object.base (seen rooted birth object)) grayed
             (begins-seen rooted placed birth object on);
         white = freed.white;
         unmarked = λ kept.
             let same = kept_same rooted placed in
             freed.unmarked
             (same.back birth object on
-            (subst (λ os. IsKeptAtFinishAt os object.base) grayed kept));
+            (subst (λ os. IsKeptAtFinishAt os object.base) (sym grayed) kept));
       }
 
   freed_by : (birth : ℕ) (object : Object) → Lives a birth object
       → IsFreedAtFinishAt (seen_objects a) (root_words a) object.base → IsFreedAtFinish a birth
   freed_by birth object lives freed =
       let on : Lives rooted birth object = record { is = lives.is; live = lives.live } in
-      let begins = subst (λ os. Begins os object.base freed.object) grayed freed.begins in
+      let begins = subst (λ os. Begins os object.base freed.object) (sym grayed) freed.begins in
       record {
         white = sym (colour_own rooted placed object.base freed.object begins birth object on refl) ∙ freed.white;
         unmarked = λ kept.
             let same = kept_same rooted placed in
             freed.unmarked
-            (subst (λ os. IsKeptAtFinishAt os object.base) (sym grayed) (same.there birth object on kept));
+            (subst (λ os. IsKeptAtFinishAt os object.base) grayed (same.there birth object on kept));
       }
 
   pub freed_same : IsSameSet a (IsFreedAtFinish a) (IsFreedAtFinishAt (seen_objects a) (root_words a))

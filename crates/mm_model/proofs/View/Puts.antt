@@ -1,32 +1,27 @@
 -- `put` does to a view what it does to its state.
-use Rattle.std.proofs.Common.{◌≡◌, ℕ, Bool, true, false, not, length, Option, Some, None, refl, sym, ap, ◌∙◌, subst}
+use Rattle.std.proofs.Common.{◌≡◌, ℕ, Bool, true, false, not, refl, sym, ap, ◌∙◌}
 use Rattle.std.proofs.lemmas.List.{length-set, length-map}
-use Rattle.std.proofs.lemmas.Option.{slice_get-map}
-use Rattle.std.specs.Prelude.{IfSome, slice_get, slice_index, ◌&&◌, ◌==◌, if◌then◌else◌}
-use Rattle.std.specs.Option.{option_and_then}
+use Rattle.std.specs.Prelude.{IfSome, slice_index, ◌&&◌, ◌==◌, if◌then◌else◌}
 use Rattle.mm_model.specs.declared.command.Command.TheVariants as commands
 use Rattle.mm_model.specs.declared.reply.Reply.TheVariants as replies
 use Rattle.mm_model.specs.Value.{Value, words_of}
 use Rattle.mm_model.specs.Object.{Object}
-use Rattle.mm_model.specs.State.{State, Cycle, Lives}
+use Rattle.mm_model.specs.State.{State, Lives}
 use Rattle.mm_model.specs.Words.{SlotKind, slot_kind}
-use Rattle.mm_model.specs.Meaning.{meant_at}
-use Rattle.mm_model.specs.Effect.{Effect, with_some, put_effect, plain_effect}
+use Rattle.mm_model.specs.Effect.{plain_effect}
 use Rattle.mm_model.specs.Marking.{barrier}
 use Rattle.mm_model.specs.Count.{made_sticky, with_sticky}
 use Rattle.mm_model.specs.Place.{live_pieces}
-use Rattle.mm_model.specs.Store.{is_counted_slot, recounted, with_slot, put_in_slot, store_reply}
+use Rattle.mm_model.specs.Store.{is_counted_slot, with_slot, put_in_slot, store_reply}
 use Rattle.mm_model.specs.Good.{IsPlaced, IsColoured, IsGood}
-use Rattle.mm_model.specs.ByBase.{Based}
-use Rattle.mm_model.specs.ObjectView.{ObjectView}
 use Rattle.mm_model.specs.View.{view_of}
 use Rattle.mm_model.specs.ViewStore.{view_recounted, view_barrier, view_put, view_store_reply}
-use Rattle.mm_model.specs.ViewEffect.{ViewEffect, with_found, view_put_effect, view_plain_effect}
+use Rattle.mm_model.specs.ViewEffect.{view_plain_effect}
 use Rattle.mm_model.proofs.Good.Around.{if_some-weaker}
 use Rattle.mm_model.proofs.View.Barrier.{view_barrier-seen}
 use Rattle.mm_model.proofs.View.Graying.{HasColours}
-use Rattle.mm_model.proofs.View.Meaning.{based_birth, is_meant_at, view_meant-seen}
-use Rattle.mm_model.proofs.View.SameEffects.{SameEffect, nothing-same, found-same}
+use Rattle.mm_model.proofs.View.Reads.{cell-same, meant_birth-same}
+use Rattle.mm_model.proofs.View.SameEffects.{SameEffect}
 use Rattle.mm_model.proofs.View.Seen.{seen_based}
 use Rattle.mm_model.proofs.View.Sticky.{CountsAlike, bases, view_recounted-seen}
 use Rattle.mm_model.proofs.View.Stores.{store, placed-store, bases-store, view_with_word-seen}
@@ -76,33 +71,12 @@ module _ (a : State) (placed : IsPlaced a.settings.max (live_pieces a)) where
 pub put-seen : (a : State) → IsGood a → (i s j : ℕ)
     → SameEffect (view_plain_effect (view_of a) (commands.Put i s j)) (plain_effect a (commands.Put i s j))
 put-seen a good i s j =
-    subst (λ found. SameEffect (with_found found (view_of a) on_seen) (with_some (meant_at a i) a on_birth))
-    (sym (view_meant-seen a good i)) (split (meant_at a i) refl)
-  where
-    on_seen : Based ObjectView → ViewEffect
-    on_seen o = with_found (slice_get (words_of a.stack) j) (view_of a) (view_put_effect (view_of a) o s)
-
-    on_birth : ℕ → Effect
-    on_birth birth =
-        with_some (slice_get a.objects birth) a
-        (λ object. with_some (slice_get a.stack j) a (put_effect a birth object s))
-
-    split : (found : Option ℕ) → meant_at a i ≡ found
-        → SameEffect (with_found (option_and_then (based_birth a) found) (view_of a) on_seen) (with_some found a on_birth)
-    split None e = nothing-same a
-    split (Some birth) e =
-        let one = is_meant_at a good i birth e in
-        found-same a (seen_based a birth) (based_birth a birth) (slice_get a.objects birth) refl on_seen _
-        (λ object is.
-        found-same a (λ value. value.word) (slice_get (words_of a.stack) j) (slice_get a.stack j)
-        (slice_get-map (λ (value : Value). value.word) a.stack j) _ _
-        (λ value cell.
-        let first = one.1.lives.is in
-        let same : one.0 ≡ object = cc in
-        let lives = subst (λ o. Lives a birth o) same one.1.lives in
-        record {
-          view = view_put-seen a good.placed birth object lives s value good.coloured
-              (count_at-seen (store a good.placed birth object lives s value)
-              (placed-store a good.placed birth object lives s value));
-          reply = view_store_reply-seen a good.placed (slot_kind object s) value.word;
-        }))
+    meant_birth-same a good i _ _ (λ birth object one.
+    cell-same a j _ _ (λ value cell.
+    let lives = one.lives in
+    record {
+      view = view_put-seen a good.placed birth object lives s value good.coloured
+          (count_at-seen (store a good.placed birth object lives s value)
+          (placed-store a good.placed birth object lives s value));
+      reply = view_store_reply-seen a good.placed (slot_kind object s) value.word;
+    }))

@@ -1,9 +1,9 @@
 -- Releasing objects does to a view what it does to its state.
-use Rattle.std.proofs.Common.{◌≡◌, ℕ, ◌+◌, ◌*◌, Bool, true, false, List, map, length, Option, Some, None, refl, sym, ap, ◌∙◌}
+use Rattle.std.proofs.Common.{◌≡◌, ℕ, ◌*◌, Bool, true, false, List, Option, Some, None, refl, sym, ap, ◌∙◌}
 use Rattle.std.proofs.lemmas.Option.{slice_get-map}
 use Rattle.std.specs.Prelude.{IfSome, slice_get, ◌&&◌, if◌then◌else◌}
 use Rattle.std.specs.Option.{option_map, option_and_then, option_map_or}
-use Rattle.mm_model.specs.Object.{Object}
+use Rattle.mm_model.specs.Object.{Object, is_live}
 use Rattle.mm_model.specs.State.{State, Cycle, PartlyScanned, Lives}
 use Rattle.mm_model.specs.Marking.{colour_in}
 use Rattle.mm_model.specs.Phase.{lists, is_freed, is_freed_birth, unless_freed, after_release, partly_scanned_left, cycle_left, released}
@@ -13,7 +13,6 @@ use Rattle.mm_model.specs.ByBase.{changed}
 use Rattle.mm_model.specs.ObjectView.{ObjectView}
 use Rattle.mm_model.specs.View.{PartlyScannedView, base_of, seen, seen_at, seen_objects, seen_partly, seen_cycle}
 use Rattle.mm_model.specs.ViewPhase.{unless_listed, view_after_release, view_partly_left, view_cycle_left}
-use Rattle.mm_model.proofs.Good.Releases.{IsClosed, Stayed, stayed, stays_lives, released_is_good}
 use Rattle.mm_model.proofs.View.Seen.{IsSeen, seen_at-some, seen_at-lives, seen_objects-changed}
 
 -- the object with a birth number begins where it began
@@ -65,12 +64,58 @@ partner-released a bases birth object (Some other) h =
     split true e = refl
     split false e = e
 
-module _ (a : State) (good : IsGood a) (bases : List ℕ) (closed : IsClosed a bases) where
+-- what lives afterwards, as it was: it isn't listed
+record IsLeft (a : State) (bases : List ℕ) (birth : ℕ) (object : Object) : Type 0 where
+  before : Object
+  lived : Lives a birth before
+  unlisted : lists bases before.base ≡ false
+  is : record before { partner = unless_freed a bases before.partner } ≡ object
+
+module _ (a : State) (bases : List ℕ) where
+  lives_before : (birth : ℕ) (object : Object) → Lives (released bases a) birth object → IsLeft a bases birth object
+  lives_before birth object h = by_birth (slice_get a.objects birth) refl
+    where
+      by_freed : (o : Object) → slice_get a.objects birth ≡ Some o → (freed : Bool) → is_freed bases o ≡ freed
+          → (if freed then record o { gone = true } else record o { partner = unless_freed a bases o.partner })
+          ≡ object → IsLeft a bases birth object
+      by_freed o e true f same = let live = ap is_live same ∙ h.live in cc
+      by_freed o e false f same =
+          let live : is_live o ≡ true = ap is_live same ∙ h.live in
+          record {
+            before = o;
+            lived = record { is = e; live = live };
+            unlisted = sym (ap (λ c. c && lists bases o.base) live) ∙ f;
+            is = same;
+          }
+
+      by_birth : (found : Option Object) → slice_get a.objects birth ≡ found → IsLeft a bases birth object
+      by_birth None e =
+          let none = ap (option_map (after_release a bases)) (sym e)
+          ∙ sym (slice_get-map (after_release a bases) a.objects birth) ∙ h.is in
+          cc
+      by_birth (Some o) e =
+          let is : Some (after_release a bases o) ≡ Some object =
+          ap (option_map (after_release a bases)) (sym e)
+          ∙ sym (slice_get-map (after_release a bases) a.objects birth) ∙ h.is in
+          let same : after_release a bases o ≡ object = cc in
+          by_freed o e (is_freed bases o) refl same
+
+  lives_after : (birth : ℕ) (object : Object) → Lives a birth object → lists bases object.base ≡ false
+      → Lives (released bases a) birth (record object { partner = unless_freed a bases object.partner })
+  lives_after birth object h e =
+      let free : is_freed bases object ≡ false = ap (λ c. c && lists bases object.base) h.live ∙ e in
+      record {
+        is = slice_get-map (after_release a bases) a.objects birth
+            ∙ ap (option_map (after_release a bases)) h.is
+            ∙ ap (λ c. Some (if c then record object { gone = true }
+            else record object { partner = unless_freed a bases object.partner })) free;
+        live = h.live;
+      }
+
+module _ (a : State) (good : IsGood a) (bases : List ℕ)
+    (after : IsPlaced (released bases a).settings.max (live_pieces (released bases a))) where
   abbrev b : State
   b = released bases a
-
-  placed_after : IsPlaced b.settings.max (live_pieces b)
-  placed_after = let after = released_is_good a good bases closed in after.placed
 
   seen-released : (birth : ℕ) (object : Object) → Lives a birth object
       → seen b birth (record object { partner = unless_freed a bases object.partner })
@@ -90,7 +135,7 @@ module _ (a : State) (good : IsGood a) (bases : List ℕ) (closed : IsClosed a b
           × (object.base ≡ base) × (lists bases base ≡ false)
       before o e =
           let s = seen_at-some b base o e in
-          let w = stayed a good bases closed s.birth s.object s.lives in
+          let w = lives_before a bases s.birth s.object s.lives in
           let at : w.before.base ≡ base = ap (λ (x : Object). x.base) w.is ∙ s.at in
           (s.birth, w.before, w.lived, at, ap (lists bases) (sym at) ∙ w.unlisted)
 
@@ -114,9 +159,9 @@ module _ (a : State) (good : IsGood a) (bases : List ℕ) (closed : IsClosed a b
       left : (o : ObjectView) → IsSeen a base o → lists bases base ≡ false
           → seen_at b base ≡ Some (record o { partner = unless_listed bases o.partner })
       left o s e =
-          let lives = stays_lives a good bases closed s.birth s.object s.lives (ap (lists bases) s.at ∙ e) in
+          let lives = lives_after a bases s.birth s.object s.lives (ap (lists bases) s.at ∙ e) in
           ap (seen_at b) (sym s.at)
-          ∙ seen_at-lives b placed_after s.birth
+          ∙ seen_at-lives b after s.birth
           (record s.object { partner = unless_freed a bases s.object.partner }) lives
           ∙ ap (λ (x : ObjectView). Some x) (seen-released s.birth s.object s.lives)
           ∙ ap (λ (x : ObjectView). Some (record x { partner = unless_listed bases x.partner })) (sym s.is)
@@ -150,7 +195,8 @@ module _ (a : State) (good : IsGood a) (bases : List ℕ) (closed : IsClosed a b
       (sym (is_freed_birth-lives a bases p.object h.object h.lives))
     where
       split : {n : ℕ} (c : Bool) → base_of b p.object ≡ Some n
-          → ◌≡◌ {A = Option PartlyScannedView} (if c then None else Some (record { base = n; slots_done = p.slots_done }))
+          → ◌≡◌ {A = Option PartlyScannedView}
+          (if c then None else Some (record { base = n; slots_done = p.slots_done }))
           (option_and_then (seen_partly b) (if c then None else Some p))
       split true e = refl
       split false e =

@@ -28,7 +28,7 @@ any-append test (x ∷ xs) ys =
     elim [ true ↦ refl | false ↦ any-append test xs ys ] in
     split (test x)
 
-area_pieces-seen : (areas : List Area) → map piece_of_area (map seen_area areas) ≡ map area_piece areas
+pub area_pieces-seen : (areas : List Area) → map piece_of_area (map seen_area areas) ≡ map area_piece areas
 area_pieces-seen [] = refl
 area_pieces-seen (area ∷ areas) = ap (λ ps. area_piece area ∷ ps) (area_pieces-seen areas)
 

@@ -20,6 +20,7 @@ use Rattle.mm_model.specs.View.{seen, seen_at, seen_objects}
 use Rattle.mm_model.proofs.Lists.Growing.{find-Some, find-only, position_from-get, position_from-Some}
 use Rattle.mm_model.proofs.Lists.Keyed.{at, IsKeyed, refuted, keyed-get, any-map, seen_alike}
 use Rattle.mm_model.proofs.Lists.KeyedSums.{sums_alike}
+use Rattle.mm_model.proofs.Lists.Truth.{together}
 use Rattle.mm_model.proofs.Places.Placing.{both}
 use Rattle.mm_model.proofs.Places.SizeClasses.{class_bounds}
 use Rattle.mm_model.proofs.Good.Living.{each_after, all_apart-after, some_extent, lives_same, lives_inside, lives_once_at}
@@ -28,10 +29,6 @@ use Rattle.mm_model.proofs.View.Entries.{get-changed, length-changed, get-with_e
 -- a live object as it stands in the view
 abbrev pub seen_based : State → ℕ → Object → Based ObjectView
 seen_based a birth object = record { base = object.base; value = seen a birth object }
-
-both_true : (a b : Bool) → a ≡ true → b ≡ true → (a && b) ≡ true
-both_true true b p q = q
-both_true false b p q = cc
 
 pub lives_where : (a : State) (birth : ℕ) (object : Object) (b : Bool) → slice_get a.objects birth ≡ Some object
     → (is_live object && b) ≡ true → Lives a birth object
@@ -133,7 +130,7 @@ module _ (a : State) (placed : IsPlaced a.settings.max (live_pieces a)) where
   pub birth_at-lives : (birth : ℕ) (object : Object) → Lives a birth object → birth_at a object.base ≡ Some birth
   birth_at-lives birth object h =
       position_from-get (lives_at object.base) a.objects birth object h.is
-      (both_true _ _ h.live (eq-eqb object.base object.base refl))
+      (together _ _ h.live (eq-eqb object.base object.base refl))
       (λ i other is passes.
       let lives = lives_where a i other _ is passes in
       one_birth i birth other object lives h (eqb-true _ _ (both _ _ passes).1))
@@ -142,7 +139,7 @@ module _ (a : State) (placed : IsPlaced a.settings.max (live_pieces a)) where
       → find (lives_at object.base) a.objects ≡ Some object
   find-lives_at birth object h =
       find-only (lives_at object.base) a.objects birth object h.is
-      (both_true _ _ h.live (eq-eqb object.base object.base refl))
+      (together _ _ h.live (eq-eqb object.base object.base refl))
       (λ i other is passes.
       let lives = lives_where a i other _ is passes in
       let same = one_birth i birth other object lives h (eqb-true _ _ (both _ _ passes).1) in
@@ -151,7 +148,8 @@ module _ (a : State) (placed : IsPlaced a.settings.max (live_pieces a)) where
   pub seen_at-lives : (birth : ℕ) (object : Object) → Lives a birth object
       → seen_at a object.base ≡ Some (seen a birth object)
   seen_at-lives birth object h =
-      ap (option_and_then (λ birth. option_map (seen a birth) (slice_get a.objects birth))) (birth_at-lives birth object h)
+      ap (option_and_then (λ birth. option_map (seen a birth) (slice_get a.objects birth)))
+      (birth_at-lives birth object h)
       ∙ ap (option_map (seen a birth)) h.is
 
   pub begins-seen : (birth : ℕ) (object : Object) → Lives a birth object
@@ -262,8 +260,8 @@ module _ (a : State) (placed : IsPlaced a.settings.max (live_pieces a)) where
           let base : object.base ≡ k = eqb-true _ _ (both _ _ place.passes).1 in
           let stands = based_at (seen_objects a) object.base (seen a place.place object)
           (begins-seen a placed place.place object lives) in
-          let found = keyed-get (λ (o : Based ObjectView). o.base) (based (seen_objects a)) (keyed-based (seen_objects a))
-          stands.0 (seen_based a place.place object) stands.1 in
+          let found = keyed-get (λ (o : Based ObjectView). o.base) (based (seen_objects a))
+          (keyed-based (seen_objects a)) stands.0 (seen_based a place.place object) stands.1 in
           ap (λ n. option_map f (at (λ o. o.base) (based (seen_objects a)) n)) (sym base) ∙ ap (option_map f) found
           ∙ ap (λ p. Some p) (same place.place object lives) ∙ ap (option_map own) (sym e)
 

@@ -1,6 +1,5 @@
 -- What is reached by base is so by birth.
-use Rattle.std.proofs.Common.{◌≡◌, ℕ, Bool, not, List, refl, sym, ap, ◌∙◌, subst}
-use Rattle.std.specs.Prelude.{IsTrue}
+use Rattle.std.proofs.Common.{◌≡◌, ℕ, List, refl, sym, ap, ◌∙◌, subst}
 use Rattle.mm_model.specs.Object.{Object}
 use Rattle.mm_model.specs.State.{State, Lives}
 use Rattle.mm_model.specs.Words.{root_words, scanned_slots, names}
@@ -53,7 +52,8 @@ module _ (a : State) (placed : IsPlaced a.settings.max (live_pieces a)) where
       (ap (names (root_words a)) (sym same) ∙ named)
   reached_at birth (IsReached.By_slot number own by holder there held named reached) object lives =
       let same = lives_same a birth own object there lives in
-      IsReachedAt.By_slot object.base (seen a birth object) holder.base (seen a by holder) (begins-seen a placed birth object lives)
+      IsReachedAt.By_slot object.base (seen a birth object) holder.base (seen a by holder)
+      (begins-seen a placed birth object lives)
       (begins-seen a placed by holder held) (ap (names (scanned_slots holder)) (sym same) ∙ named)
       (reached_at by reached holder held)
 

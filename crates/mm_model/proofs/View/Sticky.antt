@@ -38,7 +38,8 @@ module _ (a : State) (word : ℕ) where
     -- the object becomes sticky in the one where it does in the other
     becomes-alike : (object : Object) (base : ℕ) → is_live object ≡ true → object.base ≡ base
         → (begins_counted word object && nat_le 255 (refs a word))
-        ≡ (is_counted object.kind && base == word && nat_le 255 (count_at (seen_objects a) (outside_references (view_of a)) base))
+        ≡ (is_counted object.kind && base == word
+        && nat_le 255 (count_at (seen_objects a) (outside_references (view_of a)) base))
     becomes-alike object base live at =
         ap (λ b. (b && is_counted object.kind && object.base == word) && nat_le 255 (refs a word)) live
         ∙ ap (λ base. (true && is_counted object.kind && base == word) && nat_le 255 (refs a word)) at
@@ -75,7 +76,8 @@ module _ (a : State) (word : ℕ) where
         let totals = totals-alike a b (length-map a.objects (made_sticky a word))
         (live_count-map (made_sticky a word) (λ o. refl) a.objects) refl in
         ap (λ objects. record (view_of a) { objects = objects }) (sym objects-made_sticky)
-        ∙ ap (λ cycle. record (view_of a) { objects = seen_objects b; cycle = cycle }) (sym (cycle-alike a b bases a.cycle))
+        ∙ ap (λ cycle. record (view_of a) { objects = seen_objects b; cycle = cycle })
+        (sym (cycle-alike a b bases a.cycle))
         ∙ ap (λ totals. record (view_of b) { totals = totals }) (sym totals)
 
     -- where a counted place gets another word

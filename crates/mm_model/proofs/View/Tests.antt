@@ -45,7 +45,8 @@ module _ (a : State) where
 
   no_area_cell-seen : (number s : ℕ) → view_has_no_area_cell (view_of a) number s ≡ has_no_area_cell a number s
   no_area_cell-seen number s =
-      ap (λ found. option_map_or (λ (area : AreaView). nat_le (length area.words) s) found false) (area_in-seen a number)
+      ap (λ found. option_map_or (λ (area : AreaView). nat_le (length area.words) s) found false)
+      (area_in-seen a number)
       ∙ asked_of-area (λ area. nat_le (length area.words) s) (λ area. nat_le (length area.cells) s)
       (λ area. ap (λ n. nat_le n s) (length-map area.cells (λ (v : Value). v.word))) (area_at a number)
 

@@ -1,10 +1,10 @@
 -- How many objects a phase frees: one for each base, so that a view's totals follow those of its state.
-use Rattle.std.proofs.Common.{◌≡◌, ℕ, zero, suc, ◌+◌, ◌-◌, ◌<◌, ◌≤◌, Bool, true, false, cond, not, ◌||◌, eqb-true, List, [], ◌∷◌, map, length, Some, refl, sym, ap, ◌∙◌, subst, arith}
+use Rattle.std.proofs.Common.{◌≡◌, ℕ, ◌+◌, ◌-◌, ◌<◌, Bool, true, false, cond, not, ◌||◌, eqb-true, List, [], ◌∷◌, map, length, refl, sym, ap, ◌∙◌, arith}
 use Rattle.std.proofs.lemmas.Bool.{eq-eqb}
 use Rattle.std.proofs.lemmas.List.{length-map}
 use Rattle.std.proofs.lemmas.List.Sums.{sum_by-cons, length-filter, count_by-le-length}
-use Rattle.std.specs.Prelude.{◌&&◌, ◌==◌, if◌then◌else◌, slice_get}
-use Rattle.std.specs.List.{filter, sum_by, count_by, AllByRecursion}
+use Rattle.std.specs.Prelude.{◌&&◌, ◌==◌, if◌then◌else◌}
+use Rattle.std.specs.List.{count_by, AllByRecursion}
 use Rattle.mm_model.specs.Object.{Object, is_live, live_objects}
 use Rattle.mm_model.specs.State.{State, Lives, live_count, gone_count, totals_of}
 use Rattle.mm_model.specs.declared.line.Totals.{Totals}
@@ -25,6 +25,14 @@ unlisted_below base (next ∷ bases) h =
     let apart : next ≡ base → ⊥ = λ e. omega arith in
     let other : (next == base) ≡ false = refuted (next == base) (λ e. apart (eqb-true _ _ e)) in
     ap (λ b. b || lists bases base) other ∙ unlisted_below base bases h.1
+
+same_totals : (commands : ℕ) {born b freed f live l : ℕ} → born ≡ b → freed ≡ f → live ≡ l
+    → ◌≡◌ {A = Totals} (record { commands = commands; born = born; freed = freed; live = live })
+    (record { commands = commands; born = b; freed = f; live = l })
+same_totals commands {born} {b} {freed} {f} {live} {l} p q r =
+    ap (λ n. record { commands = commands; born = n; freed = freed; live = live }) p
+    ∙ ap (λ n. record { commands = commands; born = b; freed = n; live = live }) q
+    ∙ ap (λ n. record { commands = commands; born = b; freed = f; live = n }) r
 
 module _ (a : State) (placed : IsPlaced a.settings.max (live_pieces a)) (Dead : ℕ → Type 0) where
   -- a live object begins there
@@ -131,21 +139,4 @@ module _ (a : State) (placed : IsPlaced a.settings.max (live_pieces a)) (Dead : 
       let live : live_count a - length bases ≡ live_count (released bases a) = omega (arith, freed, parts) in
       let gone : gone_count a + length bases ≡ gone_count (released bases a) =
       omega (arith, freed, parts, all, most, lived) in
-      ap (λ n. record {
-        commands = a.commands;
-        born = n;
-        freed = gone_count a + length bases;
-        live = live_count a - length bases;
-      }) (sym all)
-      ∙ ap (λ n. record {
-        commands = a.commands;
-        born = length (released bases a).objects;
-        freed = n;
-        live = live_count a - length bases;
-      }) gone
-      ∙ ap (λ n. record {
-        commands = a.commands;
-        born = length (released bases a).objects;
-        freed = gone_count (released bases a);
-        live = n;
-      }) live
+      same_totals a.commands (sym all) gone live
