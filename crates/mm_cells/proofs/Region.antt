@@ -1,6 +1,8 @@
 pub mod Begins
+pub mod Coloured
 pub mod Covering
 pub mod Empty
+pub mod Found
 pub mod Indexes
 pub mod Lowest
 pub mod PageCells
@@ -8,3 +10,4 @@ pub mod Parking
 pub mod Released
 pub mod Sound
 pub mod Soundness
+pub mod Whitening

@@ -1,6 +1,7 @@
 pub mod Cells
 pub mod Indexes
 pub mod Kept
+pub mod Looking
 pub mod Map
 pub mod Marks
 pub mod Placing

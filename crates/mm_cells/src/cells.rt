@@ -170,16 +170,16 @@ impl Cells {
 
 /// Where the mark of a cell stands.
 #[derive(Clone, Copy)]
-struct MarkIndex {
-    page: u32,
-    number: u32,
+pub(crate) struct MarkIndex {
+    pub(crate) page: u32,
+    pub(crate) number: u32,
 }
 
 /// What is told of the object in a taken cell.
 #[derive(Clone, Copy)]
-struct ObjectMark {
-    colour: Colour,
-    flags: CellBits,
+pub(crate) struct ObjectMark {
+    pub(crate) colour: Colour,
+    pub(crate) flags: CellBits,
 }
 
 /// The cell of a page of a class that has the byte which is so many bytes into the page, if it is taken.
@@ -231,7 +231,7 @@ fn cell_from(table: &Table, page: u32) -> Cell
 }
 
 /// Where the mark of the taken cell stands that begins at a base.
-fn mark_index_of(table: &Table, base: u32) -> MarkIndex
+pub(crate) fn mark_index_of(table: &Table, base: u32) -> MarkIndex
     requires kept { KeepsCells table.now }
     requires taken { IsTaken (cells_of table.now) base }
     ensures { IsMarkIndex table.now result.page result.number base }
@@ -245,7 +245,7 @@ fn mark_index_of(table: &Table, base: u32) -> MarkIndex
 }
 
 /// What the mark of a taken cell tells.
-fn object_mark_at(table: &Table, index: MarkIndex) -> ObjectMark
+pub(crate) fn object_mark_at(table: &Table, index: MarkIndex) -> ObjectMark
     requires page { index.page < table.now.pages }
     requires number { index.number < 256 }
     requires taken { mark_at table.now index.page index.number ≢ Mark.Free }
@@ -259,7 +259,7 @@ fn object_mark_at(table: &Table, index: MarkIndex) -> ObjectMark
 }
 
 /// The least base at `from` or above of the taken cells that begin in a page.
-fn lowest_in_page(table: &Table, page: u32, from: u32) -> Option<u32>
+pub(crate) fn lowest_in_page(table: &Table, page: u32, from: u32) -> Option<u32>
     requires kept { KeepsCells table.now }
     requires page { page < table.now.pages }
     ensures { let v = cells_of table.now in

@@ -3,6 +3,7 @@
 
 mod cells;
 mod class;
+mod lookups;
 mod marks;
 mod page_use;
 mod placing;
@@ -10,7 +11,9 @@ mod table;
 mod taking;
 #[cfg(test)]
 mod tests;
+mod walks;
 
 pub use cells::{Cell, Cells, cells_words};
 pub use class::{PAGE_BYTES, cells_per_page, class_of, extent_of};
+pub use lookups::FoundCell;
 pub use marks::CellBits;

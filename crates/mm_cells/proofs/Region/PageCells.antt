@@ -342,3 +342,22 @@ pub Begins-class_extent : (m : Map) (base class : ℕ) (cell : Taken) → KeepsC
     use_at m (base / 4096) ≡ Class class → Begins (cells_of m) base cell → cell.extent ≡ class_size class
 Begins-class_extent m base class cell kept used begins =
     class-extent m base class cell kept used (Begins-cell m base cell begins)
+
+-- and one of whole pages those of its pages
+first-extent : (m : Map) (base count : ℕ) (cell : Taken) → KeepsCells m → use_at m (base / 4096) ≡ First count →
+    IsCellOf m base cell → cell.extent ≡ 4096 * count
+first-extent m base count cell kept used (small p c n s) =
+    let low : c < 19 = (kept.classes p c s.used).0 in
+    let at : base / 4096 ≡ p = ap (λ (b : ℕ). b / 4096) s.begins ∙ cell-page p n c low s.number_within in
+    let used_so : use_at m (base / 4096) ≡ Class c = ap (use_at m) at ∙ s.used in
+    absurd (cc)
+first-extent m base count cell kept used (whole p n w) =
+    let at : base / 4096 ≡ p = omega (arith, w.begins) in
+    let used_so : use_at m (base / 4096) ≡ First n = ap (use_at m) at ∙ w.used in
+    let same : n ≡ count = cc in
+    taken_as-extent (4096 * n) (mark_at m p 0) cell w.taken ∙ ap (λ (k : ℕ). 4096 * k) same
+
+pub Begins-first_extent : (m : Map) (base count : ℕ) (cell : Taken) → KeepsCells m →
+    use_at m (base / 4096) ≡ First count → Begins (cells_of m) base cell → cell.extent ≡ 4096 * count
+Begins-first_extent m base count cell kept used begins =
+    first-extent m base count cell kept used (Begins-cell m base cell begins)

@@ -1,0 +1,17 @@
+use Rattle.mm_cells.proofs.Region.Indexes.{KeepsCells-told, cells_of-told}
+use Rattle.mm_cells.proofs.Region.Soundness.{IsSoundCells-kept}
+use Rattle.mm_cells.proofs.cells.Cells.mark_as.Goals as goal
+
+pub invariant_of-self : goal.invariant_of-self
+invariant_of-self c = KeepsCells-told c.self.inside.table c.set_mark.new.self c.mark_index_of-index.result.page
+    c.mark_index_of-index.result.number c.args.base c.args.colour c.args.flags c.self.invariant
+    c.mark_index_of-index.ensures c.set_mark.ensures
+
+pub returns-clause-told : goal.returns-clause-told
+returns-clause-told c = rw (← c.self.view_is) (λ cell begins.
+    cells_of-told c.self.inside.table c.set_mark.new.self c.mark_index_of-index.result.page
+    c.mark_index_of-index.result.number c.args.base c.args.colour c.args.flags c.self.invariant
+    c.mark_index_of-index.ensures c.set_mark.ensures cell begins)
+
+pub returns-clause-sound : goal.returns-clause-sound
+returns-clause-sound c = IsSoundCells-kept c.set_mark.new.self (invariant_of-self c)

@@ -1,0 +1,80 @@
+// Walks over the cells of one colour, and over all.
+ghost use Rattle.std.specs.Prelude.{◌≡◌, ◌≢◌, ◌+◌, ◌*◌, ◌<◌, ◌≤◌, MatchOption, true, false};
+ghost use Rattle.mm_cells.specs.Cells.{IsSoundCells, IsWalk};
+ghost use Rattle.mm_cells.specs.Looking.{IsNextOf, NoneOfFrom, IsLowestOfInPage, NoneOfInPage, all_white, Whitens};
+
+use crate::cells::{Cells, lowest_in_page};
+use crate::class::PAGE_BYTES;
+use mm_model::Colour;
+use mm_steps::Steps;
+use std::sync::ledger::Ledger;
+
+impl Cells {
+    /// The least base of a taken cell of this colour that is at least `from`. A page without one costs one step.
+    pub fn next_of<L: Ledger>(&self, from: u32, colour: Colour, steps: &mut Steps<L>) -> Option<u32>
+        ensures base { MatchOption result (NoneOfFrom self.now colour from)
+            (λ base. IsNextOf self.now colour from base) }
+        ensures sound { IsSoundCells self.now }
+        ensures cost { IsWalk self.now from result steps.old steps.new }
+    {
+        for page in from / PAGE_BYTES..self.table.pages() {
+            steps.tick();
+            if let Some(base) = self.lowest_of(page, from, colour) {
+                return Some(base);
+            }
+        }
+        None
+    }
+
+    /// Makes every taken cell white. All else stays.
+    pub fn whiten<L: Ledger>(&mut self, steps: &mut Steps<L>)
+        ensures white { self.new ≡ all_white self.old }
+        ensures sound { IsSoundCells self.new }
+        ensures cost { steps.new ≡ steps.old + self.old.pages }
+    {
+        for page in 0..self.table.pages() {
+            steps.tick();
+            self.whiten_page(page, PAGE_BYTES * page);
+        }
+    }
+
+    /// Makes those white that begin in a page, from `from` on.
+    fn whiten_page(&mut self, page: u32, from: u32)
+        requires within { page < self.old.pages }
+        requires from { 4096 * page ≤ from }
+        ensures white { Whitens self.old self.new from (4096 * page + 4096) }
+        ensures sound { IsSoundCells self.new }
+    {
+        if let Some(base) = lowest_in_page(&self.table, page, from) {
+            let flags = self.told(base).flags;
+            self.mark_as(base, Colour::White, flags);
+            self.whiten_page(page, base + 1);
+        }
+    }
+
+    /// The lowest cell of this colour that begins in a page, from `from` on.
+    fn lowest_of(&self, page: u32, from: u32, colour: Colour) -> Option<u32>
+        requires { page < self.now.pages }
+        ensures base { MatchOption result (NoneOfInPage self.now page colour from)
+            (λ base. IsLowestOfInPage self.now page colour from base) }
+        ensures sound { IsSoundCells self.now }
+    {
+        match lowest_in_page(&self.table, page, from) {
+            Some(base) => {
+                if are_same(self.told(base).colour, colour) {
+                    Some(base)
+                } else {
+                    self.lowest_of(page, base + 1, colour)
+                }
+            }
+            None => None,
+        }
+    }
+}
+
+fn are_same(one: Colour, other: Colour) -> bool
+    ensures same { result ≡ true → one ≡ other }
+    ensures apart { result ≡ false → one ≢ other }
+{
+    one == other
+}

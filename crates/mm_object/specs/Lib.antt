@@ -1,0 +1,5 @@
+pub mod Colours
+pub mod Header
+pub mod Heap
+pub mod Kept
+pub mod Object

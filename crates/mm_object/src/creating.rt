@@ -1,0 +1,106 @@
+// Objects are made and taken away.
+ghost use Rattle.std.specs.Prelude.{◌≡◌, ◌≢◌, ◌+◌, ◌/◌, ◌≤◌, ◌<◌, ℕ, List, length, replicate, slice_get, slice_index, slice_set, IfOk, OnErr, Some, None, false};
+ghost use Rattle.mm_model.specs.SizeClass.{size_of, extent_of, object_bytes};
+ghost use Rattle.mm_model.specs.ByBase.{Begins, with_entry};
+ghost use Rattle.mm_words.specs.Piece.{with_words};
+ghost use Rattle.mm_words.specs.Writes.{written};
+ghost use Rattle.mm_pages.specs.Pages.{IsQuick, with_parked};
+ghost use Rattle.mm_pages.specs.Parked.{AreParked};
+ghost use Rattle.mm_cells.specs.Placing.{IsPlaceFor, LeavesPage, found_in, run_length};
+ghost use Rattle.mm_object.specs.Object.{StoredObject, newly_stored, flags_with};
+ghost use Rattle.mm_object.specs.Header.{IsShape, shape_in, first_word, second_word};
+ghost use Rattle.mm_object.specs.Heap.{cells_in, IsObject, IsSound, FitsHeap, TakesWords, LeavesWords};
+ghost use Rattle.mm_object.specs.Kept.{newborn_words};
+
+use crate::header::Header;
+use crate::heap::{HEADER_WORDS, Heap, WORD_BYTES, object_bytes};
+use bitflags::Flags;
+use mm_cells::CellBits;
+use mm_model::{Colour, Shape};
+use mm_pages::{NoRun, PageHeap};
+use mm_steps::Steps;
+use mm_words::Words;
+use std::sync::ledger::Ledger;
+
+/// The flags of a new object.
+fn flags_for(finalize: bool) -> CellBits
+    ensures { result ≡ flags_with finalize false }
+{
+    if finalize {
+        CellBits::FINALIZE
+    } else {
+        CellBits::from_bits_retain(0)
+    }
+}
+
+/// Writes the header of a new object, and 0 into each slot.
+fn write_newborn(memory: &mut Words, at: u32, shape: Shape)
+    requires shape { IsShape shape }
+    requires within { at + 4 + shape.slots ≤ length memory.old.words }
+    requires small { at < 1073741824 }
+    ensures words { memory.new ≡ with_words memory.old (written at (newborn_words shape) memory.old.words) }
+    ensures means { shape_in (first_word shape) (second_word shape) ≡ shape }
+{
+    let header = Header::of(shape);
+    memory.fill(at, HEADER_WORDS + shape.slots, 0);
+    memory.set(at, header.first);
+    memory.set(at + 1, header.second);
+}
+
+impl Heap {
+    /// Makes an object, whose slots are 0, in the lowest cell for it. It is refused where there is none. What runs
+    /// another family has parked stay parked.
+    pub fn create<L: Ledger>(
+        &mut self,
+        pages: &mut PageHeap,
+        shape: Shape,
+        colour: Colour,
+        steps: &mut Steps<L>,
+    ) -> Result<u32, NoRun>
+        requires shape { IsShape shape }
+        requires fits { FitsHeap self.old pages.old }
+        ensures place { IsPlaceFor (cells_in self.old) pages.old (size_of (object_bytes shape.slots)) (found_in result) }
+        ensures created { IfOk result (λ base. self.new ≡ record self.old {
+          objects = with_entry base (Some (newly_stored shape colour)) self.old.objects;
+          runs = slice_set self.old.runs (base / 4096) (run_length (size_of (object_bytes shape.slots)));
+          raw = self.new.raw;
+        }) }
+        ensures was_none { IfOk result (λ base. slice_get self.old.objects (base / 16) ≡ Some None) }
+        ensures raw { IfOk result (λ base.
+            TakesWords self.old.raw self.new.raw base (extent_of (object_bytes shape.slots))) }
+        ensures heap { IfOk result (λ base. pages.new ≡
+            with_parked pages.old (base / 4096) (run_length (size_of (object_bytes shape.slots)))) }
+        ensures unchanged { OnErr result ((self.new ≡ self.old) × (pages.new ≡ pages.old)) }
+        ensures fits { FitsHeap self.new pages.new }
+        ensures others { (runs : List ℕ) → AreParked runs pages.old → AreParked runs pages.new }
+        ensures sound { IsSound self.new }
+    {
+        let base = self
+            .cells
+            .place(pages, object_bytes(shape.slots), colour, steps)?;
+        self.cells.set_flags(base, flags_for(shape.finalize), steps);
+        write_newborn(&mut self.memory, base / WORD_BYTES, shape);
+        Ok(base)
+    }
+
+    /// Takes an object away. Its cell is free, and its page or its pages are once no object lies in them.
+    pub fn erase<L: Ledger>(&mut self, pages: &mut PageHeap, base: u32, steps: &mut Steps<L>)
+        requires object { IsObject self.old base }
+        requires fits { FitsHeap self.old pages.old }
+        ensures erased { self.new ≡ record self.old {
+          objects = with_entry base None self.old.objects;
+          runs = self.new.runs;
+          raw = self.new.raw;
+        } }
+        ensures page { LeavesPage (cells_in self.old) (cells_in self.new) pages.old (base / 4096) pages.new }
+        ensures raw { (object : StoredObject) → Begins self.old.objects base object
+            → LeavesWords self.old.raw self.new.raw base object.extent }
+        ensures fits { FitsHeap self.new pages.new }
+        ensures others { (runs : List ℕ) → slice_index runs (base / 4096) ≡ 0 → AreParked runs pages.old
+            → AreParked runs pages.new }
+        ensures sound { IsSound self.new }
+        ensures cost { IsQuick pages.old.pages steps.old steps.new }
+    {
+        self.cells.release(pages, base, steps);
+    }
+}
