@@ -1,12 +1,13 @@
 -- What a heap keeps of an object.
-use Rattle.std.specs.Prelude.{ℕ, ◌+◌, ◌/◌, ◌%◌, ◌^◌, ◌==◌, Bool, false, if◌then◌else◌, List, length, replicate, slice_index, Option, Some, None}
+use Rattle.std.specs.Prelude.{ℕ, ◌+◌, ◌/◌, ◌%◌, ◌^◌, ◌==◌, Bool, false, if◌then◌else◌, List, map, length, replicate, slice_index, Option, Some, None}
+use Rattle.std.specs.Option.{option_map}
 use Rattle.mm_model.specs.declared.object.Kind.{Kind}
 use Rattle.mm_model.specs.declared.object.Colour.{Colour}
 use Rattle.mm_model.specs.declared.object.Shape.{Shape}
 use Rattle.mm_model.specs.Object.{is_scanned}
 use Rattle.mm_model.specs.Words.{SlotKind, CountedSlot, WordSlot, RawSlot, slot_kind_at}
 use Rattle.mm_model.specs.SizeClass.{extent_of, object_bytes}
-use Rattle.mm_model.specs.ObjectView.{ObjectView}
+use Rattle.mm_model.specs.ObjectView.{ObjectView, ObjectsByBase}
 use Rattle.mm_cells.specs.declared.marks.CellBits.{CellBits}
 use Rattle.mm_object.specs.declared.slot.Slot.{Slot}
 use Rattle.mm_object.specs.declared.slot.Slot.TheVariants.{Count, Word, Raw}
@@ -44,6 +45,10 @@ view_of_stored object =
       partner = if object.link == 0 then None else Some object.link;
       colour = object.colour;
     }
+
+-- what it sees of all of them, entry by entry
+abbrev pub views_of : StoredObjects → ObjectsByBase
+views_of objects = map (option_map view_of_stored) objects
 
 abbrev pub shape_of : StoredObject → Shape
 shape_of object =
