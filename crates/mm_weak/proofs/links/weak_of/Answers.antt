@@ -1,0 +1,105 @@
+use Rattle.std.proofs.Common.{Some, sym, ap, ◌∙◌}
+use Rattle.mm_model.specs.Effect.{weak_shape}
+use Rattle.mm_object.specs.Object.{newly_stored}
+use Rattle.mm_weak.proofs.Partners.{partner-link, partner-no_link}
+use Rattle.mm_weak.proofs.Making.{IsBorn, begins-born, begins-target, born-apart, made-joined, fits-joined, linked-joined, kept_in-Err}
+use Rattle.mm_weak.proofs.links.weak_of.Given as given
+use Rattle.mm_weak.proofs.links.weak_of.Goals as goal
+
+pub returns-then-kept-ne0-clause-kept : goal.returns-then-kept-ne0-clause-kept
+returns-then-kept-ne0-clause-kept g c =
+    λ object begins.
+    let link = c.link-kept.ensures.word object begins in
+    ap Some link ∙ sym (partner-link object (λ none. c.if-kept-ne0.true (link ∙ none)))
+
+pub returns-in_err-w-clause-kept : goal.returns-in_err-w-clause-kept
+returns-in_err-w-clause-kept g c =
+    λ object begins.
+    kept_in-Err c.from_residual.result c.from_residual.ensures.0
+    ∙ sym (partner-no_link object (sym (c.link-kept.ensures.word object begins) ∙ c.if-kept-ne0.false))
+
+pub join-requires-clause-target : goal.join-requires-clause-target
+join-requires-clause-target g c =
+    let target = c.requires.target in (
+      target.object,
+      begins-target c.args.heap.now c.create.new.self c.in_ok-w.w c.args.colour
+          (record {
+            heap = c.args.pages.now;
+            place = c.in_ok-w.ensures.place;
+            was_none = c.in_ok-w.ensures.was_none;
+            created = c.in_ok-w.ensures.created;
+          })
+          c.args.base target.object target.begins,
+    )
+
+pub join-requires-clause-weak : goal.join-requires-clause-weak
+join-requires-clause-weak g c = (
+  newly_stored weak_shape c.args.colour,
+  begins-born c.args.heap.now c.create.new.self c.in_ok-w.w c.args.colour
+      (record {
+        heap = c.args.pages.now;
+        place = c.in_ok-w.ensures.place;
+        was_none = c.in_ok-w.ensures.was_none;
+        created = c.in_ok-w.ensures.created;
+      }),
+)
+
+pub join-requires-clause-apart : goal.join-requires-clause-apart
+join-requires-clause-apart g c =
+    let target = c.requires.target in
+    born-apart c.args.heap.now c.create.new.self c.in_ok-w.w c.args.colour
+    (record {
+      heap = c.args.pages.now;
+      place = c.in_ok-w.ensures.place;
+      was_none = c.in_ok-w.ensures.was_none;
+      created = c.in_ok-w.ensures.created;
+    })
+    c.args.base target.object target.begins
+
+pub returns-clause-kept : goal.returns-clause-kept
+returns-clause-kept g c =
+    λ object begins.
+    sym (partner-no_link object (sym (c.link-kept.ensures.word object begins) ∙ c.if-kept-ne0.false))
+
+born : (g : given.Over) (c : goal.After-join g) → IsBorn c.args.heap.now c.create.new.self c.in_ok-w.w c.args.colour
+born g c =
+    record {
+      heap = c.args.pages.now;
+      place = c.in_ok-w.ensures.place;
+      was_none = c.in_ok-w.ensures.was_none;
+      created = c.in_ok-w.ensures.created;
+    }
+
+pub returns-clause-made : goal.returns-clause-made
+returns-clause-made g c =
+    let target = c.requires.target in
+    made-joined c.args.heap.now c.create.new.self c.in_ok-w.w c.args.colour (born g c) c.args.base target.object
+    target.begins c.join.new.heap
+    (c.join.ensures.partners target.object (newly_stored weak_shape c.args.colour)
+    (begins-target c.args.heap.now c.create.new.self c.in_ok-w.w c.args.colour (born g c) c.args.base target.object
+    target.begins)
+    (begins-born c.args.heap.now c.create.new.self c.in_ok-w.w c.args.colour (born g c)))
+    c.in_ok-w.ensures.raw
+
+pub returns-clause-linked : goal.returns-clause-linked
+returns-clause-linked g c =
+    let target = c.requires.target in
+    linked-joined c.args.heap.now c.create.new.self c.in_ok-w.w c.args.colour (born g c) c.args.base target.object
+    target.begins c.join.new.heap
+    (c.join.ensures.partners target.object (newly_stored weak_shape c.args.colour)
+    (begins-target c.args.heap.now c.create.new.self c.in_ok-w.w c.args.colour (born g c) c.args.base target.object
+    target.begins)
+    (begins-born c.args.heap.now c.create.new.self c.in_ok-w.w c.args.colour (born g c)))
+    c.requires.linked target.kind (sym (c.link-kept.ensures.word target.object target.begins) ∙ c.if-kept-ne0.false)
+    c.in_ok-w.ensures.sound
+
+pub returns-clause-fits : goal.returns-clause-fits
+returns-clause-fits g c =
+    let target = c.requires.target in
+    fits-joined c.args.heap.now c.create.new.self c.in_ok-w.w c.args.colour (born g c) c.args.base target.object
+    target.begins c.join.new.heap
+    (c.join.ensures.partners target.object (newly_stored weak_shape c.args.colour)
+    (begins-target c.args.heap.now c.create.new.self c.in_ok-w.w c.args.colour (born g c) c.args.base target.object
+    target.begins)
+    (begins-born c.args.heap.now c.create.new.self c.in_ok-w.w c.args.colour (born g c)))
+    c.create.new.pages c.in_ok-w.ensures.fits
