@@ -112,10 +112,11 @@ couple-at h base target w linked begins flag link =
     subst (λ (n : ℕ). IsCouple h.objects base n) (sym link) (couple-of_target h base target linked begins flag)
 
 pub couple-named : (h : Heap) (w : ℕ) (weak : StoredObject) (base : ℕ) → IsLinked h → Begins h.objects w weak
-    → is_weak weak.kind ≡ true → base ≢ 0 → base ≡ weak.link → IsCouple h.objects base w
-couple-named h w weak base linked begins kind some link =
-    subst (λ (n : ℕ). IsCouple h.objects n w) (sym link)
-    (couple-of_weak h w weak linked begins kind (λ none. some (link ∙ none)))
+    → is_weak weak.kind ≡ true → partner_of weak ≡ Some base → IsCouple h.objects base w
+couple-named h w weak base linked begins kind e =
+    let to = link-partner weak base e in
+    subst (λ (n : ℕ). IsCouple h.objects n w) to.link
+    (couple-of_weak h w weak linked begins kind (λ none. to.some (sym to.link ∙ none)))
 
 -- the two lie apart
 pub couple-apart : (objects : StoredObjects) (base w : ℕ) → IsCouple objects base w → base ≡ w → ⊥

@@ -120,9 +120,3 @@ module _ (h m : Heap) (w : ℕ) (colour : Colour) (born : IsBorn h m w colour) w
           let weak_inside = (sound.inside w (newly_stored weak_shape colour) begins-born).from in
           IsLinked-made h f base w grain.0 colour target linked begins kind alone (λ zero. omega arith)
           (λ zero. omega arith) born-apart grain.1 was_none objects-joined
-
--- a refusal keeps nothing
-pub kept_in-Err : {E : Type 0} (result : Result WeakAnswer E) → IsErr result → kept_in result ≡ None
-kept_in-Err (Ok (Made w)) refused = refl
-kept_in-Err (Ok (Kept w)) refused = absurd (cc)
-kept_in-Err (Err e) refused = refl

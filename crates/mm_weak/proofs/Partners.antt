@@ -23,6 +23,9 @@ partner-link object some = split (object.link == 0) refl
 pub partner-no_link : (object : StoredObject) → object.link ≡ 0 → partner_of object ≡ None
 partner-no_link object none = ap (λ b. if b then None else Some object.link) (eq-eqb object.link 0 none)
 
+pub none-not_some : {n : ℕ} → ◌≡◌ {A = Option ℕ} None (Some n) → ⊥
+none-not_some e = cc
+
 -- and the partner is the link
 pub record IsLinkTo (object : StoredObject) (other : ℕ) : Type 0 where
   pub link : object.link ≡ other
@@ -41,6 +44,15 @@ link-partner object other e = split (object.link == 0) refl
       where
         clash : true ≡ false → ⊥
         clash e = cc
+
+pub partner-none : (object : StoredObject) → partner_of object ≡ None → object.link ≡ 0
+partner-none object e = split (object.link == 0) refl
+  where
+    split : (b : Bool) → (object.link == 0) ≡ b → object.link ≡ 0
+    split true is = eqb-true object.link 0 is
+    split false is =
+        let some : partner_of object ≡ Some object.link = ap (λ b. if b then None else Some object.link) is in
+        absurd (cc)
 
 begins-view : (objects : StoredObjects) (base : ℕ) (object : StoredObject) → Begins objects base object
     → Begins (views_of objects) base (view_of_stored object)

@@ -1,10 +1,10 @@
 // Weak objects and their targets, which name each other by their links.
-ghost use Rattle.std.specs.Prelude.{◌≡◌, ◌≢◌, ◌+◌, ◌/◌, ◌≤◌, ℕ, List, IfSome, Some, None, true, false};
+ghost use Rattle.std.specs.Prelude.{◌≡◌, ◌≢◌, ◌+◌, ◌/◌, ◌≤◌, ℕ, List, IfSome, IfOk, OnErr, Some, None, true, false};
 ghost use Rattle.mm_model.specs.SizeClass.{size_of};
 ghost use Rattle.mm_model.specs.ByBase.{Begins};
 ghost use Rattle.mm_pages.specs.Pages.{with_parked};
 ghost use Rattle.mm_pages.specs.Parked.{AreParked};
-ghost use Rattle.mm_cells.specs.Placing.{IsPlaceFor};
+ghost use Rattle.mm_cells.specs.Placing.{IsPlaceFor, found_in};
 ghost use Rattle.mm_object.specs.Object.{StoredObject};
 ghost use Rattle.mm_object.specs.Heap.{cells_in, with_object, IsObject, IsSound, FitsHeap};
 ghost use Rattle.mm_weak.specs.Links.{IsLinked, IsTarget, IsWeakAt, IsTargetOf, IsWeakMade, IsParted};
@@ -25,6 +25,17 @@ const WEAK_SHAPE: Shape = Shape {
     counted: 0,
     slots: 0,
 };
+
+/// The partner of the object at `base`, if it has one.
+fn partner<L: Ledger>(heap: &Heap, base: u32, steps: &mut Steps<L>) -> Option<u32>
+    requires { IsObject heap.now base }
+    ensures partner { (object : StoredObject) → Begins heap.now.objects base object → result ≡ partner_of object }
+    ensures sound { IsSound heap.now }
+    ensures cost { steps.new ≡ steps.old + 1 }
+{
+    let link = heap.link(base, steps);
+    if link == 0 { None } else { Some(link) }
+}
 
 /// Whether the object at `base` has a weak object, by its flags.
 fn has_weak<L: Ledger>(heap: &Heap, base: u32, steps: &mut Steps<L>) -> bool
@@ -78,6 +89,32 @@ fn part<L: Ledger>(heap: &mut Heap, base: u32, w: u32, steps: &mut Steps<L>)
     set_has_weak(heap, base, false, steps);
 }
 
+/// Makes the weak object of an object that has none.
+fn make_for<L: Ledger>(
+    heap: &mut Heap,
+    pages: &mut PageHeap,
+    base: u32,
+    colour: Colour,
+    steps: &mut Steps<L>,
+) -> Result<u32, NoRun>
+    requires target { IsTarget heap.old base }
+    requires alone { (object : StoredObject) → Begins heap.old.objects base object → partner_of object ≡ None }
+    requires linked { IsLinked heap.old }
+    requires fits { FitsHeap heap.old pages.old }
+    ensures place { IsPlaceFor (cells_in heap.old) pages.old (size_of 16) (found_in result) }
+    ensures made { IfOk result (λ w. IsWeakMade heap.old base colour w heap.new) }
+    ensures heap { IfOk result (λ w. pages.new ≡ with_parked pages.old (w / 4096) 1) }
+    ensures unchanged { OnErr result ((heap.new ≡ heap.old) × (pages.new ≡ pages.old)) }
+    ensures linked { IsLinked heap.new }
+    ensures fits { FitsHeap heap.new pages.new }
+    ensures others { (runs : List ℕ) → AreParked runs pages.old → AreParked runs pages.new }
+    ensures sound { IsSound heap.new }
+{
+    let w = heap.create(pages, WEAK_SHAPE, colour, steps)?;
+    join(heap, base, w, steps);
+    Ok(w)
+}
+
 /// The weak object of the object at `base`, which is made where it has none. It is refused where there is no place for
 /// one. A new one is found by its target's link from then on.
 pub fn weak_of<L: Ledger>(
@@ -102,13 +139,13 @@ pub fn weak_of<L: Ledger>(
     ensures others { (runs : List ℕ) → AreParked runs pages.old → AreParked runs pages.new }
     ensures sound { IsSound heap.new }
 {
-    let kept = heap.link(base, steps);
-    if kept != 0 {
-        return Ok(WeakAnswer::Kept(kept));
+    match partner(heap, base, steps) {
+        Some(w) => Ok(WeakAnswer::Kept(w)),
+        None => {
+            let w = make_for(heap, pages, base, colour, steps)?;
+            Ok(WeakAnswer::Made(w))
+        }
     }
-    let w = heap.create(pages, WEAK_SHAPE, colour, steps)?;
-    join(heap, base, w, steps);
-    Ok(WeakAnswer::Made(w))
 }
 
 /// The target of a weak object, or 0 once it was cleared.
@@ -152,8 +189,7 @@ pub fn forget<L: Ledger>(heap: &mut Heap, w: u32, steps: &mut Steps<L>)
     ensures sound { IsSound heap.new }
     ensures cost { steps.new ≤ steps.old + 8 }
 {
-    let base = heap.link(w, steps);
-    if base != 0 {
+    if let Some(base) = partner(heap, w, steps) {
         part(heap, base, w, steps);
     }
 }

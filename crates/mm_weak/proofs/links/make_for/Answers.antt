@@ -1,22 +1,9 @@
-use Rattle.std.proofs.Common.{Some, sym, ap, ◌∙◌}
 use Rattle.mm_model.specs.Effect.{weak_shape}
 use Rattle.mm_object.specs.Object.{newly_stored}
-use Rattle.mm_weak.proofs.Partners.{partner-link, partner-no_link}
-use Rattle.mm_weak.proofs.Making.{IsBorn, begins-born, begins-target, born-apart, made-joined, fits-joined, linked-joined, kept_in-Err}
-use Rattle.mm_weak.proofs.links.weak_of.Given as given
-use Rattle.mm_weak.proofs.links.weak_of.Goals as goal
-
-pub returns-then-kept-ne0-clause-kept : goal.returns-then-kept-ne0-clause-kept
-returns-then-kept-ne0-clause-kept g c =
-    λ object begins.
-    let link = c.link-kept.ensures.word object begins in
-    ap Some link ∙ sym (partner-link object (λ none. c.if-kept-ne0.true (link ∙ none)))
-
-pub returns-in_err-w-clause-kept : goal.returns-in_err-w-clause-kept
-returns-in_err-w-clause-kept g c =
-    λ object begins.
-    kept_in-Err c.from_residual.result c.from_residual.ensures.0
-    ∙ sym (partner-no_link object (sym (c.link-kept.ensures.word object begins) ∙ c.if-kept-ne0.false))
+use Rattle.mm_weak.proofs.Partners.{partner-none}
+use Rattle.mm_weak.proofs.Making.{IsBorn, begins-born, begins-target, born-apart, made-joined, fits-joined, linked-joined}
+use Rattle.mm_weak.proofs.links.make_for.Given as given
+use Rattle.mm_weak.proofs.links.make_for.Goals as goal
 
 pub join-requires-clause-target : goal.join-requires-clause-target
 join-requires-clause-target g c =
@@ -56,11 +43,6 @@ join-requires-clause-apart g c =
     })
     c.args.base target.object target.begins
 
-pub returns-clause-kept : goal.returns-clause-kept
-returns-clause-kept g c =
-    λ object begins.
-    sym (partner-no_link object (sym (c.link-kept.ensures.word object begins) ∙ c.if-kept-ne0.false))
-
 born : (g : given.Over) (c : goal.After-join g) → IsBorn c.args.heap.now c.create.new.self c.in_ok-w.w c.args.colour
 born g c =
     record {
@@ -90,7 +72,7 @@ returns-clause-linked g c =
     (begins-target c.args.heap.now c.create.new.self c.in_ok-w.w c.args.colour (born g c) c.args.base target.object
     target.begins)
     (begins-born c.args.heap.now c.create.new.self c.in_ok-w.w c.args.colour (born g c)))
-    c.requires.linked target.kind (sym (c.link-kept.ensures.word target.object target.begins) ∙ c.if-kept-ne0.false)
+    c.requires.linked target.kind (partner-none target.object (c.requires.alone target.object target.begins))
     c.in_ok-w.ensures.sound
 
 pub returns-clause-fits : goal.returns-clause-fits
