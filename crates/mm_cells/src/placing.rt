@@ -1,5 +1,5 @@
 // Taking cells and giving them back.
-ghost use Rattle.std.specs.Prelude.{◌≡◌, ◌*◌, ◌/◌, ◌≤◌, ◌<◌, ℕ, List, Some, None, IfOk, OnErr, slice_index};
+ghost use Rattle.std.specs.Prelude.{◌≡◌, ◌+◌, ◌*◌, ◌/◌, ◌≤◌, ◌<◌, ℕ, List, Some, None, IfOk, OnErr, slice_index};
 ghost use Rattle.mm_model.specs.declared.object.Size.TheVariants.{Small, Pages};
 ghost use Rattle.mm_model.specs.SizeClass.{size_of, extent_of};
 ghost use Rattle.mm_pages.specs.Pages.{with_parked, IsQuick};
@@ -19,7 +19,8 @@ use std::sync::ledger::Ledger;
 
 impl Cells {
     /// Takes the lowest cell for so many bytes: a free cell in a page of their class, or in a fresh page, or else whole
-    /// pages. It is refused where there is none. What runs another family has parked stay parked.
+    /// pages. It is refused where there is none. What runs another family has parked stay parked. Each page that it takes
+    /// counts, beside the work on the page heap.
     pub fn place<L: Ledger>(
         &mut self,
         pages: &mut PageHeap,
@@ -41,7 +42,7 @@ impl Cells {
         ensures parked { AreParked self.new.runs pages.new }
         ensures others { (runs : List ℕ) → AreParked runs pages.old → AreParked runs pages.new }
         ensures sound { IsSoundCells self.new }
-        ensures cost { IsQuick pages.old.pages steps.old steps.new }
+        ensures cost { IsQuick pages.old.pages (steps.old + run_length (size_of bytes)) steps.new }
     {
         match class_of(bytes) {
             Size::Small(class) => self.place_small(pages, class, colour, steps),
@@ -95,8 +96,9 @@ impl Cells {
         ensures parked { AreParked self.new.runs pages.new }
         ensures others { (runs : List ℕ) → AreParked runs pages.old → AreParked runs pages.new }
         ensures sound { IsSoundCells self.new }
-        ensures cost { IsQuick pages.old.pages steps.old steps.new }
+        ensures cost { IsQuick pages.old.pages (steps.old + 1) steps.new }
     {
+        steps.tick();
         match self.table.page_with_room(class) {
             Some(page) => Ok(take_cell(&mut self.table, page, class, colour)),
             None => match pages.park_lowest(1, steps) {
@@ -128,8 +130,9 @@ impl Cells {
         ensures parked { AreParked self.new.runs pages.new }
         ensures others { (runs : List ℕ) → AreParked runs pages.old → AreParked runs pages.new }
         ensures sound { IsSoundCells self.new }
-        ensures cost { IsQuick pages.old.pages steps.old steps.new }
+        ensures cost { IsQuick pages.old.pages (steps.old + count) steps.new }
     {
+        steps.add(count);
         match pages.park_lowest(count, steps) {
             Ok(first) => {
                 take_pages(&mut self.table, first, count, colour);

@@ -1,23 +1,23 @@
 -- The words of memory that lie in no object: what is read there, and a write there.
-use Rattle.std.proofs.Common.{◌≡◌, ◌≢◌, ℕ, ◌+◌, ◌*◌, ◌/◌, ◌<◌, ◌≤◌, ◌⊎◌, Bool, true, false, List, length, get_or, Option, Some, None, inl, inr, refl, sym, ap, subst, ◌∙◌, arith}
+use Rattle.std.proofs.Common.{◌≡◌, ◌≢◌, ℕ, ◌+◌, ◌*◌, ◌/◌, ◌<◌, ◌≤◌, true, false, List, length, get_or, Option, Some}
+use Rattle.std.proofs.Common.{inl, inr, refl, sym, ap, subst, ◌∙◌, arith}
 use Rattle.std.specs.Prelude.{slice_get, slice_set, set}
 use Rattle.std.specs.Option.{option_map}
-use Rattle.std.proofs.lemmas.Bool.{cases_lt, cases_eq, false_from_ne_true}
+use Rattle.std.proofs.lemmas.Bool.{cases_eq}
 use Rattle.std.proofs.lemmas.List.{length-set, get_or-set_other}
-use Rattle.std.proofs.lemmas.Option.{slice_get_within, slice_get-get_or, get_or_from_slice_get}
-use Rattle.mm_model.specs.ByBase as bases
+use Rattle.std.proofs.lemmas.Option.{slice_get_within, get_or_from_slice_get}
 use Rattle.mm_model.proofs.View.Entries.{same_entries}
 use Rattle.mm_model.proofs.Lists.Replaced.{get-set_same, get-set_other}
 use Rattle.mm_words.specs.Piece.{Piece, with_words}
 use Rattle.mm_words.specs.Location.{location_of}
-use Rattle.mm_cells.specs.Cells.{Taken, Cells, Begins, IsSoundCells}
+use Rattle.mm_cells.specs.Cells.{Taken, Cells, Begins}
 use Rattle.mm_object.specs.Object.{StoredObject}
 use Rattle.mm_object.specs.Heap.{Heap, IsRaw, with_raw}
-use Rattle.mm_object.specs.Kept.{extent_words, object_at, object_told, objects_from, heap_of, raw_from, is_covered, IsHeaded, KeepsHeap}
+use Rattle.mm_object.specs.Kept.{extent_words, object_told, objects_from, heap_of, raw_from, is_covered, IsHeaded}
+use Rattle.mm_object.specs.Kept.{KeepsHeap}
 use Rattle.mm_object.proofs.Extents.{extent_words-same}
 use Rattle.mm_object.proofs.Objects.{objects-alike}
-use Rattle.mm_object.proofs.RawWords.{IsCovering, IsBare, is_covered_at, raw_at-bare, raw_at-some, get-raw, kept_raw}
-use Rattle.mm_object.proofs.Writes.{get-same}
+use Rattle.mm_object.proofs.RawWords.{is_covered_at, raw_at-bare, raw_at-some, get-raw, kept_raw}
 
 -- where such a word stands
 pub record IsBareAt (memory : Piece) (cells : Cells) (address word : ℕ) : Type 0 where

@@ -1,18 +1,20 @@
 -- A cell is taken for an object, or given back.
-use Rattle.std.proofs.Common.{◌≡◌, ◌≢◌, ℕ, ◌+◌, ◌*◌, ◌/◌, ◌<◌, ◌≤◌, ◌⊎◌, List, length, get_or, Option, Some, None, inl, inr, refl, sym, ap, subst, ◌∙◌, arith}
+use Rattle.std.proofs.Common.{◌≡◌, ◌≢◌, ℕ, ◌+◌, ◌*◌, ◌/◌, ◌<◌, ◌≤◌, List, length, get_or, Option, Some, None, refl}
+use Rattle.std.proofs.Common.{sym, ap, subst, ◌∙◌, arith}
 use Rattle.std.specs.Prelude.{Bool, if◌then◌else◌, slice_get, slice_set}
 use Rattle.std.specs.Option.{option_map}
-use Rattle.std.proofs.lemmas.Bool.{cases_eq}
-use Rattle.std.proofs.lemmas.Option.{slice_get_within, slice_get-get_or}
+use Rattle.std.proofs.lemmas.Option.{slice_get-get_or}
 use Rattle.mm_model.specs.ByBase as bases
 use Rattle.mm_words.specs.Piece.{Piece, with_words}
 use Rattle.mm_words.specs.Location.{location_of}
 use Rattle.mm_cells.specs.Cells.{Taken, Cells, with_cell, Begins, IsSoundCells}
 use Rattle.mm_object.specs.Object.{StoredObject}
-use Rattle.mm_object.specs.Heap.{Heap, TakesWords, LeavesWords}
-use Rattle.mm_object.specs.Kept.{extent_words, object_at, object_told, objects_from, heap_of, raw_from, is_covered, IsHeaded, KeepsHeap}
+use Rattle.mm_object.specs.Heap.{TakesWords}
+use Rattle.mm_object.specs.Kept.{extent_words, object_at, object_told, objects_from, heap_of, raw_from, IsHeaded}
+use Rattle.mm_object.specs.Kept.{KeepsHeap}
 use Rattle.mm_object.proofs.Objects.{objects-changed, get-objects}
-use Rattle.mm_object.proofs.RawWords.{IsCovering, covered-alike, is_covered_at, covered_by, length-raw_from, get-raw, kept_raw, raw_at-none, raw_at-some}
+use Rattle.mm_object.proofs.RawWords.{IsCovering, covered-alike, is_covered_at, length-raw_from, get-raw, kept_raw}
+use Rattle.mm_object.proofs.RawWords.{raw_at-none}
 use Rattle.mm_object.proofs.Writes.{ChangesWithin, extent-apart, get-same}
 use Rattle.mm_object.proofs.Recolouring.{IsBegun, is_here, is_other, begun, begins-still, begins-here}
 use Rattle.mm_object.proofs.Vacant.{IsVacant}

@@ -1,5 +1,6 @@
 -- What the calls on one object read and write.
-use Rattle.std.proofs.Common.{◌≡◌, ℕ, suc, ◌+◌, ◌-◌, ◌*◌, ◌/◌, ◌<◌, ◌≤◌, Bool, true, false, List, [], length, take, drop, get_or, Some, refl, sym, ap, subst, ◌∙◌, arith}
+use Rattle.std.proofs.Common.{◌≡◌, ℕ, suc, ◌+◌, ◌-◌, ◌*◌, ◌/◌, ◌<◌, ◌≤◌, Bool, true, false, List, [], length, take}
+use Rattle.std.proofs.Common.{drop, get_or, Some, refl, sym, ap, subst, ◌∙◌, arith}
 use Rattle.std.specs.Prelude.{if◌then◌else◌, slice_set, slice_index, slice_range, set}
 use Rattle.std.proofs.lemmas.List.{get_or-take, get_or-drop, take-take, take_all, drop-take, drop-drop}
 use Rattle.mm_model.specs.declared.object.Colour.{Colour}
@@ -13,7 +14,7 @@ use Rattle.mm_cells.specs.Cells.{Taken, Cells, with_cell, Begins, IsTaken, IsSou
 use Rattle.mm_object.specs.Object.{StoredObject, shape_of, flags_with, has_finalizer, has_weak_object}
 use Rattle.mm_object.specs.Heap.{Heap, with_object, Covers, FallsInNone, HasSlot, IsSound}
 use Rattle.mm_object.specs.Header.{shape_in}
-use Rattle.mm_object.specs.Kept.{shape_told, extent_words, object_told, object_at, heap_of, IsHeaded, KeepsHeap}
+use Rattle.mm_object.specs.Kept.{shape_told, extent_words, object_told, object_at, heap_of, KeepsHeap}
 use Rattle.mm_object.proofs.Extents.{extent_words-get}
 use Rattle.mm_object.proofs.Objects.{object-begins}
 use Rattle.mm_object.proofs.Sound.{length-extent, length-slots, shape-object, covers-cell, cell-covers, IsSound-kept}

@@ -1,5 +1,6 @@
 -- A heap once an object was made in it.
-use Rattle.std.proofs.Common.{◌≡◌, ℕ, ◌+◌, ◌*◌, ◌/◌, ◌<◌, ◌≤◌, Bool, false, List, length, Option, Some, None, refl, sym, ap, subst, ◌∙◌, arith}
+use Rattle.std.proofs.Common.{◌≡◌, ℕ, ◌+◌, ◌/◌, ◌≤◌, false, List, length, Option, Some, None, refl, sym, ap, subst}
+use Rattle.std.proofs.Common.{◌∙◌, arith}
 use Rattle.std.specs.Prelude.{Result, Ok, Err, IsErr, slice_get, slice_set}
 use Rattle.std.proofs.lemmas.List.{set-set}
 use Rattle.mm_model.specs.declared.object.Shape.{Shape}
@@ -17,7 +18,7 @@ use Rattle.mm_cells.specs.Placing.{IsPlaceFor, found_in, run_length}
 use Rattle.mm_object.specs.Object.{StoredObject, newly_stored, flags_with}
 use Rattle.mm_object.specs.Header.{IsShape, shape_in, first_word, second_word}
 use Rattle.mm_object.specs.Heap.{Heap, cells_in, FitsHeap, TakesWords}
-use Rattle.mm_object.specs.Kept.{extent_words, object_told, newborn_words, objects_from, raw_from, heap_of, IsHeaded, KeepsHeap}
+use Rattle.mm_object.specs.Kept.{object_told, newborn_words, objects_from, raw_from, heap_of, IsHeaded, KeepsHeap}
 use Rattle.mm_object.proofs.Born.{changed_cells, born-heap, born-kept, born-raw, born-none}
 use Rattle.mm_object.proofs.Newborn.{newborn_cell, told-newborn, headed-newborn, extent-newborn, changes-newborn}
 use Rattle.mm_object.proofs.Recolouring.{begins-here}

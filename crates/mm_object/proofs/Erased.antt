@@ -1,11 +1,11 @@
 -- A heap once an object was taken away.
-use Rattle.std.proofs.Common.{◌≡◌, ℕ, ◌+◌, ◌*◌, ◌/◌, ◌≤◌, List, length, Option, Some, None, refl, sym, ap, subst, ◌∙◌, arith}
-use Rattle.std.specs.Prelude.{slice_get, slice_set}
+use Rattle.std.proofs.Common.{◌≡◌, ℕ, ◌/◌, ◌≤◌, length, None, refl, sym, ap, subst, ◌∙◌, arith}
+use Rattle.std.specs.Prelude.{slice_set}
 use Rattle.mm_model.specs.ByBase as bases
 use Rattle.mm_words.specs.Piece.{Piece}
 use Rattle.mm_pages.specs.Pages as heaps
 use Rattle.mm_pages.specs.Parked.{AreParked}
-use Rattle.mm_cells.specs.Cells.{Taken, Cells, with_cell, Begins, IsSoundCells}
+use Rattle.mm_cells.specs.Cells.{Cells, IsSoundCells}
 use Rattle.mm_cells.specs.Placing.{LeavesPage, Page_stays, Page_goes}
 use Rattle.mm_object.specs.Object.{StoredObject}
 use Rattle.mm_object.specs.Heap.{Heap, cells_in, FitsHeap, LeavesWords}

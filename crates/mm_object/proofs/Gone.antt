@@ -1,19 +1,20 @@
 -- A cell is given back: its object is gone, and its words lie in no object.
-use Rattle.std.proofs.Common.{◌≡◌, ◌≢◌, ℕ, ◌+◌, ◌*◌, ◌/◌, ◌<◌, ◌≤◌, ◌⊎◌, Bool, true, false, List, length, get_or, Option, Some, None, inl, inr, refl, sym, ap, subst, ◌∙◌, arith}
-use Rattle.std.specs.Prelude.{slice_get, slice_set}
-use Rattle.std.proofs.lemmas.Bool.{cases_lt, false_from_ne_true}
+use Rattle.std.proofs.Common.{◌≡◌, ◌≢◌, ℕ, ◌+◌, ◌*◌, ◌/◌, ◌<◌, ◌≤◌, List, length, get_or, Option, Some, None, inl}
+use Rattle.std.proofs.Common.{inr, refl, sym, ap, subst, ◌∙◌, arith}
+use Rattle.std.specs.Prelude.{slice_set}
+use Rattle.std.proofs.lemmas.Bool.{false_from_ne_true}
 use Rattle.std.proofs.lemmas.Option.{slice_get_within, slice_get-get_or}
 use Rattle.mm_model.specs.ByBase as bases
 use Rattle.mm_words.specs.Piece.{Piece}
-use Rattle.mm_cells.specs.Cells.{Taken, Cells, with_cell, Begins, IsSoundCells}
+use Rattle.mm_cells.specs.Cells.{Taken, Cells, Begins, IsSoundCells}
 use Rattle.mm_object.specs.Object.{StoredObject}
-use Rattle.mm_object.specs.Heap.{Heap, LeavesWords}
+use Rattle.mm_object.specs.Heap.{LeavesWords}
 use Rattle.mm_object.specs.Kept.{objects_from, heap_of, raw_from, is_covered, KeepsHeap}
 use Rattle.mm_object.proofs.Objects.{objects-changed}
 use Rattle.mm_object.proofs.RawWords.{IsCovering, covered_by, length-raw_from, raw_at-some}
 use Rattle.mm_object.proofs.Born.{changed_cells, raw-alike}
 use Rattle.mm_object.proofs.Writes.{one-cell}
-use Rattle.mm_object.proofs.Recolouring.{IsBegun, is_here, is_other, begun, begins-still}
+use Rattle.mm_object.proofs.Recolouring.{is_here, is_other, begun, begins-still}
 
 module _ (memory : Piece) (cells : Cells) (kept : KeepsHeap memory cells) (base : ℕ) (cell : Taken)
     (begins : Begins cells base cell) (runs : List ℕ) where

@@ -1,13 +1,12 @@
 -- A heap without objects.
-use Rattle.std.proofs.Common.{◌≡◌, ℕ, zero, suc, ◌+◌, ◌*◌, ◌/◌, ◌<◌, ◌≤◌, Bool, true, false, List, [], ◌∷◌, map, length, Option, Some, None, refl, sym, ap, ◌∙◌, arith}
+use Rattle.std.proofs.Common.{◌≡◌, ℕ, suc, ◌+◌, ◌*◌, ◌/◌, ◌≤◌, false, List, [], ◌∷◌, map, length, Option, Some, None}
+use Rattle.std.proofs.Common.{refl, ap, ◌∙◌}
 use Rattle.std.specs.Prelude.{slice_get, replicate}
-use Rattle.std.specs.List.{list_any}
-use Rattle.std.proofs.lemmas.Bool.{cases_Bool, false_from_ne_true}
+use Rattle.std.proofs.lemmas.Bool.{false_from_ne_true}
 use Rattle.mm_words.specs.Piece.{Piece}
-use Rattle.mm_words.specs.Location.{location_of}
-use Rattle.mm_cells.specs.Cells.{Taken, Cells, Begins, HasNoCell, IsSoundCells}
+use Rattle.mm_cells.specs.Cells.{Taken, Cells, HasNoCell, IsSoundCells}
 use Rattle.mm_object.specs.Object.{StoredObject}
-use Rattle.mm_object.specs.Heap.{Heap, fresh}
+use Rattle.mm_object.specs.Heap.{fresh}
 use Rattle.mm_object.specs.Kept.{objects_from, raw_from, is_covered, heap_of, KeepsHeap}
 use Rattle.mm_object.proofs.RawWords.{covered_by, kept_raw-some}
 

@@ -1,17 +1,20 @@
 -- The words of a new object.
-use Rattle.std.proofs.Common.{◌≡◌, ℕ, suc, ◌+◌, ◌-◌, ◌*◌, ◌/◌, ◌<◌, ◌≤◌, Bool, true, false, inl, inr, List, [], ◌∷◌, ◌++◌, length, take, drop, get_or, Option, Some, None, refl, sym, ap, subst, ◌∙◌, arith}
+use Rattle.std.proofs.Common.{◌≡◌, ℕ, ◌+◌, ◌-◌, ◌/◌, ◌<◌, ◌≤◌, Bool, true, false, inl, inr, List, ◌∷◌, ◌++◌, length}
+use Rattle.std.proofs.Common.{take, drop, refl, sym, ap, subst, ◌∙◌, arith}
 use Rattle.std.specs.Prelude.{replicate, set}
 use Rattle.std.proofs.lemmas.Bool.{cases_lt}
-use Rattle.std.proofs.lemmas.List.{get_or_past, length-replicate, length-append, take_at, take-append-drop, replicate-append-replicate, set-append_left, set-append_right, length-take-le, get_or-set_other, length-set}
+use Rattle.std.proofs.lemmas.List.{get_or_past, length-replicate, length-append, take_at, take-append-drop}
+use Rattle.std.proofs.lemmas.List.{replicate-append-replicate, set-append_left, set-append_right, length-take-le}
+use Rattle.std.proofs.lemmas.List.{length-set}
 use Rattle.mm_model.specs.declared.object.Shape.{Shape}
 use Rattle.mm_model.specs.declared.object.Colour.{Colour}
 use Rattle.mm_model.specs.SizeClass.{extent_of, object_bytes}
 use Rattle.mm_words.specs.Writes.{written}
 use Rattle.mm_words.proofs.Writes.{written-is, length-written, get_or-written-before, get_or-written-after}
 use Rattle.mm_cells.specs.Cells.{Taken}
-use Rattle.mm_object.specs.Object.{StoredObject, newly_stored, flags_with, has_weak_object}
+use Rattle.mm_object.specs.Object.{newly_stored, flags_with, has_weak_object}
 use Rattle.mm_object.specs.Header.{IsShape, shape_in, first_word, second_word}
-use Rattle.mm_object.specs.Kept.{shape_told, extent_words, object_told, newborn_words, IsHeaded}
+use Rattle.mm_object.specs.Kept.{extent_words, object_told, newborn_words, IsHeaded}
 use Rattle.mm_object.proofs.Extents.{extent_words-written}
 use Rattle.mm_object.proofs.Writes.{ChangesWithin}
 

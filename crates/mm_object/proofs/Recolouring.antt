@@ -1,16 +1,15 @@
 -- What is told of a cell changes, and its extent and finalizer stay.
-use Rattle.std.proofs.Common.{◌≡◌, ◌≢◌, ℕ, ◌+◌, ◌*◌, ◌/◌, ◌<◌, ◌≤◌, ◌⊎◌, List, length, get_or, Option, Some, None, inl, inr, refl, sym, ap, subst, ◌∙◌, arith}
+use Rattle.std.proofs.Common.{◌≡◌, ◌≢◌, ℕ, ◌*◌, ◌/◌, ◌<◌, List, length, get_or, Option, Some, None, inl, inr, refl}
+use Rattle.std.proofs.Common.{sym, ap, subst, ◌∙◌, arith}
 use Rattle.std.specs.Prelude.{slice_get, slice_set}
 use Rattle.std.proofs.lemmas.Bool.{cases_eq}
 use Rattle.std.proofs.lemmas.Option.{slice_get_within, slice_get-get_or}
-use Rattle.mm_model.specs.ByBase as bases
-use Rattle.mm_model.proofs.Lists.Replaced.{get-set_same, get-set_other, get-set_cases}
+use Rattle.mm_model.proofs.Lists.Replaced.{get-set_same, get-set_other}
 use Rattle.mm_words.specs.Piece.{Piece}
-use Rattle.mm_words.specs.Location.{location_of}
 use Rattle.mm_cells.specs.Cells.{Taken, Cells, with_cell, Begins, IsSoundCells}
 use Rattle.mm_object.specs.Object.{StoredObject}
-use Rattle.mm_object.specs.Heap.{Heap, with_object}
-use Rattle.mm_object.specs.Kept.{extent_words, object_at, objects_from, heap_of, raw_from, is_covered, IsHeaded, KeepsHeap}
+use Rattle.mm_object.specs.Heap.{with_object}
+use Rattle.mm_object.specs.Kept.{extent_words, object_at, objects_from, heap_of, raw_from, IsHeaded, KeepsHeap}
 use Rattle.mm_object.proofs.Objects.{objects-changed}
 use Rattle.mm_object.proofs.RawWords.{IsCovering, covered-alike, raw-same}
 use Rattle.mm_object.proofs.Writes.{one-cell}

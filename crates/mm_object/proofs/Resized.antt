@@ -1,5 +1,6 @@
 -- A heap once its memory has more or fewer words.
-use Rattle.std.proofs.Common.{◌≡◌, ℕ, ◌+◌, ◌*◌, ◌/◌, ◌<◌, ◌≤◌, List, length, take, get_or, Option, Some, None, refl, sym, ap, subst, ◌∙◌, arith}
+use Rattle.std.proofs.Common.{◌≡◌, ℕ, ◌+◌, ◌*◌, ◌/◌, ◌<◌, ◌≤◌, List, length, get_or, Option, Some, refl, sym, ap}
+use Rattle.std.proofs.Common.{subst, ◌∙◌, arith}
 use Rattle.std.specs.Prelude.{slice_get}
 use Rattle.std.specs.Option.{option_map}
 use Rattle.std.proofs.lemmas.List.{ext_get_or}
@@ -11,7 +12,8 @@ use Rattle.mm_words.specs.Location.{location_of}
 use Rattle.mm_cells.specs.Cells.{Taken, Cells, Begins}
 use Rattle.mm_object.specs.Object.{StoredObject}
 use Rattle.mm_object.specs.Heap.{Heap, EndsBy, IsResized}
-use Rattle.mm_object.specs.Kept.{extent_words, object_at, object_told, objects_from, raw_from, heap_of, IsHeaded, KeepsHeap}
+use Rattle.mm_object.specs.Kept.{extent_words, object_at, object_told, objects_from, raw_from, heap_of, IsHeaded}
+use Rattle.mm_object.specs.Kept.{KeepsHeap}
 use Rattle.mm_object.proofs.Objects.{begins-object, objects-alike}
 use Rattle.mm_object.proofs.RawWords.{get-raw, kept_raw}
 

@@ -1,5 +1,6 @@
 -- Objects by their colours: one becomes gray, the next of a colour, and all become white.
-use Rattle.std.proofs.Common.{◌≡◌, ◌≢◌, ℕ, zero, suc, ◌+◌, ◌*◌, ◌<◌, ◌≤◌, Bool, List, [], ◌∷◌, map, length, Option, Some, None, refl, sym, ap, subst, ◌∙◌, arith}
+use Rattle.std.proofs.Common.{◌≡◌, ℕ, ◌+◌, ◌*◌, ◌<◌, ◌≤◌, List, [], ◌∷◌, map, length, Option, Some, None, refl, sym}
+use Rattle.std.proofs.Common.{ap, subst, ◌∙◌}
 use Rattle.std.specs.Prelude.{slice_get}
 use Rattle.std.specs.Option.{option_map}
 use Rattle.std.proofs.lemmas.Option.{slice_get-map}
@@ -14,9 +15,9 @@ use Rattle.mm_object.specs.Object.{StoredObject}
 use Rattle.mm_object.specs.Heap.{Heap, Covers}
 use Rattle.mm_object.specs.Colours.{NoWhite, Shades, IsNextOf, NoneOfFrom, all_whitened, white_object}
 use Rattle.mm_object.specs.Kept.{extent_words, object_at, objects_from, raw_from, heap_of, IsHeaded, KeepsHeap}
-use Rattle.mm_object.proofs.Calls.{at-object, recolour, keep-recoloured, covers}
+use Rattle.mm_object.proofs.Calls.{at-object, recolour, keep-recoloured}
 use Rattle.mm_object.proofs.Objects.{begins-object}
-use Rattle.mm_object.proofs.RawWords.{IsCovering, covered-alike, raw-same}
+use Rattle.mm_object.proofs.RawWords.{covered-alike, raw-same}
 use Rattle.mm_object.proofs.Sound.{covers-cell}
 use Rattle.mm_object.proofs.Writes.{one-cell}
 

@@ -1,22 +1,21 @@
 -- What holds of every heap.
-use Rattle.std.proofs.Common.{◌≡◌, ◌≢◌, ℕ, ◌+◌, ◌-◌, ◌*◌, ◌/◌, ◌<◌, ◌≤◌, Bool, true, false, List, length, take, drop, get_or, Option, Some, None, refl, sym, ap, subst, ◌∙◌, arith}
-use Rattle.std.specs.Prelude.{slice_get, min}
+use Rattle.std.proofs.Common.{◌≡◌, ℕ, ◌+◌, ◌*◌, ◌/◌, ◌<◌, ◌≤◌, List, length, drop, get_or, Option, Some, refl, sym}
+use Rattle.std.proofs.Common.{ap, subst, ◌∙◌, arith}
+use Rattle.std.specs.Prelude.{slice_get}
 use Rattle.std.proofs.lemmas.Bool.{false_from_ne_true}
 use Rattle.std.proofs.lemmas.List.{length-take, length-drop}
 use Rattle.std.proofs.lemmas.Option.{slice_get-get_or}
-use Rattle.mm_model.specs.declared.object.Shape.{Shape}
 use Rattle.mm_model.specs.SizeClass.{extent_of, object_bytes}
-use Rattle.mm_model.specs.ByBase as bases
 use Rattle.mm_words.specs.Piece.{Piece}
 use Rattle.mm_model.specs.Good.{IsInside, AreApart}
 use Rattle.mm_cells.specs.Cells as cells_specs
 use Rattle.mm_cells.specs.Cells.{Taken, Cells, Begins, IsSoundCells}
 use Rattle.mm_object.specs.Object.{StoredObject, shape_of, flags_with, has_weak_object}
 use Rattle.mm_object.specs.Header.{IsShape}
-use Rattle.mm_object.specs.Heap.{Heap, cells_in, piece_at, Covers, IsSound}
-use Rattle.mm_object.specs.Kept.{shape_told, extent_words, object_at, heap_of, is_covered, IsHeaded, KeepsHeap}
+use Rattle.mm_object.specs.Heap.{cells_in, piece_at, Covers, IsSound}
+use Rattle.mm_object.specs.Kept.{shape_told, extent_words, object_at, heap_of, is_covered, KeepsHeap}
 use Rattle.mm_object.proofs.Extents.{length-extent_words}
-use Rattle.mm_object.proofs.Objects.{IsIn, object-begins, begins-object, length-objects_from, cells-objects_from}
+use Rattle.mm_object.proofs.Objects.{object-begins, begins-object, length-objects_from, cells-objects_from}
 use Rattle.mm_object.proofs.RawWords.{IsCovering, covered_by, is_covered_at, length-raw_from, raw_at-some, raw_at-none}
 
 module _ (memory : Piece) (cells : Cells) (kept : KeepsHeap memory cells) where

@@ -1,13 +1,10 @@
 -- What the words of an extent tell of an object, as one of them changes.
-use Rattle.std.proofs.Common.{◌≡◌, ℕ, zero, suc, ◌+◌, ◌*◌, ◌<◌, ◌≤◌, List, [], ◌∷◌, ◌++◌, length, take, drop, refl, sym, ap, subst, ◌∙◌, arith}
-use Rattle.std.specs.Prelude.{slice_set, set, replicate}
+use Rattle.std.proofs.Common.{◌≡◌, ℕ, suc, ◌+◌, ◌<◌, ◌≤◌, List, [], ◌∷◌, length, refl, ap, ◌∙◌, arith}
+use Rattle.std.specs.Prelude.{slice_set, set}
 use Rattle.std.proofs.Math.Seq.{take-set-lt}
-use Rattle.std.proofs.lemmas.List.{length-replicate, take_at}
-use Rattle.mm_model.specs.declared.object.Shape.{Shape}
 use Rattle.mm_cells.specs.Cells.{Taken}
-use Rattle.mm_object.specs.Object.{StoredObject}
-use Rattle.mm_object.specs.Header.{IsShape, shape_in, first_word, second_word}
-use Rattle.mm_object.specs.Kept.{shape_told, object_told, newborn_words, IsHeaded}
+use Rattle.mm_object.specs.Header.{shape_in}
+use Rattle.mm_object.specs.Kept.{shape_told, object_told, IsHeaded}
 
 -- a word behind the first two
 pub headed-set : (cell : Taken) (words : List ℕ) (i word : ℕ) → IsHeaded cell words

@@ -1,12 +1,12 @@
 -- The place that cells find for an object: it's free, lies on the grid and in memory.
-use Rattle.std.proofs.Common.{◌≡◌, ℕ, ◌+◌, ◌-◌, ◌*◌, ◌/◌, ◌<◌, ◌≤◌, ◌⊎◌, List, length, Option, Some, None, inl, inr, refl, sym, ap, subst, ◌∙◌, arith}
-use Rattle.std.specs.Prelude.{slice_get, slice_index}
+use Rattle.std.proofs.Common.{◌≡◌, ℕ, ◌+◌, ◌-◌, ◌*◌, ◌/◌, ◌<◌, ◌≤◌, length, Some, inl, inr, sym, ap, subst, ◌∙◌, arith}
+use Rattle.std.specs.Prelude.{slice_index}
 use Rattle.std.proofs.Math.Nat.{mul_assoc, mul_comm}
 use Rattle.std.proofs.lemmas.Bool.{cases_lt}
 use Rattle.mm_model.specs.declared.object.Size.{Size}
 use Rattle.mm_model.specs.declared.object.Size.TheVariants.{Small, Pages}
 use Rattle.mm_model.specs.SizeClass.{class_sizes, class_index, size_of, extent_of, extent_of_size}
-use Rattle.mm_model.specs.Lowest.{IsLowest, IsLowestOf, IsNowhere, IsPreferred, Of_first, Of_second}
+use Rattle.mm_model.specs.Lowest.{IsLowest, Of_first, Of_second}
 use Rattle.mm_model.proofs.Places.SizeClasses.{IsCellSize, class_bounds, class_of_small}
 use Rattle.mm_model.proofs.Places.Choosing.{size_of-small, size_of-large}
 use Rattle.mm_words.specs.Piece.{Piece}

@@ -1,20 +1,19 @@
 -- A write into an object: what its words tell then, and that all else is as it was.
-use Rattle.std.proofs.Common.{◌≡◌, ◌≢◌, ℕ, ◌+◌, ◌-◌, ◌*◌, ◌/◌, ◌<◌, ◌≤◌, ◌⊎◌, Bool, true, false, List, length, take, drop, get_or, Option, Some, None, inl, inr, refl, sym, ap, subst, ◌∙◌, arith}
+use Rattle.std.proofs.Common.{◌≡◌, ◌≢◌, ℕ, ◌+◌, ◌*◌, ◌/◌, ◌<◌, ◌≤◌, ◌⊎◌, true, false, List, length, get_or, Option}
+use Rattle.std.proofs.Common.{Some, inl, inr, refl, sym, ap, subst, ◌∙◌, arith}
 use Rattle.std.specs.Prelude.{slice_get, slice_set, set}
-use Rattle.std.specs.Option.{option_map}
 use Rattle.std.proofs.lemmas.List.{length-set, get_or-set_other, set-get_or}
 use Rattle.std.proofs.lemmas.Bool.{cases_lt, cases_eq}
 use Rattle.std.proofs.lemmas.Option.{slice_get_within, slice_get_past, slice_get-get_or, get_or_from_slice_get}
 use Rattle.mm_model.proofs.View.Entries.{begins_same}
 use Rattle.mm_words.specs.Location.{location_of}
-use Rattle.mm_model.specs.declared.object.Shape.{Shape}
 use Rattle.mm_model.specs.ByBase as bases
-use Rattle.mm_model.proofs.Lists.Replaced.{get-set_other}
 use Rattle.mm_words.specs.Piece.{Piece, with_words}
-use Rattle.mm_cells.specs.Cells.{Taken, Cells, Begins, IsSoundCells}
+use Rattle.mm_cells.specs.Cells.{Taken, Cells, Begins}
 use Rattle.mm_object.specs.Object.{StoredObject}
-use Rattle.mm_object.specs.Heap.{Heap, with_object}
-use Rattle.mm_object.specs.Kept.{shape_told, extent_words, object_told, object_at, objects_from, heap_of, raw_from, is_covered, IsHeaded, KeepsHeap}
+use Rattle.mm_object.specs.Heap.{with_object}
+use Rattle.mm_object.specs.Kept.{extent_words, object_told, object_at, objects_from, heap_of, raw_from, is_covered}
+use Rattle.mm_object.specs.Kept.{IsHeaded, KeepsHeap}
 use Rattle.mm_object.proofs.Extents.{extent_words-same, extent_words-set}
 use Rattle.mm_object.proofs.Objects.{objects-changed}
 use Rattle.mm_object.proofs.RawWords.{IsCovering, is_covered_at, raw-same}

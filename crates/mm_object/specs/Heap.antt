@@ -1,5 +1,6 @@
 -- What callers see of a heap: its objects, and the words of its memory that lie in none.
-use Rattle.std.specs.Prelude.{◌≡◌, ◌≢◌, ℕ, ◌+◌, ◌-◌, ◌*◌, ◌/◌, ◌<◌, ◌≤◌, List, length, map, replicate, Option, Some, None, slice_get, slice_set}
+use Rattle.std.specs.Prelude.{◌≡◌, ◌≢◌, ℕ, ◌+◌, ◌-◌, ◌*◌, ◌/◌, ◌<◌, ◌≤◌, List, length, map, replicate, Option, Some}
+use Rattle.std.specs.Prelude.{None, slice_get, slice_set}
 use Rattle.std.specs.Option.{option_map}
 use Rattle.mm_model.specs.Place.{Piece, Objects}
 use Rattle.mm_model.specs.Good.{IsInside, AreApart}

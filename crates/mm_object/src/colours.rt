@@ -22,7 +22,8 @@ impl Heap {
 
     /// The least base of an object of this colour that is at least `from`. A page without one costs one step.
     pub fn next_of<L: Ledger>(&self, from: u32, colour: Colour, steps: &mut Steps<L>) -> Option<u32>
-        ensures base { MatchOption result (NoneOfFrom self.now colour from) (λ base. IsNextOf self.now colour from base) }
+        ensures base { MatchOption result (NoneOfFrom self.now colour from)
+            (λ base. IsNextOf self.now colour from base) }
         ensures sound { IsSound self.now }
         ensures cost { IsWalk (cells_in self.now) from result steps.old steps.new }
     {

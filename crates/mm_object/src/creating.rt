@@ -1,5 +1,6 @@
 // Objects are made and taken away.
-ghost use Rattle.std.specs.Prelude.{◌≡◌, ◌≢◌, ◌+◌, ◌/◌, ◌≤◌, ◌<◌, ℕ, List, length, replicate, slice_get, slice_index, slice_set, IfOk, OnErr, Some, None, false};
+ghost use Rattle.std.specs.Prelude.{◌≡◌, ◌≢◌, ◌+◌, ◌/◌, ◌≤◌, ◌<◌, ℕ, List, length, replicate, slice_get, slice_index};
+ghost use Rattle.std.specs.Prelude.{slice_set, IfOk, OnErr, Some, None, false};
 ghost use Rattle.mm_model.specs.SizeClass.{size_of, extent_of, object_bytes};
 ghost use Rattle.mm_model.specs.ByBase.{Begins, with_entry};
 ghost use Rattle.mm_words.specs.Piece.{with_words};
@@ -59,7 +60,8 @@ impl Heap {
     ) -> Result<u32, NoRun>
         requires shape { IsShape shape }
         requires fits { FitsHeap self.old pages.old }
-        ensures place { IsPlaceFor (cells_in self.old) pages.old (size_of (object_bytes shape.slots)) (found_in result) }
+        ensures place { IsPlaceFor (cells_in self.old) pages.old (size_of (object_bytes shape.slots))
+            (found_in result) }
         ensures created { IfOk result (λ base. self.new ≡ record self.old {
           objects = with_entry base (Some (newly_stored shape colour)) self.old.objects;
           runs = slice_set self.old.runs (base / 4096) (run_length (size_of (object_bytes shape.slots)));

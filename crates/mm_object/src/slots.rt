@@ -33,15 +33,6 @@ fn scanned_slots(shape: Shape) -> u32
     }
 }
 
-/// One step for each of so many slots.
-fn tick_each<L: Ledger>(slots: u32, steps: &mut Steps<L>)
-    ensures { steps.new ≡ steps.old + slots }
-{
-    for _ in 0..slots {
-        steps.tick();
-    }
-}
-
 impl Heap {
     /// The word of slot `s`, told apart by the kind of the slot.
     pub fn slot<L: Ledger>(&self, base: u32, s: u32, steps: &mut Steps<L>) -> Slot
@@ -76,7 +67,7 @@ impl Heap {
         ensures cost { steps.new ≡ steps.old + length result.now }
     {
         let shape = shape_at(&self.memory, base);
-        tick_each(shape.slots, steps);
+        steps.add(shape.slots);
         self.memory
             .part(base / WORD_BYTES + HEADER_WORDS, shape.slots)
     }
@@ -91,7 +82,7 @@ impl Heap {
     {
         let shape = shape_at(&self.memory, base);
         let count = scanned_slots(shape);
-        tick_each(count, steps);
+        steps.add(count);
         self.memory.part(base / WORD_BYTES + HEADER_WORDS, count)
     }
 }

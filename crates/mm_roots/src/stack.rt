@@ -98,10 +98,12 @@ impl Stack {
         self.cells.get(self.depth - 1 - i)
     }
 
-    /// Lends the words of all cells, from the bottom up, where they lie.
-    pub fn words(&self) -> &[u32]
-        ensures { result.now ≡ reverse self.now.words }
+    /// Lends the words of all cells, from the bottom up, where they lie. Each of them counts.
+    pub fn words<L: Ledger>(&self, steps: &mut Steps<L>) -> &[u32]
+        ensures words { result.now ≡ reverse self.now.words }
+        ensures cost { steps.new ≡ steps.old + length self.now.words }
     {
+        steps.add(self.depth);
         self.cells.part(0, self.depth)
     }
 }

@@ -72,11 +72,14 @@ fn work_cells<L: Ledger, R: Abort>(rt: &R, alloc: Global, blank: Blank) -> Resul
     assert_eq!(rt; trial.cell(0, &mut steps), Some(4294967295));
     assert_eq!(rt; trial.cell(1, &mut steps), Some(8));
     assert_eq!(rt; trial.cell(2, &mut steps), Some(7));
-    assert_eq!(rt; trial.stack.words(), [7, 8, 4294967295].as_slice());
+    assert_eq!(rt;
+        trial.stack.words(&mut steps),
+        [7, 8, 4294967295].as_slice()
+    );
     assert!(rt; trial.pop(0));
     assert_eq!(rt; trial.stack.depth(), 3);
     assert!(rt; trial.pop(2));
-    assert_eq!(rt; trial.stack.words(), [7].as_slice());
+    assert_eq!(rt; trial.stack.words(&mut steps), [7].as_slice());
     assert!(rt; trial.push(9));
     assert_eq!(rt; trial.cell(0, &mut steps), Some(9));
     assert!(rt; trial.pop(2));
@@ -90,19 +93,28 @@ fn cells_are_counted_from_the_top(rt: HostRuntime) -> Result<(), Fail> {
     work_cells::<Brand, HostRuntime>(&rt, rt.alloc(), Blank::new(1))
 }
 
-#[test]
-fn a_full_stack_refuses_a_push_and_stays(rt: HostRuntime) -> Result<(), Fail> {
-    let mut trial = Trial::open(rt.alloc(), 5, 2)?;
+fn work_full<L: Ledger, R: Abort>(rt: &R, alloc: Global, blank: Blank) -> Result<(), Fail>
+    requires name { blank.name ≡ L.name }
+    requires parts { blank.parts ≡ L.parts }
+    requires shared { 0 < L.parts }
+{
+    let mut steps: Steps<L> = Steps::open(blank);
+    let mut trial = Trial::open(alloc, 5, 2)?;
     assert!(rt; trial.push(1));
     assert!(rt; trial.push(2));
     assert!(rt; !trial.push(3));
-    assert_eq!(rt; trial.stack.words(), [1, 2].as_slice());
+    assert_eq!(rt; trial.stack.words(&mut steps), [1, 2].as_slice());
     assert!(rt; trial.pop(1));
     assert!(rt; trial.push(4));
     assert!(rt; !trial.push(5));
-    assert_eq!(rt; trial.stack.words(), [1, 4].as_slice());
+    assert_eq!(rt; trial.stack.words(&mut steps), [1, 4].as_slice());
     trial.close();
     Ok(())
+}
+
+#[test]
+fn a_full_stack_refuses_a_push_and_stays(rt: HostRuntime) -> Result<(), Fail> {
+    work_full::<Brand, HostRuntime>(&rt, rt.alloc(), Blank::new(1))
 }
 
 #[test]
@@ -161,7 +173,7 @@ fn agree<L: Ledger>(trial: &Trial, plain: &Plain, steps: &mut Steps<L>) -> bool 
         }
     }
     trial.stack.depth() as usize == plain.words.len()
-        && trial.stack.words() == plain.words.as_slice()
+        && trial.stack.words(steps) == plain.words.as_slice()
 }
 
 // One move of five: a push, or a pop of up to three cells.

@@ -41,4 +41,11 @@ impl<L: Ledger> Steps<L> {
     {
         self.book.add(&mut self.share, 1);
     }
+
+    /// Takes `n` steps at once.
+    pub fn add(&mut self, n: u32)
+        ensures { self.new ≡ self.old + n }
+    {
+        self.book.add(&mut self.share, n as u64);
+    }
 }

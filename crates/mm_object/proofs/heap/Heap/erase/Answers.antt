@@ -1,4 +1,4 @@
-use Rattle.std.proofs.Common.{sym, ap, subst}
+use Rattle.std.proofs.Common.{sym, subst}
 use Rattle.mm_pages.specs.Parked.{AreParked}
 use Rattle.mm_object.specs.Heap.{Heap}
 use Rattle.mm_object.proofs.Calls.{taken}

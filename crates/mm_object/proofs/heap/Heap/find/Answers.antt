@@ -1,5 +1,3 @@
-use Rattle.std.proofs.Common.{sym, subst}
-use Rattle.mm_object.specs.Heap.{Heap, Covers, FallsInNone}
 use Rattle.mm_object.proofs.Calls.{sound, covers, none-covers}
 use Rattle.mm_object.proofs.heap.Heap.find.Goals as goal
 

@@ -1,4 +1,3 @@
-use Rattle.std.proofs.Common.{sym, ap, subst, ◌∙◌, arith}
 use Rattle.mm_object.proofs.Calls.{sound}
 use Rattle.mm_object.proofs.Bare.{raw-bare, read-raw}
 use Rattle.mm_object.proofs.heap.Heap.raw.Goals as goal

@@ -1,4 +1,4 @@
-use Rattle.std.proofs.Common.{◌≡◌, ℕ, ◌≤◌, List, length, take, sym, ap, subst, ◌∙◌, arith}
+use Rattle.std.proofs.Common.{◌≡◌, ℕ, ◌≤◌, length, take, ap, ◌∙◌, arith}
 use Rattle.std.proofs.lemmas.List.{length-take-le}
 use Rattle.std.specs.Prelude.{if◌then◌else◌}
 use Rattle.mm_model.specs.declared.object.Shape.{Shape}
@@ -62,7 +62,7 @@ returns-clause-cost g c =
     c.args.base c.requires.0 c.requires.1 c.scanned_slots-count.result most) in
     omega (
       arith,
-      c.tick_each.ensures,
+      c.add.ensures,
       range,
       length-take-le c.scanned_slots-count.result c.requires.0.words most,
     )

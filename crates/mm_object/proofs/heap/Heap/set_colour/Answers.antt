@@ -1,9 +1,5 @@
-use Rattle.std.proofs.Common.{◌≡◌, sym, ap, subst, ◌∙◌, refl}
-use Rattle.mm_cells.specs.Cells.{Cells}
-use Rattle.mm_object.specs.Heap.{Heap}
-use Rattle.mm_object.specs.Kept.{heap_of, KeepsHeap}
 use Rattle.mm_object.proofs.Sound.{IsSound-kept}
-use Rattle.mm_object.proofs.Calls.{taken, at-object, recolour, keep-recoloured}
+use Rattle.mm_object.proofs.Calls.{taken, recolour, keep-recoloured}
 use Rattle.mm_object.proofs.heap.Heap.set_colour.Goals as goal
 
 pub set_colour-requires : goal.set_colour-requires

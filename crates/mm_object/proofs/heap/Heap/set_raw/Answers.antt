@@ -1,4 +1,4 @@
-use Rattle.std.proofs.Common.{sym, ap, subst, ◌∙◌, arith}
+use Rattle.std.proofs.Common.{sym, ap, subst, ◌∙◌}
 use Rattle.mm_words.specs.Piece.{Piece}
 use Rattle.mm_object.specs.Kept.{heap_of, KeepsHeap}
 use Rattle.mm_object.proofs.Sound.{IsSound-kept}

@@ -1,4 +1,4 @@
-use Rattle.std.proofs.Common.{◌≡◌, ℕ, ◌≤◌, length, sym, ap, ◌∙◌, arith}
+use Rattle.std.proofs.Common.{◌≡◌, ◌≤◌, length, ap, ◌∙◌, arith}
 use Rattle.std.proofs.lemmas.List.{take_all}
 use Rattle.mm_model.specs.declared.object.Shape.{Shape}
 use Rattle.mm_object.specs.Object.{shape_of}
@@ -47,4 +47,4 @@ returns-clause-cost g c =
     c.args.base c.requires.0 c.requires.1 in
     let slots : c.shape_at-shape.result.slots ≡ length c.requires.0.words = ap (λ (s : Shape). s.slots) shape in
     let size = ap length (returns-clause-words g c c.requires.0 c.requires.1) in
-    omega (arith, c.tick_each.ensures)
+    omega (arith, c.add.ensures)

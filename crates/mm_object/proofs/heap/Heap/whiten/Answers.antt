@@ -1,5 +1,5 @@
-use Rattle.std.proofs.Common.{◌≡◌, ℕ, ◌+◌, sym, ap, subst, ◌∙◌}
-use Rattle.mm_cells.specs.Cells.{Cells, IsSoundCells}
+use Rattle.std.proofs.Common.{◌+◌, sym, ap, subst, ◌∙◌}
+use Rattle.mm_cells.specs.Cells.{IsSoundCells}
 use Rattle.mm_object.specs.Heap.{Heap}
 use Rattle.mm_object.specs.Kept.{heap_of, KeepsHeap}
 use Rattle.mm_object.proofs.Sound.{IsSound-kept}
