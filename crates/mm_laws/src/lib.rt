@@ -10,6 +10,7 @@ mod spelling;
 mod states;
 mod steps;
 mod traces;
+mod views;
 mod weak;
 
 pub use cycles::{
@@ -36,6 +37,7 @@ pub use steps::{
     sticky_objects_stay_sticky,
 };
 pub use traces::{lines_are_cut_at_newlines, traces_join_at_a_newline};
+pub use views::{good_states_have_good_views, rows_of_views_are_rows, steps_of_views_are_steps};
 pub use weak::{
     look_is_empty_exactly_once_the_target_is_gone, looks_tell_whether_the_target_is_gone,
     runs_leave_weak_references_their_targets, weak_references_are_made_for_a_target,
