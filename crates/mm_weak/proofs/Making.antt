@@ -1,9 +1,6 @@
 -- What a heap is once a weak object was made in it and linked.
-use Rattle.std.proofs.Common.{◌≡◌, ℕ, ◌*◌, ◌/◌, false, Option, Some, None, Result, Ok, Err, refl, sym, ap, subst, ◌∙◌, arith}
+use Rattle.std.proofs.Common.{◌≡◌, ℕ, ◌*◌, ◌/◌, false, Option, Some, None, refl, sym, ap, subst, ◌∙◌, arith}
 use Rattle.std.specs.Prelude.{slice_get, slice_set}
-use Rattle.std.specs.Result.{IsErr}
-use Rattle.mm_model.specs.declared.reply.WeakAnswer.{WeakAnswer}
-use Rattle.mm_model.specs.declared.reply.WeakAnswer.TheVariants.{Made, Kept}
 use Rattle.mm_model.specs.declared.object.Colour.{Colour}
 use Rattle.mm_model.specs.SizeClass.{size_of, extent_of}
 use Rattle.mm_model.specs.Effect.{weak_shape}
@@ -13,7 +10,7 @@ use Rattle.mm_pages.specs.Pages.{Pages}
 use Rattle.mm_cells.specs.Placing.{IsPlaceFor}
 use Rattle.mm_object.specs.Object.{StoredObject, newly_stored}
 use Rattle.mm_object.specs.Heap.{Heap, cells_in, IsSound, FitsHeap, TakesWords}
-use Rattle.mm_weak.specs.Links.{IsLinked, IsWeakMade, kept_in, with_weak, newly_weak, with_partners}
+use Rattle.mm_weak.specs.Links.{IsLinked, IsWeakMade, with_weak, newly_weak, with_partners}
 use Rattle.mm_weak.proofs.Entries.{begins-entry, begins-other_entry, with_entry-twice}
 use Rattle.mm_weak.proofs.Places.{extent-weak, place-grain}
 use Rattle.mm_weak.proofs.Couples.{IsLinked-made}
