@@ -1,0 +1,11 @@
+pub mod Changes
+pub mod Composites
+pub mod Counted
+pub mod Entries
+pub mod Null
+pub mod Places
+pub mod References
+pub mod Right
+pub mod Room
+pub mod Stored
+pub mod Words

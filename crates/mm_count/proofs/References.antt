@@ -1,0 +1,52 @@
+-- How many counted slots hold a base once one object has changed.
+use Rattle.std.proofs.Common.{◌≡◌, ℕ, zero, suc, ◌+◌, ◌/◌, List, [], ◌∷◌, Option, Some, None, ap, arith}
+use Rattle.std.specs.Prelude.{slice_get, slice_set, ◌==◌}
+use Rattle.std.specs.List.{sum_by, count_by}
+use Rattle.std.proofs.lemmas.List.Sums.{sum_by-cons}
+use Rattle.mm_model.specs.ByBase.{Begins, Based, with_entry, based_from, based}
+use Rattle.mm_model.specs.ObjectView.{ObjectView, ObjectsByBase, counted_words_of, references_in}
+use Rattle.mm_model.proofs.Lists.KeyedSums.{count-flat_map}
+use Rattle.mm_count.proofs.Entries.{begins_get}
+
+module _ {X : Type 0} (g : X → ℕ) where
+  abbrev weight : Based X → ℕ
+  weight o = g o.value
+
+  sum-set : (low : ℕ) (entries : List (Option X)) (k : ℕ) (x y : X) → slice_get entries k ≡ Some (Some x)
+      → sum_by weight (based_from low (slice_set entries k (Some y))) + g x
+      ≡ sum_by weight (based_from low entries) + g y
+  sum-set low [] k x y e = cc
+  sum-set low (None ∷ entries) zero x y e = cc
+  sum-set low (Some z ∷ entries) zero x y e =
+      let same : z ≡ x = cc in
+      let own : g z ≡ g x = ap g same in
+      let rest = based_from (low + 16) entries in
+      let a = sum_by-cons weight (record { base = low; value = y }) rest in
+      let b = sum_by-cons weight (record { base = low; value = z }) rest in
+      omega arith
+  sum-set low (None ∷ entries) (suc k) x y e = sum-set (low + 16) entries k x y e
+  sum-set low (Some z ∷ entries) (suc k) x y e =
+      let rest = sum-set (low + 16) entries k x y e in
+      let a = sum_by-cons weight (record { base = low; value = z })
+      (based_from (low + 16) (slice_set entries k (Some y))) in
+      let b = sum_by-cons weight (record { base = low; value = z }) (based_from (low + 16) entries) in
+      omega arith
+
+-- how many of an object's counted slots hold a base
+abbrev pub references_of : ObjectView → ℕ → ℕ
+references_of object base = count_by (λ word. word == base) (counted_words_of object)
+
+references-sum : (objects : ObjectsByBase) (b : ℕ)
+    → references_in objects b ≡ sum_by (λ o. references_of o.value b) (based objects)
+references-sum objects b =
+    count-flat_map (λ word. word == b) (λ (o : Based ObjectView). counted_words_of o.value) (based objects)
+
+pub references-with_entry : (objects : ObjectsByBase) (base : ℕ) (x y : ObjectView) → Begins objects base x → (b : ℕ)
+    → references_in (with_entry base (Some y) objects) b + references_of x b
+    ≡ references_in objects b + references_of y b
+references-with_entry objects base x y begins b =
+    let after = references-sum (with_entry base (Some y) objects) b in
+    let before = references-sum objects b in
+    let sums = sum-set (λ (v : ObjectView). references_of v b) 0 objects (base / 16) x y
+    (begins_get objects base x begins) in
+    omega arith

@@ -1,0 +1,18 @@
+use Rattle.mm_count.specs.Counts.{lowered}
+use Rattle.mm_count.proofs.Null.{changed-zero, table_lowered-zero, counted_less-zero, keeps-same}
+use Rattle.mm_count.proofs.table.ZeroTable.lower_named.Goals as goal
+
+pub returns-then-word-eq0-clause-heap : goal.returns-then-word-eq0-clause-heap
+returns-then-word-eq0-clause-heap g c =
+    changed-zero c.args.heap.now c.requires.sound lowered c.args.word c.if-word-eq0.true
+
+pub returns-then-word-eq0-clause-table : goal.returns-then-word-eq0-clause-table
+returns-then-word-eq0-clause-table g c =
+    table_lowered-zero c.args.heap.now c.requires.sound c.args.self.now c.args.word c.if-word-eq0.true
+
+pub returns-then-word-eq0-clause-counts : goal.returns-then-word-eq0-clause-counts
+returns-then-word-eq0-clause-counts g c =
+    counted_less-zero c.args.heap.now c.requires.sound c.args.word c.if-word-eq0.true
+
+pub returns-then-word-eq0-clause-objects : goal.returns-then-word-eq0-clause-objects
+returns-then-word-eq0-clause-objects g c = keeps-same c.args.heap.now.objects

@@ -1,0 +1,69 @@
+use Rattle.std.proofs.Common.{ℕ, sym, ap, ◌∙◌, subst}
+use Rattle.mm_count.specs.Table.{Table}
+use Rattle.mm_count.specs.Counts.{lowered, changed_at, composite_at, table_raised, table_lowered, IsCountedBy, one_more, NamesCounted, HasReference}
+use Rattle.mm_count.proofs.Stored.{between-right, between-places, between-counted, between-named, between-reference, between-table}
+use Rattle.mm_count.proofs.table.ZeroTable.store.Goals as goal
+
+pub set_slot-requires : goal.set_slot-requires
+set_slot-requires g c =
+    let o = c.requires.slot.object in
+    let now = c.raise_named.ensures.objects.to c.args.base o c.requires.slot.begins in
+    record { object = record o { composite = now.0 }; begins = now.1; within = c.requires.slot.within }
+
+pub lower_named-requires-clause-named : goal.lower_named-requires-clause-named
+lower_named-requires-clause-named g c =
+    let slot = c.requires.slot in
+    let is = c.counted_word-old.ensures.word slot.object slot.begins in
+    let old = subst (λ (n : ℕ). NamesCounted c.args.heap.now.objects n) (sym is)
+    (c.requires.old slot.object slot.begins) in
+    between-named c.args.heap.now c.raise_named.new.heap c.set_slot.new.self c.args.base c.args.s c.args.w slot
+    c.raise_named.ensures.objects c.raise_named.ensures.heap c.set_slot.ensures.slot c.counted_word-old.result old
+    c.requires.new c.if-old-w.false
+
+pub lower_named-requires-clause-some : goal.lower_named-requires-clause-some
+lower_named-requires-clause-some g c = λ some.
+    let slot = c.requires.slot in
+    let is = c.counted_word-old.ensures.word slot.object slot.begins in
+    let old = subst (λ (n : ℕ). NamesCounted c.args.heap.now.objects n) (sym is)
+    (c.requires.old slot.object slot.begins) in
+    let reference = subst (λ (n : ℕ). HasReference c.args.heap.now.objects n) (sym is)
+    (c.requires.some slot.object slot.begins (λ e. c.if-old-w.false (is ∙ e)) (λ e. some (is ∙ e))) in
+    between-reference c.args.heap.now c.raise_named.new.heap c.set_slot.new.self c.args.base c.args.s c.args.w slot
+    c.raise_named.ensures.objects c.raise_named.ensures.heap c.set_slot.ensures.slot c.counted_word-old.result old
+    c.requires.new c.if-old-w.false reference
+
+pub lower_named-requires-clause-right : goal.lower_named-requires-clause-right
+lower_named-requires-clause-right g c =
+    between-right c.args.heap.now c.raise_named.new.heap c.set_slot.new.self c.args.base c.args.s c.args.w
+    c.requires.slot c.raise_named.ensures.objects c.raise_named.ensures.heap c.set_slot.ensures.slot
+    c.raise_named.new.self c.raise_named.ensures.right
+
+pub returns-clause-table : goal.returns-clause-table
+returns-clause-table g c = λ other.
+    let slot = c.requires.slot in
+    let is = c.counted_word-old.ensures.word slot.object slot.begins in
+    let old = subst (λ (n : ℕ). NamesCounted c.args.heap.now.objects n) (sym is)
+    (c.requires.old slot.object slot.begins) in
+    c.lower_named.ensures.table
+    ∙ ap (λ (t : Table). table_lowered t (composite_at c.set_slot.new.self.objects c.counted_word-old.result)
+    c.counted_word-old.result) c.raise_named.ensures.table
+    ∙ between-table c.args.heap.now c.raise_named.new.heap c.set_slot.new.self c.args.base c.args.s c.args.w slot
+    c.raise_named.ensures.objects c.raise_named.ensures.heap c.set_slot.ensures.slot c.counted_word-old.result old
+    c.requires.new other (table_raised c.args.self.now (composite_at c.args.heap.now.objects c.args.w))
+
+pub returns-clause-heap : goal.returns-clause-heap
+returns-clause-heap g c = λ other.
+    c.lower_named.ensures.heap
+    ∙ ap (changed_at lowered c.counted_word-old.result)
+    (between-places c.args.heap.now c.raise_named.new.heap c.set_slot.new.self c.args.base c.args.s c.args.w
+    c.requires.slot c.raise_named.ensures.objects c.raise_named.ensures.heap c.set_slot.ensures.slot)
+
+pub returns-clause-counts : goal.returns-clause-counts
+returns-clause-counts g c = λ outside right.
+    let slot = c.requires.slot in
+    let is = c.counted_word-old.ensures.word slot.object slot.begins in
+    let now = between-counted c.args.heap.now c.raise_named.new.heap c.set_slot.new.self c.args.base c.args.s c.args.w
+    slot c.raise_named.ensures.objects c.raise_named.ensures.heap c.set_slot.ensures.slot outside
+    (c.raise_named.ensures.counts outside right) in
+    c.lower_named.ensures.counts outside
+    (subst (λ (n : ℕ). IsCountedBy c.set_slot.new.self.objects (one_more outside n)) (sym is) now)

@@ -1,0 +1,4 @@
+pub mod Composite
+pub mod Counts
+pub mod Kept
+pub mod Table

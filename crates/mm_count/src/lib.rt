@@ -1,0 +1,14 @@
+//! Deferred counts of references, and the zero-count table.
+#![tactic(auto)]
+
+mod composite;
+mod counts;
+mod pins;
+mod store;
+mod table;
+#[cfg(test)]
+mod tests;
+
+pub use composite::Composite;
+pub use counts::Count;
+pub use table::ZeroTable;
