@@ -1,4 +1,6 @@
 pub mod Composite
 pub mod Counts
 pub mod Kept
+pub mod Listed
+pub mod Sticky
 pub mod Table
