@@ -1,10 +1,10 @@
 -- What the views, the heap besides, the pins and the table's members are once one object was given another composite.
-use Rattle.std.proofs.Common.{◌≡◌, ◌≢◌, ◌⊎◌, ⊎_elim, inl, inr, ℕ, ◌+◌, ◌-◌, ◌/◌, ◌≤◌, Bool, true, false, cond, [], ◌∷◌, Option, Some, refl, sym, ap, ◌∙◌, subst, arith}
+use Rattle.std.proofs.Common.{◌≡◌, ◌≢◌, ⊎_elim, inl, inr, ℕ, ◌-◌, ◌/◌, Bool, true, false, cond, [], ◌∷◌, Option, Some, refl, sym, ap, ◌∙◌, subst, arith}
 use Rattle.std.specs.Prelude.{◌==◌, ◌||◌, IsTrue}
 use Rattle.std.proofs.lemmas.Bool.{cases_eq}
 use Rattle.mm_model.specs.Object.{is_counted}
 use Rattle.mm_model.specs.ByBase.{Begins, with_entry}
-use Rattle.mm_model.specs.ObjectView.{ObjectView, ObjectsByBase}
+use Rattle.mm_model.specs.ObjectView.{ObjectView}
 use Rattle.mm_model.proofs.View.Entries.{begins_same}
 use Rattle.mm_object.specs.Object.{StoredObject, StoredObjects, view_of_stored, views_of}
 use Rattle.mm_object.specs.Heap.{Heap}
@@ -13,12 +13,12 @@ use Rattle.mm_count.specs.Composite.{composite_in, word_of, FitsWord, IsComposit
 use Rattle.mm_count.specs.Table.{composite_of}
 use Rattle.mm_count.specs.Counts.{IsCountedBy, one_more, raised, lowered, entered, left, with_pin, changed_at, unplaced, without_places, KeepsObjects}
 use Rattle.mm_count.specs.Sticky.{with_sticky, made_sticky}
-use Rattle.mm_count.specs.Listed.{IsListedAtZero, AllListed, AllListedBut, NonePinned, KeepsPins, ListsNamed}
+use Rattle.mm_count.specs.Listed.{AllListed, AllListedBut, NonePinned, KeepsPins, ListsNamed}
 use Rattle.mm_count.proofs.Words.{composite_in-word_of}
 use Rattle.mm_count.proofs.Entries.{begins_get, begins_mapped}
 use Rattle.mm_count.proofs.Composites.{clash, decides, one_above, raised-sticky, raised-exact}
 use Rattle.mm_count.proofs.Places.{set_same, bare, composite_of-bare, new, cases, IsOwn, IsOther, composite_of-own, composite_of-other, keeps}
-use Rattle.mm_count.proofs.Counted.{counts_of-begins, views-is, one_more-here, fits-raised, fits-lowered, fits-now, less}
+use Rattle.mm_count.proofs.Counted.{counts_of-begins, views-is, one_more-here, fits-raised, fits-lowered, fits-now}
 use Rattle.mm_count.proofs.Sticky.{made_sticky-counted, made_sticky-sticky, with_sticky-one}
 
 -- the rest of the heap is as it was

@@ -1,6 +1,6 @@
 -- What the objects and their views are once one counted slot is written.
-use Rattle.std.proofs.Common.{◌≡◌, ◌≢◌, ⊎_elim, ℕ, ◌+◌, ◌/◌, Bool, true, false, not, cond, List, Option, Some, refl, sym, ap, ◌∙◌, subst, arith}
-use Rattle.std.specs.Prelude.{slice_get, slice_set, slice_index, ◌==◌, IsTrue}
+use Rattle.std.proofs.Common.{◌≡◌, ◌≢◌, ⊎_elim, ℕ, ◌/◌, Bool, not, cond, List, Option, Some, refl, sym, ap, ◌∙◌, subst, arith}
+use Rattle.std.specs.Prelude.{slice_set, slice_index, ◌==◌, IsTrue}
 use Rattle.std.specs.Option.{option_map}
 use Rattle.std.proofs.lemmas.Option.{slice_get-get_or}
 use Rattle.mm_model.specs.Object.{is_scanned, is_counted}
@@ -17,7 +17,7 @@ use Rattle.mm_object.specs.Object.{StoredObject, StoredObjects, view_of_stored, 
 use Rattle.mm_object.specs.Heap.{Heap, with_object}
 use Rattle.mm_count.specs.declared.composite.Composite.{Composite}
 use Rattle.mm_count.specs.Table.{composite_of}
-use Rattle.mm_count.specs.Counts.{one_more, raised, changed_at, with_word, written_at, without_places, entry_at, KeepsObjects, HasCountedSlot}
+use Rattle.mm_count.specs.Counts.{one_more, raised, changed_at, with_word, written_at, without_places, KeepsObjects, HasCountedSlot}
 use Rattle.mm_count.specs.Sticky.{made_sticky, with_sticky}
 use Rattle.mm_count.specs.Listed.{AllListed, NonePinned}
 use Rattle.mm_count.proofs.Entries.{begins_get, entry_at-begins, begins_here, begins_there, begins_cases, begins_mapped}
@@ -176,16 +176,16 @@ module _ (h raised_heap written : Heap) (base s word : ℕ) (slot : HasCountedSl
                 (λ (e : (b ≡ base) × (x ≡ with_word s word own)). (
                   between.composite,
                   subst (λ n. Begins (with_entry base (Some (with_word s word between)) raised_heap.objects) n
-                  (record x { composite = between.composite })) (sym e.0)
-                  (subst (Begins (with_entry base (Some (with_word s word between)) raised_heap.objects) base)
-                  (ap (λ (z : StoredObject). record z { composite = between.composite }) (sym e.1))
-                  (begins_here raised_heap.objects base between (with_word s word between) there)),
+                      (record x { composite = between.composite })) (sym e.0)
+                      (subst (Begins (with_entry base (Some (with_word s word between)) raised_heap.objects) base)
+                      (ap (λ (z : StoredObject). record z { composite = between.composite }) (sym e.1))
+                      (begins_here raised_heap.objects base between (with_word s word between) there)),
                 ))
                 (λ (n : (b ≢ base) × Begins h.objects b x).
                 let k = keeps.to b x n.1 in (
                   k.0,
                   begins_there raised_heap.objects base between (with_word s word between) there b
-                  (record x { composite = k.0 }) n.0 k.1,
+                      (record x { composite = k.0 }) n.0 k.1,
                 ))
                 (begins_cases h.objects base own (with_word s word own) slot.begins b x begins);
             back = λ b x begins.
@@ -193,16 +193,16 @@ module _ (h raised_heap written : Heap) (base s word : ℕ) (slot : HasCountedSl
                 (λ (e : (b ≡ base) × (x ≡ with_word s word between)). (
                   own.composite,
                   subst (λ n. Begins (with_entry base (Some (with_word s word own)) h.objects) n
-                  (record x { composite = own.composite })) (sym e.0)
-                  (subst (Begins (with_entry base (Some (with_word s word own)) h.objects) base)
-                  (ap (λ (z : StoredObject). record z { composite = own.composite }) (sym e.1))
-                  (begins_here h.objects base own (with_word s word own) slot.begins)),
+                      (record x { composite = own.composite })) (sym e.0)
+                      (subst (Begins (with_entry base (Some (with_word s word own)) h.objects) base)
+                      (ap (λ (z : StoredObject). record z { composite = own.composite }) (sym e.1))
+                      (begins_here h.objects base own (with_word s word own) slot.begins)),
                 ))
                 (λ (n : (b ≢ base) × Begins raised_heap.objects b x).
                 let k = keeps.back b x n.1 in (
                   k.0,
                   begins_there h.objects base own (with_word s word own) slot.begins b
-                  (record x { composite = k.0 }) n.0 k.1,
+                      (record x { composite = k.0 }) n.0 k.1,
                 ))
                 (begins_cases raised_heap.objects base between (with_word s word between) there b x begins);
           }

@@ -1,9 +1,7 @@
-use Rattle.std.proofs.Common.{◌≡◌, ◌≤◌, ◌+◌, ◌<◌, [], ◌∷◌, ◌++◌, take, length, sym, ap, ◌∙◌, subst, arith}
+use Rattle.std.proofs.Common.{◌<◌, [], ◌∷◌, take, sym, ap, ◌∙◌, subst, arith}
 use Rattle.std.proofs.lemmas.List.{take_all}
-use Rattle.mm_model.specs.ByBase.{Begins}
 use Rattle.mm_model.specs.ObjectView.{counted_words_of}
-use Rattle.mm_model.proofs.View.Entries.{begins_same}
-use Rattle.mm_object.specs.Object.{StoredObject, view_of_stored, shape_of}
+use Rattle.mm_object.specs.Object.{view_of_stored}
 use Rattle.mm_model.specs.declared.object.Shape.{Shape}
 use Rattle.mm_count.specs.Counts.{NamesCounted, HasReference}
 use Rattle.mm_count.specs.Kept.{AreLowered}
