@@ -1,5 +1,6 @@
 -- What lowering what the counted slots of an object name leaves, one after the other.
-use Rattle.std.proofs.Common.{◌≡◌, ◌≢◌, ⊎_elim, inl, inr, ℕ, ◌+◌, ◌-◌, ◌<◌, ◌≤◌, Bool, true, false, cond, List, [], ◌∷◌, ◌++◌, take, length, Some, refl, sym, ap, ◌∙◌, subst, arith}
+use Rattle.std.proofs.Common.{◌≡◌, ◌≢◌, ⊎_elim, inl, inr, ℕ, ◌+◌, ◌-◌, ◌<◌, ◌≤◌, Bool, true, false, cond, List, []}
+use Rattle.std.proofs.Common.{◌∷◌, ◌++◌, take, length, Some, refl, sym, ap, ◌∙◌, subst, arith}
 use Rattle.std.specs.Prelude.{slice_get, slice_index, nat_lt, ◌==◌, ◌||◌, IsTrue, if◌then◌else◌}
 use Rattle.std.specs.List.{count_by}
 use Rattle.std.proofs.lemmas.Bool.Decides.{nat_tests}
@@ -26,7 +27,8 @@ use Rattle.mm_object.specs.Header.{IsShape}
 use Rattle.mm_count.specs.declared.composite.Composite.{Composite}
 use Rattle.mm_count.specs.Composite.{IsComposite}
 use Rattle.mm_count.specs.Table.{composite_of}
-use Rattle.mm_count.specs.Counts.{lowered, changed_at, unplaced, without_places, KeepsObjects, NamesCounted, HasCountedSlot, HasReference}
+use Rattle.mm_count.specs.Counts.{lowered, changed_at, unplaced, without_places, KeepsObjects, NamesCounted}
+use Rattle.mm_count.specs.Counts.{HasCountedSlot, HasReference}
 use Rattle.mm_count.specs.Listed.{KeepsPins, ListsNamed}
 use Rattle.mm_count.specs.Apart.{without_dead, AreCountsApart}
 use Rattle.mm_count.specs.Kept.{AreTotals, AreLowered}
@@ -364,7 +366,8 @@ module _ (start now : Heap) (base : ℕ) (o : StoredObject) (begins : Begins sta
             let k = named-now tight some in
             let told = composite_at-counted now.objects word k in
             let totals = lowers.totals left totals-start in
-            let is = totals.exact word k.object k.begins k.counted (sym (ap (λ (c : Composite). c.sticky) told) ∙ exact) in
+            let is = totals.exact word k.object k.begins k.counted (sym (ap (λ (c : Composite). c.sticky) told) ∙
+            exact) in
             let zero : (composite_of k.object).count ≡ 0 = sym (ap (λ (c : Composite). c.count) told) ∙ none in
             let more : among (take (s + 1) words) word ≡ among (take s words) word + among (word ∷ []) word =
             ap (λ ws. among ws word) words-more ∙ among-append (take s words) (word ∷ []) word in

@@ -1,5 +1,6 @@
 -- What the objects and their views are once one counted slot is written.
-use Rattle.std.proofs.Common.{◌≡◌, ◌≢◌, ⊎_elim, ℕ, ◌/◌, Bool, not, cond, List, Option, Some, refl, sym, ap, ◌∙◌, subst, arith}
+use Rattle.std.proofs.Common.{◌≡◌, ◌≢◌, ⊎_elim, ℕ, ◌/◌, Bool, not, cond, List, Option, Some, refl, sym, ap, ◌∙◌}
+use Rattle.std.proofs.Common.{subst, arith}
 use Rattle.std.specs.Prelude.{slice_set, slice_index, ◌==◌, IsTrue}
 use Rattle.std.specs.Option.{option_map}
 use Rattle.std.proofs.lemmas.Option.{slice_get-get_or}
@@ -17,7 +18,8 @@ use Rattle.mm_object.specs.Object.{StoredObject, StoredObjects, view_of_stored, 
 use Rattle.mm_object.specs.Heap.{Heap, with_object}
 use Rattle.mm_count.specs.declared.composite.Composite.{Composite}
 use Rattle.mm_count.specs.Table.{composite_of}
-use Rattle.mm_count.specs.Counts.{one_more, raised, changed_at, with_word, written_at, without_places, KeepsObjects, HasCountedSlot}
+use Rattle.mm_count.specs.Counts.{one_more, raised, changed_at, with_word, written_at, without_places, KeepsObjects}
+use Rattle.mm_count.specs.Counts.{HasCountedSlot}
 use Rattle.mm_count.specs.Sticky.{made_sticky, with_sticky}
 use Rattle.mm_count.specs.Listed.{AllListed, NonePinned}
 use Rattle.mm_count.proofs.Entries.{begins_get, entry_at-begins, begins_here, begins_there, begins_cases, begins_mapped}
@@ -79,7 +81,8 @@ module _ (h : Heap) (base s word : ℕ) (slot : HasCountedSlot h.objects base s)
       sym
       (ap (λ (x : ObjectView). (view_recounted CountedSlot (slice_index x.words s) word
       (view_with_word (record { base = base; value = x }) s word view)).objects) is_own
-      ∙ ap (λ (b : Bool). (cond (not b) (view_with_sticky word (view_with view base s word v)) (view_with view base s word v)).objects)
+      ∙ ap (λ (b : Bool). (cond (not b) (view_with_sticky word (view_with view base s word v)) (view_with view base s
+      word v)).objects)
       (decides (slice_index o.words s) word (sym same))
       ∙ ap (λ (ws : List ℕ). with_entry base (Some (record v { words = ws })) view.objects) words-same
       ∙ ap (with_entry base (Some v)) shows
@@ -280,7 +283,8 @@ views-written h base s word slot other view object shows begins =
     sym
     (ap (λ (x : ObjectView). (view_recounted CountedSlot (slice_index x.words s) word
     (view_with_word (record { base = base; value = x }) s word view)).objects) is_own
-    ∙ ap (λ (b : Bool). (cond (not b) (view_with_sticky word (view_with view base s word v)) (view_with view base s word v)).objects)
+    ∙ ap (λ (b : Bool). (cond (not b) (view_with_sticky word (view_with view base s word v)) (view_with view base s
+    word v)).objects)
     (refutes (slice_index slot.object.words s) word other)
     ∙ ap (λ (vs : ObjectsByBase). with_sticky (outside_references view) word
     (with_entry base (Some (record v { words = slice_set slot.object.words s word })) vs)) shows)

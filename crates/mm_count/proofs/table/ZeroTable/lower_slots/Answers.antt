@@ -5,7 +5,8 @@ use Rattle.mm_object.specs.Object.{view_of_stored}
 use Rattle.mm_model.specs.declared.object.Shape.{Shape}
 use Rattle.mm_count.specs.Counts.{NamesCounted, HasReference}
 use Rattle.mm_count.specs.Kept.{AreLowered}
-use Rattle.mm_count.proofs.Lowering.{lowered-none, lowered-then, length-words, words-more, word, slot-now, word-now, named-now, reference-now, apart-lowered}
+use Rattle.mm_count.proofs.Lowering.{lowered-none, lowered-then, length-words, words-more, word, slot-now, word-now}
+use Rattle.mm_count.proofs.Lowering.{named-now, reference-now, apart-lowered}
 use Rattle.mm_count.proofs.table.ZeroTable.lower_slots.Goals as goal
 
 pub loop-s-init : goal.loop-s-init
