@@ -4,6 +4,7 @@ pub mod Changes
 pub mod Composites
 pub mod Counted
 pub mod Entries
+pub mod Leaving
 pub mod Lowering
 pub mod Null
 pub mod Places
