@@ -1,6 +1,6 @@
 -- What stays of the counts without the slots of some objects, of the table's members and of the pins where an object's
 -- composite changes but for its count.
-use Rattle.std.proofs.Common.{◌≡◌, ◌≢◌, ⊎_elim, ℕ, Bool, false, List, sym, ap, ◌∙◌, subst, arith, refl}
+use Rattle.std.proofs.Common.{◌≡◌, ⊎_elim, ℕ, Bool, List, sym, ap, ◌∙◌, arith, refl}
 use Rattle.std.specs.Prelude.{IsTrue}
 use Rattle.std.proofs.lemmas.Bool.{cases_eq}
 use Rattle.mm_model.specs.Object.{is_counted}
