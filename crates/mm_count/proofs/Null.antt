@@ -8,7 +8,8 @@ use Rattle.mm_object.specs.Heap.{Heap, IsSound}
 use Rattle.mm_count.specs.declared.composite.Composite.{Composite}
 use Rattle.mm_count.specs.Composite.{composite_in}
 use Rattle.mm_count.specs.Table.{Table}
-use Rattle.mm_count.specs.Counts.{entry_at, composite_at, IsCountedBy, one_more, with_composite, changed_at, without_places, table_raised, table_lowered, KeepsObjects}
+use Rattle.mm_count.specs.Counts.{entry_at, composite_at, IsCountedBy, one_more, with_composite, changed_at}
+use Rattle.mm_count.specs.Counts.{without_places, table_raised, table_lowered, KeepsObjects}
 use Rattle.mm_count.proofs.Entries.{mapped_begins}
 use Rattle.mm_count.proofs.Places.{bared}
 use Rattle.mm_count.proofs.Counted.{one_more-other}
@@ -46,8 +47,8 @@ module _ (h : Heap) (sound : IsSound h) where
       → table ≡ table_lowered table (composite_at h.objects word) word
   table_lowered-zero table word e = ap (λ c. table_lowered table c word) (sym (composite_at-zero word e))
 
-  other : (word : ℕ) → word ≡ 0 → (b : ℕ) (v : ObjectView) → Begins (views_of h.objects) b v → b ≢ word
-  other word e b v begins same =
+  pub none_begins : (word : ℕ) → word ≡ 0 → (b : ℕ) (v : ObjectView) → Begins (views_of h.objects) b v → b ≢ word
+  none_begins word e b v begins same =
       let m = mapped_begins view_of_stored h.objects b v begins in
       none m.value (subst (λ n. Begins h.objects n m.value) (same ∙ e) m.begins)
 
@@ -57,7 +58,7 @@ module _ (h : Heap) (sound : IsSound h) where
       record {
         exact = λ b v begins counted exact.
             let is = right.exact b v begins counted exact in
-            let more = one_more-other outside word b (other word e b v begins) in
+            let more = one_more-other outside word b (none_begins word e b v begins) in
             omega arith;
         few = right.few;
       }
@@ -68,7 +69,7 @@ module _ (h : Heap) (sound : IsSound h) where
       record {
         exact = λ b v begins counted exact.
             let is = right.exact b v begins counted exact in
-            let more = one_more-other outside word b (other word e b v begins) in
+            let more = one_more-other outside word b (none_begins word e b v begins) in
             omega arith;
         few = right.few;
       }

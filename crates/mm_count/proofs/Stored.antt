@@ -1,5 +1,6 @@
 -- One counted slot is written, between the raise of the new word and the lowering of the old one.
-use Rattle.std.proofs.Common.{◌≡◌, ◌≢◌, ⊎_elim, ℕ, ◌+◌, ◌*◌, ◌/◌, ◌<◌, ◌≤◌, Bool, true, false, cond, List, [], take, length, Option, Some, None, refl, sym, ap, ◌∙◌, subst, get_or, arith}
+use Rattle.std.proofs.Common.{◌≡◌, ◌≢◌, ⊎_elim, ℕ, ◌+◌, ◌*◌, ◌/◌, ◌<◌, ◌≤◌, Bool, true, false, cond, List, [], take}
+use Rattle.std.proofs.Common.{length, Option, Some, None, refl, sym, ap, ◌∙◌, subst, get_or, arith}
 use Rattle.std.specs.Prelude.{slice_get, slice_set, slice_index, nat_lt, ◌==◌, if◌then◌else◌, IsTrue}
 use Rattle.std.specs.List.{count_by}
 use Rattle.std.specs.Option.{option_map, option_and_then}
@@ -20,8 +21,11 @@ use Rattle.mm_object.specs.Object.{StoredObject, StoredObjects, view_of_stored, 
 use Rattle.mm_object.specs.Heap.{Heap, with_object}
 use Rattle.mm_count.specs.declared.composite.Composite.{Composite}
 use Rattle.mm_count.specs.Table.{Table, composite_of, IsCountedAt, IsRight}
-use Rattle.mm_count.specs.Counts.{composite_told, composite_at, counts_of, IsCountedBy, one_more, raised, changed_at, with_word, written_at, unplaced, without_places, table_lowered, entry_at, with_composite, KeepsObjects, NamesCounted, HasCountedSlot, HasReference}
-use Rattle.mm_count.proofs.Entries.{begins_get, entry_at-begins, begins_here, begins_there, begins_cases, begins_mapped, mapped_begins}
+use Rattle.mm_count.specs.Counts.{composite_told, composite_at, counts_of, IsCountedBy, one_more, raised, changed_at}
+use Rattle.mm_count.specs.Counts.{with_word, written_at, unplaced, without_places, table_lowered, entry_at}
+use Rattle.mm_count.specs.Counts.{with_composite, KeepsObjects, NamesCounted, HasCountedSlot, HasReference}
+use Rattle.mm_count.proofs.Entries.{begins_get, entry_at-begins, begins_here, begins_there, begins_cases}
+use Rattle.mm_count.proofs.Entries.{begins_mapped, mapped_begins}
 use Rattle.mm_count.proofs.Composites.{decides, refutes}
 use Rattle.mm_count.proofs.Counted.{counts_of-begins, one_more-other}
 use Rattle.mm_count.proofs.References.{references_of, references-with_entry}
@@ -29,7 +33,7 @@ use Rattle.mm_count.proofs.Places.{bare, bared, composite_of-bare}
 use Rattle.mm_count.proofs.Right.{right-kept}
 
 -- a word that is replaced, in a count of those that are a base
-abbrev one_if : Bool → ℕ
+abbrev pub one_if : Bool → ℕ
 one_if b = if b then 1 else 0
 
 count-set : (words : List ℕ) (s word b : ℕ) → s < length words
@@ -101,7 +105,7 @@ module _ (h : Heap) (base : ℕ) (o : StoredObject) (begins : Begins h.objects b
     abbrev old : ℕ
     old = slice_index o.words s
 
-    all-references : (b : ℕ)
+    pub all-references : (b : ℕ)
         → references_in (views_of stored.objects) b + one_if (old == b)
         ≡ references_in (views_of h.objects) b + one_if (word == b)
     all-references b =
@@ -173,7 +177,8 @@ module _ (h : Heap) (base : ℕ) (o : StoredObject) (begins : Begins h.objects b
       ∙ ap (λ (x : Option (Option StoredObject)). composite_told (option_and_then (λ (x : Option StoredObject). x) x))
       (get-set_same h.objects (base / 16) (Some o) (Some (with_word s word o)) is)
       ∙ sym (ap (λ n. composite_told (option_and_then (λ (x : Option StoredObject). x) (slice_get h.objects n))) e
-      ∙ ap (λ (x : Option (Option StoredObject)). composite_told (option_and_then (λ (x : Option StoredObject). x) x)) is))
+      ∙ ap (λ (x : Option (Option StoredObject)). composite_told (option_and_then (λ (x : Option StoredObject). x) x))
+      is))
       (λ (n : b / 16 ≡ base / 16 → ⊥).
       ap (λ (x : Option (Option StoredObject)). composite_told (option_and_then (λ (x : Option StoredObject). x) x))
       (get-set_other h.objects (base / 16) (b / 16) (Some (with_word s word o)) n))
@@ -261,13 +266,13 @@ module _ (h raised_heap written : Heap) (base s word : ℕ) (slot : HasCountedSl
     (raises : without_places raised_heap ≡ changed_at raised word (without_places h))
     (writes : (object : StoredObject) → Begins raised_heap.objects base object
     → written ≡ with_object raised_heap base (Some (record object { words = slice_set object.words s word }))) where
-  abbrev first : (composite : ℕ) × Begins raised_heap.objects base (record slot.object { composite = composite })
+  abbrev pub first : (composite : ℕ) × Begins raised_heap.objects base (record slot.object { composite = composite })
   first = keeps.to base slot.object slot.begins
 
-  abbrev object-now : StoredObject
+  abbrev pub object-now : StoredObject
   object-now = record slot.object { composite = first.0 }
 
-  is : written ≡ stored raised_heap base object-now first.1 s word
+  pub is : written ≡ stored raised_heap base object-now first.1 s word
   is = writes object-now first.1
 
   pub between-right : (table : Table) → IsRight table raised_heap → IsRight table written

@@ -1,4 +1,7 @@
+pub mod Apart
 pub mod Composite
 pub mod Counts
 pub mod Kept
+pub mod Listed
+pub mod Sticky
 pub mod Table
