@@ -1,4 +1,5 @@
 pub mod Composite
 pub mod Counts
+pub mod DeadApart
 pub mod Kept
 pub mod Table
