@@ -2,4 +2,6 @@ pub mod Composite
 pub mod Counts
 pub mod DeadApart
 pub mod Kept
+pub mod Listed
+pub mod Sticky
 pub mod Table
