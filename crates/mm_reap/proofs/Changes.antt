@@ -5,7 +5,8 @@ use Rattle.mm_object.specs.Heap.{Heap}
 use Rattle.mm_count.specs.declared.composite.Composite.{Composite}
 use Rattle.mm_count.specs.Composite.{FitsWord}
 use Rattle.mm_count.specs.Table.{composite_of, IsCountedAt}
-use Rattle.mm_count.specs.Counts.{composite_at, counts_of, left, with_pin, changed_at, unplaced, without_places, KeepsObjects}
+use Rattle.mm_count.specs.Counts.{composite_at, counts_of, left, with_pin, changed_at, unplaced, without_places}
+use Rattle.mm_count.specs.Counts.{KeepsObjects}
 use Rattle.mm_count.proofs.Words.{fits-composite_in}
 use Rattle.mm_count.proofs.Places.{IsOwn, IsOther, cases, composite_of-own, composite_of-other}
 use Rattle.mm_reap.specs.Pins.{HasLeft}
@@ -45,7 +46,8 @@ module _ (h h' : Heap) (f : Composite → Composite) (base : ℕ) (k : IsCounted
 module _ (h h' : Heap) (base : ℕ) (k : IsCountedAt h.objects base)
     (e : without_places h' ≡ changed_at left base (without_places h)) (keeps : KeepsObjects h.objects h'.objects) where
   fits-left : FitsWord (left (unplaced (composite_of k.object)))
-  fits-left = let fits = fits-composite_in k.object.composite in let n = fits.count in record { count = n; place = omega arith }
+  fits-left =
+      let fits = fits-composite_in k.object.composite in let n = fits.count in record { count = n; place = omega arith }
 
   alike : {X : Type 0} (f : Composite → X)
       → ((c : Composite) → f (left c) ≡ f c) → ((c : Composite) → f (unplaced c) ≡ f c)
@@ -66,7 +68,8 @@ module _ (h h' : Heap) (base : ℕ) (k : IsCountedAt h.objects base)
   has-left =
       record {
         own = ap (λ (c : Composite). c.listed) (own-says h h' left base k e keeps fits-left);
-        others = λ b j other. ap (λ (c : Composite). c.listed) (other-says h h' left base k e keeps fits-left b j other);
+        others = λ b j other.
+            ap (λ (c : Composite). c.listed) (other-says h h' left base k e keeps fits-left b j other);
         pins = λ b j. alike (λ (c : Composite). c.pinned) (λ c. refl) (λ c. refl) b j;
         counts = λ b j. alike (λ (c : Composite). c.count) (λ c. refl) (λ c. refl) b j;
       }
@@ -75,7 +78,8 @@ module _ (h h' : Heap) (pinned : Bool) (base : ℕ) (k : IsCountedAt h.objects b
     (e : without_places h' ≡ changed_at (with_pin pinned) base (without_places h))
     (keeps : KeepsObjects h.objects h'.objects) where
   fits-pin : FitsWord (with_pin pinned (unplaced (composite_of k.object)))
-  fits-pin = let fits = fits-composite_in k.object.composite in let n = fits.count in record { count = n; place = omega arith }
+  fits-pin =
+      let fits = fits-composite_in k.object.composite in let n = fits.count in record { count = n; place = omega arith }
 
   alike-pin : {X : Type 0} (f : Composite → X)
       → ((c : Composite) → f (with_pin pinned c) ≡ f c) → ((c : Composite) → f (unplaced c) ≡ f c)

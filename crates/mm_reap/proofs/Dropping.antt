@@ -1,5 +1,6 @@
 -- What was found once the slots of one object of it hold no counts any more.
-use Rattle.std.proofs.Common.{◌≡◌, ◌⊎◌, ⊎_elim, inl, inr, ℕ, ◌+◌, ◌<◌, ◌≤◌, Bool, true, false, List, [], ◌∷◌, ◌++◌, length, take, refl, sym, ap, ◌∙◌, subst, arith}
+use Rattle.std.proofs.Common.{◌≡◌, ◌⊎◌, ⊎_elim, inl, inr, ℕ, ◌+◌, ◌<◌, ◌≤◌, Bool, true, false, List, [], ◌∷◌, ◌++◌}
+use Rattle.std.proofs.Common.{length, take, refl, sym, ap, ◌∙◌, subst, arith}
 use Rattle.std.specs.Prelude.{◌||◌, ◌==◌, slice_index}
 use Rattle.std.proofs.lemmas.List.{take_more, length-take-le, get_or-take, take-take}
 use Rattle.std.proofs.lemmas.Option.{get_or_from_slice_get}
@@ -39,7 +40,8 @@ once-before bases once i below = not-lists (take i bases) (slice_index bases i) 
         let within = get-take_within i one.0 bases one.1 one.2 in
         let here = sym (get-take i one.0 bases within) ∙ one.2 in
         let is = get_or_from_slice_get bases one.0 one.1 0 here in
-        let same = once-places bases once one.0 i (omega arith) below (is ∙ same-true one.1 (slice_index bases i) one.3) in
+        let same = once-places bases once one.0 i (omega arith) below
+        (is ∙ same-true one.1 (slice_index bases i) one.3) in
         omega arith
 
 module _ (words : List ℕ) (i k base : ℕ) (below : i < k) (within : k ≤ length words)
@@ -192,7 +194,8 @@ module _ (h h' : Heap) (base : ℕ) (k : IsCountedAt h.objects base) (recounted 
           zero = λ b e.
               let held = none-now b e in
               let none = none-apart h.objects stack dropped found outside was r b e in
-              let now = apart-exact (base ∷ dropped) h'.objects outside apart b (to b (was.counted b e)) (exact-now b e) in
+              let now = apart-exact (base ∷ dropped) h'.objects outside apart b
+              (to b (was.counted b e)) (exact-now b e) in
               omega arith;
           once = was.once;
           others = λ b j sticky zero none.

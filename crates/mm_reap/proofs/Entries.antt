@@ -1,5 +1,6 @@
 -- The entries of the table from a place on, once one of them is looked at.
-use Rattle.std.proofs.Common.{◌≡◌, ◌≢◌, ⊎_elim, ℕ, ◌+◌, ◌-◌, ◌<◌, ◌≤◌, true, cond, List, [], length, Some, sym, ap, ◌∙◌, arith}
+use Rattle.std.proofs.Common.{◌≡◌, ◌≢◌, ⊎_elim, ℕ, ◌+◌, ◌-◌, ◌<◌, ◌≤◌, true, cond, List, [], length, Some, sym, ap}
+use Rattle.std.proofs.Common.{◌∙◌, arith}
 use Rattle.std.specs.Prelude.{slice_get, slice_index}
 use Rattle.std.proofs.lemmas.Bool.{cases_eq}
 use Rattle.std.proofs.lemmas.Option.{slice_get-get_or, slice_get_within}
@@ -74,7 +75,8 @@ module _ (table : Table) (h : Heap) (right : IsRight table h) (i base : ℕ) (be
     moved : (place b : ℕ) → slice_get after.entries place ≡ Some b → i ≤ place
         → (from : ℕ) × (i + 1 ≤ from) × (slice_get table.entries from ≡ Some b)
     moved place b at from =
-        let there : slice_get (without_place table.entries i) place ≡ Some b = ap (λ es. slice_get es place) (sym now) ∙ at in
+        let there : slice_get (without_place table.entries i) place ≡ Some b =
+        ap (λ es. slice_get es place) (sym now) ∙ at in
         let within = without_place_within table.entries i place b there in
         let last = length table.entries - 1 in
         ⊎_elim

@@ -1,16 +1,19 @@
 -- Words that are written behind others.
-use Rattle.std.proofs.Common.{◌≡◌, ℕ, ◌+◌, ◌-◌, ◌<◌, ◌≤◌, List, [], ◌∷◌, ◌++◌, length, take, drop, refl, sym, ap, ◌∙◌, arith}
+use Rattle.std.proofs.Common.{◌≡◌, ℕ, ◌+◌, ◌-◌, ◌<◌, ◌≤◌, List, [], ◌∷◌, ◌++◌, length, take, drop, refl, sym, ap, ◌∙◌}
+use Rattle.std.proofs.Common.{arith}
 use Rattle.std.specs.Prelude.{slice_set, slice_index, slice_range}
 use Rattle.std.proofs.lemmas.List.Sums.{sum_by_more}
 use Rattle.mm_model.specs.ObjectView.{ObjectsByBase}
 use Rattle.mm_reap.specs.Slots.{counted_slots_at, counted_slots_of}
-use Rattle.std.proofs.lemmas.List.{take-set, take_more_set, drop-set-lt, drop-drop, take-take, take-append-le, take_all, length-take}
+use Rattle.std.proofs.lemmas.List.{take-set, take_more_set, drop-set-lt, drop-drop, take-take, take-append-le}
+use Rattle.std.proofs.lemmas.List.{take_all, length-take}
 use Rattle.std.proofs.Math.ListN.{length-set}
 use Rattle.mm_words.specs.Piece.{Piece, with_words}
 use Rattle.mm_words.specs.Location.{Location, location_of}
 use Rattle.mm_reap.specs.Filled.{IsFilled}
 
-module _ (a b : Piece) (k word : ℕ) (writes : b ≡ with_words a (slice_set a.words k word)) (below : k < length a.words) where
+module _ (a b : Piece) (k word : ℕ) (writes : b ≡ with_words a (slice_set a.words k word))
+    (below : k < length a.words) where
   words-is : b.words ≡ slice_set a.words k word
   words-is = ap (λ (p : Piece). p.words) writes
 

@@ -1,5 +1,6 @@
 -- Which objects hold a base in their counted slots, and how many of these there are.
-use Rattle.std.proofs.Common.{◌≡◌, ℕ, suc, ◌+◌, ◌*◌, Bool, true, false, cond, List, [], ◌∷◌, Option, Some, None, refl, sym, ap, ◌∙◌, arith}
+use Rattle.std.proofs.Common.{◌≡◌, ℕ, suc, ◌+◌, ◌*◌, Bool, true, false, cond, List, [], ◌∷◌, Option, Some, None, refl}
+use Rattle.std.proofs.Common.{sym, ap, ◌∙◌, arith}
 use Rattle.std.specs.Prelude.{◌==◌, not, slice_get}
 use Rattle.std.specs.List.{list_any, sum_by, count_by}
 use Rattle.std.specs.Option.{option_map, option_and_then}
@@ -46,7 +47,8 @@ module _ {X : Type 0} (bases : List ℕ) (entries : List (Option X)) (base : ℕ
       record {
         grain = k;
         aligned = begins.aligned;
-        is = get-changed (unless_dead bases) entries k ∙ ap (option_map (option_and_then (unless_dead bases (16 * k)))) begins.is
+        is = get-changed (unless_dead bases) entries k
+            ∙ ap (option_map (option_and_then (unless_dead bases (16 * k)))) begins.is
             ∙ ap (λ b. Some (cond b None (Some x))) (ap (lists bases) (sym begins.aligned) ∙ out);
       }
 

@@ -1,5 +1,6 @@
 -- What was found once one more object has left the table.
-use Rattle.std.proofs.Common.{◌≡◌, ⊎_elim, ℕ, ◌+◌, ◌-◌, ◌*◌, ◌≤◌, Bool, true, false, List, [], ◌∷◌, ◌++◌, length, refl, sym, ap, ◌∙◌, subst, length-append, arith}
+use Rattle.std.proofs.Common.{◌≡◌, ⊎_elim, ℕ, ◌+◌, ◌-◌, ◌*◌, ◌≤◌, Bool, true, false, List, [], ◌∷◌, ◌++◌, length}
+use Rattle.std.proofs.Common.{refl, sym, ap, ◌∙◌, subst, length-append, arith}
 use Rattle.std.specs.Prelude.{not, ◌&&◌, ◌==◌}
 use Rattle.mm_model.specs.Object.{is_counted}
 use Rattle.mm_model.specs.Phase.{lists}
@@ -104,7 +105,8 @@ module _ (table : Table) (h h' : Heap) (base : ℕ) (found : List ℕ) (entry : 
         split : (b : Bool) → lists dropped by ≡ b → b ≡ true
         split true e = refl
         split false e =
-            let zero : references_in (without dropped (views_of h.objects)) base ≡ 0 = let all = none-held in omega arith in
+            let zero : references_in (without dropped (views_of h.objects)) base ≡ 0 =
+            let all = none-held in omega arith in
             absurd (no_other
             (none-holds (without dropped (views_of h.objects)) base zero by holder
             (begins-without dropped (views_of h.objects) by holder begins e)) held)
@@ -112,7 +114,8 @@ module _ (table : Table) (h h' : Heap) (base : ℕ) (found : List ℕ) (entry : 
     only : only_slots_hold_at stack outside base (view_of_stored own) ≡ true
     only =
         let is = composite_at-begins h.objects base own entry.counted.begins in
-        four (is_counted own.kind) (composite_of own).sticky (names_at stack base (view_of_stored own)) (outside base == 0)
+        four (is_counted own.kind) (composite_of own).sticky (names_at stack base (view_of_stored own))
+        (outside base == 0)
         entry.counted.counted
         (sym (ap (λ (c : Composite). c.sticky) is) ∙ listed-exact table h right base entry.counted entry.listed)
         (sym (r.pins base own entry.counted.begins entry.counted.counted)
@@ -134,7 +137,8 @@ module _ (table : Table) (h h' : Heap) (base : ℕ) (found : List ℕ) (entry : 
               ∙ has.pins b (record { object = x; begins = back.1; counted = counted })
               ∙ ap (λ (c : Composite). c.pinned) (composite_at-begins h.objects b x back.1)
               ∙ r.pins b x back.1 counted;
-          counts = apart-same dropped h.objects h'.objects outside recounted.objects recounted.views has.counts r.counts;
+          counts = apart-same dropped h.objects h'.objects outside
+              recounted.objects recounted.views has.counts r.counts;
           within = λ b e. lists-before found base b (r.within b e);
           reapable = λ b e.
               subst (λ (vs : ObjectsByBase). IsReapableAt vs stack outside b) (sym recounted.views)

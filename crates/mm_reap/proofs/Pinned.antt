@@ -1,5 +1,6 @@
 -- Which objects are pinned once some words were gone through.
-use Rattle.std.proofs.Common.{◌≡◌, ◌≢◌, ⊎_elim, ℕ, ◌+◌, ◌<◌, ◌≤◌, Bool, true, false, List, [], ◌∷◌, take, length, reverse, refl, sym, ap, ◌∙◌, subst, arith}
+use Rattle.std.proofs.Common.{◌≡◌, ◌≢◌, ⊎_elim, ℕ, ◌+◌, ◌<◌, ◌≤◌, Bool, true, false, List, [], ◌∷◌, take, length}
+use Rattle.std.proofs.Common.{reverse, refl, sym, ap, ◌∙◌, subst, arith}
 use Rattle.std.specs.Prelude.{IsTrue, not, ◌||◌, slice_index_or}
 use Rattle.std.proofs.lemmas.Bool.{cases_eq}
 use Rattle.std.proofs.lemmas.List.Folds.{list_any_more}
@@ -100,7 +101,8 @@ module _ (a b c : StoredObjects) (keeps : KeepsObjects a b) (words more : List �
         named = λ base o begins counted e. either base o begins counted (falls word base o.extent) refl e;
         others = λ base o begins counted e.
             let k = counted-to a b keeps base (record { object = o; begins = begins; counted = counted }) in
-            neither base o begins counted (falls word base o.extent) refl (names_at words base (view_of_stored o)) refl e;
+            neither base o begins counted (falls word base o.extent) refl
+            (names_at words base (view_of_stored o)) refl e;
         listed = λ base k. q.listed base (counted-to a b keeps base k) ∙ p.listed base k;
         counts = λ base k. q.counts base (counted-to a b keeps base k) ∙ p.counts base k;
       }
@@ -181,7 +183,8 @@ pinned-alike a b words others pinned same p =
     }
 
 names-reverse : (words : List ℕ) (base : ℕ) (v : ObjectView) → names_at (reverse words) base v ≡ names_at words base v
-names-reverse words base v = sym (list_any-IsPermutation (λ word. falls word base v.extent) words (reverse words) (IsPermutation-reverse words))
+names-reverse words base v =
+    sym (list_any-IsPermutation (λ word. falls word base v.extent) words (reverse words) (IsPermutation-reverse words))
 
 pub pinned-reverse : (a b : StoredObjects) (words : List ℕ) (pinned : Bool) → ArePinned a b (reverse words) pinned
     → ArePinned a b words pinned
@@ -239,5 +242,6 @@ pub names-other : (h : Heap) → IsSound h → (word base : ℕ) (o : StoredObje
     → is_counted o.kind ≡ false → NamesNoCounted h word
 names-other h sound word base o covers other b p there counted =
     let same = covers-once h sound word b base p o there covers in
-    let is : p ≡ o = begins_same h.objects base p o (subst (λ n. Begins h.objects n p) same there.begins) covers.begins in
+    let is : p ≡ o = begins_same h.objects base p o
+    (subst (λ n. Begins h.objects n p) same there.begins) covers.begins in
     no_other (ap (λ (x : StoredObject). is_counted x.kind) is ∙ other) counted

@@ -68,6 +68,10 @@ keeps-both a b c p q =
           let mid = q.back base o begins in p.back base (record o { composite = mid.0 }) mid.1;
     }
 
+pub recounted-by : {a b : Heap} → views_of b.objects ≡ views_of a.objects → KeepsObjects a.objects b.objects
+    → b ≡ record a { objects = b.objects } → IsRecounted a b
+recounted-by views objects rest = record { views = views; objects = objects; rest = rest }
+
 pub recounted-same : (h : Heap) → IsRecounted h h
 recounted-same h = record { views = refl; objects = keeps-same h.objects; rest = refl }
 

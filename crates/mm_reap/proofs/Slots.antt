@@ -1,5 +1,6 @@
 -- The words of an object's counted slots, one after the other.
-use Rattle.std.proofs.Common.{◌≡◌, ◌≢◌, ◌⊎◌, ⊎_elim, inl, inr, ℕ, ◌+◌, ◌<◌, ◌≤◌, Bool, true, false, cond, List, [], ◌∷◌, length, take, drop, Some, refl, sym, ap, ◌∙◌, subst, eqb-true, arith}
+use Rattle.std.proofs.Common.{◌≡◌, ◌≢◌, ◌⊎◌, ⊎_elim, inl, inr, ℕ, ◌+◌, ◌<◌, ◌≤◌, Bool, true, false, cond, List, []}
+use Rattle.std.proofs.Common.{◌∷◌, length, take, drop, Some, refl, sym, ap, ◌∙◌, subst, eqb-true, arith}
 use Rattle.std.specs.Prelude.{IsTrue, ◌||◌, ◌==◌, nat_lt, slice_index}
 use Rattle.std.proofs.lemmas.Option.{slice_get-get_or}
 use Rattle.std.proofs.lemmas.List.{drop_more, drop_all, length-take, get_or-take}
@@ -91,7 +92,11 @@ module _ (objects : StoredObjects) (base s word : ℕ) (slot : HasCountedSlot ob
         split false t e =
             let one = begins_counted_from (views_of objects) word e in
             let o = seen objects word one.object one.begins in
-            record { object = o.object; begins = o.begins; counted = ap (λ (v : ObjectView). is_counted v.kind) o.is ∙ one.counted }
+            record {
+              object = o.object;
+              begins = o.begins;
+              counted = ap (λ (v : ObjectView). is_counted v.kind) o.is ∙ one.counted;
+            }
 
   pub slot-counted : HoldTight (views_of objects) → word ≢ 0 → IsCountedAt objects word
   slot-counted tight some =
@@ -147,7 +152,8 @@ module _ (h : Heap) (sound : IsSound h) (base : ℕ) (k : IsCountedAt h.objects 
 
   pub slots-at : counted_slots_at (views_of h.objects) base ≡ o.counted
   slots-at =
-      ap counted_slots_told (entry_at-begins (views_of h.objects) base (view_of_stored o) (view-begins h.objects base o k.begins))
+      ap counted_slots_told
+      (entry_at-begins (views_of h.objects) base (view_of_stored o) (view-begins h.objects base o k.begins))
       ∙ length-words
 
   pub slot-at : (s : ℕ) → s < o.counted → HasCountedSlot h.objects base s

@@ -1,5 +1,6 @@
 -- What a reap finds, from its beginning to its end.
-use Rattle.std.proofs.Common.{◌≡◌, ◌≢◌, cond, ℕ, suc, ◌<◌, ◌≤◌, Bool, true, false, List, [], ◌∷◌, refl, sym, ap, ◌∙◌, subst, arith}
+use Rattle.std.proofs.Common.{◌≡◌, ◌≢◌, cond, ℕ, suc, ◌<◌, ◌≤◌, Bool, true, false, List, [], ◌∷◌, refl, sym, ap, ◌∙◌}
+use Rattle.std.proofs.Common.{subst, arith}
 use Rattle.std.specs.Prelude.{not, ◌&&◌, ◌||◌, ◌==◌, slice_index_or, IsPermutation}
 use Rattle.std.specs.List.{AllByRecursion}
 use Rattle.std.specs.List.Sorted.{IsNonDecreasing}
@@ -95,7 +96,8 @@ module _ (objects : StoredObjects) (stack found : List ℕ) (outside : ℕ → �
       exact = never v.sticky (second-of (is_counted v.kind) (not v.sticky) two)
 
       unnamed : names_at stack b v ≡ false
-      unnamed = never (names_at stack b v) (second-of (is_counted v.kind && not v.sticky) (not (names_at stack b v)) three)
+      unnamed =
+          never (names_at stack b v) (second-of (is_counted v.kind && not v.sticky) (not (names_at stack b v)) three)
 
       none-outside : outside b ≡ 0
       none-outside =

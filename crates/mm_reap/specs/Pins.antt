@@ -44,7 +44,8 @@ ArePinnedFrom from entries objects =
 -- an object in the table is pinned, or a counted slot of the object at a base names it, from this slot on
 abbrev pub ListsPinnedOrNamed : StoredObjects → ℕ → ℕ → Type 0
 ListsPinnedOrNamed objects by from =
-    (holder : ObjectView) → Begins (views_of objects) by holder → ListsPinned objects (drop from (counted_words_of holder))
+    (holder : ObjectView) → Begins (views_of objects) by holder
+    → ListsPinned objects (drop from (counted_words_of holder))
 
 -- a counted object that is in the table and isn't pinned
 pub record IsUnpinnedEntry (objects : StoredObjects) (base : ℕ) : Type 0 where

@@ -8,10 +8,9 @@ ghost use Rattle.mm_words.specs.Piece.{with_words};
 ghost use Rattle.mm_count.specs.Table.{IsCountedAt};
 ghost use Rattle.mm_count.specs.Counts.{composite_at, HasCountedSlot, table_left};
 ghost use Rattle.mm_count.specs.DeadApart.{IsRecounted};
-ghost use Rattle.mm_reap.specs.Slots.{counted_slots_at, counted_slots_of};
 ghost use Rattle.mm_reap.specs.Filled.{IsFilled};
 ghost use Rattle.mm_reap.specs.Pins.{ListsPinned, ListsPinnedOrNamed, ArePinnedFrom, IsUnpinnedEntry, IsEntryIf, HasLeft};
-ghost use Rattle.mm_reap.specs.Found.{AreReapable, SomeReapable, IsReaped};
+ghost use Rattle.mm_reap.specs.Found.{AreReapable, IsReaped};
 
 use mm_count::ZeroTable;
 use mm_object::{Heap, Slot};

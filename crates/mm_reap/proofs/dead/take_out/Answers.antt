@@ -20,7 +20,8 @@ returns-clause-few g c =
     let old = take c.args.k c.args.dead.now.words in
     let size = length-take-le c.args.k c.args.dead.now.words c.requires.within in
     let fit = found-fit c.args.count.now c.args.heap.now c.leave.new.heap c.args.base old c.requires.entry
-    c.requires.reaped.right (returns-clause-heap g c) (returns-clause-left g c) c.requires.reaped.found c.requires.reaped.sound in
+    c.requires.reaped.right (returns-clause-heap g c) (returns-clause-left g c)
+    c.requires.reaped.found c.requires.reaped.sound in
     let pages = c.requires.reaped.sound.size in
     omega arith
 
@@ -47,7 +48,8 @@ returns-clause-reaped g c =
       right = c.leave.ensures.right;
       sound = c.leave.ensures.sound;
       found = subst (AreFound c.leave.new.heap.objects)
-          (sym (front-one c.args.dead.now c.set.new.self c.args.k c.args.base c.set.ensures (omega (arith, returns-clause-few g c))))
+          (sym (front-one c.args.dead.now c.set.new.self c.args.k c.args.base c.set.ensures
+          (omega (arith, returns-clause-few g c))))
           (found-more c.args.count.now c.args.heap.now c.leave.new.heap c.args.base
           (take c.args.k c.args.dead.now.words) c.requires.entry c.requires.reaped.right (returns-clause-heap g c)
           (returns-clause-left g c) c.requires.reaped.found);
@@ -56,7 +58,8 @@ returns-clause-reaped g c =
 pub returns-clause-reapable : goal.returns-clause-reapable
 returns-clause-reapable g c = λ stack dropped outside are.
     subst (λ (bases : List ℕ). AreReapable c.leave.new.heap.objects stack dropped bases outside)
-    (sym (front-one c.args.dead.now c.set.new.self c.args.k c.args.base c.set.ensures (omega (arith, returns-clause-few g c))))
+    (sym (front-one c.args.dead.now c.set.new.self c.args.k c.args.base c.set.ensures
+    (omega (arith, returns-clause-few g c))))
     (reapable-more c.args.count.now c.args.heap.now c.leave.new.heap c.args.base
     (take c.args.k c.args.dead.now.words) c.requires.entry c.requires.reaped.right (returns-clause-heap g c)
     (returns-clause-left g c) c.requires.reaped.found stack dropped outside are)

@@ -5,7 +5,7 @@ use Rattle.mm_model.specs.GoodView.{HoldTight}
 use Rattle.mm_object.specs.Object.{views_of}
 use Rattle.mm_reap.specs.Slots.{counted_slots_at}
 use Rattle.mm_reap.specs.Found.{AreReapable}
-use Rattle.mm_reap.proofs.Recounted.{counted-to, recounted-both}
+use Rattle.mm_reap.proofs.Recounted.{counted-to, recounted-both, recounted-by}
 use Rattle.mm_reap.proofs.Dropping.{front-found, front-out, front-more, dropped-pinned, dropped-found, dropped-reapable}
 use Rattle.mm_reap.proofs.Slots.{slots-at, length-words}
 use Rattle.mm_reap.proofs.following.follow.Goals as goal
@@ -44,7 +44,7 @@ follow_slots-requires-clause-pinned g c =
     let k = c.requires.reaped.found.counted base (front-found c.args.dead.now.words c.args.i c.args.k base
     c.requires.next c.requires.within c.get-base.ensures) in
     dropped-pinned c.args.heap.now c.lower_slots.new.heap base k
-    (record { views = c.lower_slots.ensures.views; objects = c.lower_slots.ensures.objects; rest = c.lower_slots.ensures.rest })
+    (recounted-by c.lower_slots.ensures.views c.lower_slots.ensures.objects c.lower_slots.ensures.rest)
     c.lower_slots.ensures.pins (c.lower_slots.ensures.listed k.object k.begins) c.requires.pinned
 
 pub follow_slots-requires-clause-reaped : goal.follow_slots-requires-clause-reaped
@@ -60,7 +60,7 @@ follow_slots-requires-clause-reaped g c =
       right = c.lower_slots.ensures.right;
       sound = c.lower_slots.ensures.sound;
       found = dropped-found c.args.heap.now c.lower_slots.new.heap base k
-          (record { views = c.lower_slots.ensures.views; objects = c.lower_slots.ensures.objects; rest = c.lower_slots.ensures.rest })
+          (recounted-by c.lower_slots.ensures.views c.lower_slots.ensures.objects c.lower_slots.ensures.rest)
           c.lower_slots.ensures.pins (c.lower_slots.ensures.listed k.object k.begins) some.stack
           (take c.args.i words) (take c.args.k words) some.outside c.requires.reaped.found some.are
           (c.lower_slots.ensures.counts (take c.args.i words) some.outside out some.are.counts) out;
@@ -83,12 +83,13 @@ returns-clause-reapable g c = λ stack outside are.
     c.requires.reaped.found.once in
     let below = c.requires.next in
     let front = sym (take-take (c.args.i + 1) c.args.k c.follow_slots.new.dead.words (omega arith))
-    ∙ ap (take (c.args.i + 1)) c.follow_slots.ensures.filled.front ∙ take-take (c.args.i + 1) c.args.k words (omega arith) in
+    ∙ ap (take (c.args.i + 1)) c.follow_slots.ensures.filled.front
+    ∙ take-take (c.args.i + 1) c.args.k words (omega arith) in
     subst (λ (ws : List ℕ). AreReapable c.follow_slots.new.heap.objects stack ws
     (take c.follow_slots.result c.follow_slots.new.dead.words) outside) (sym front)
     (c.follow_slots.ensures.reapable stack (take (c.args.i + 1) words) outside
     (dropped-reapable c.args.heap.now c.lower_slots.new.heap base k
-    (record { views = c.lower_slots.ensures.views; objects = c.lower_slots.ensures.objects; rest = c.lower_slots.ensures.rest })
+    (recounted-by c.lower_slots.ensures.views c.lower_slots.ensures.objects c.lower_slots.ensures.rest)
     c.lower_slots.ensures.pins (c.lower_slots.ensures.listed k.object k.begins) stack
     (take c.args.i words) (take c.args.k words) outside c.requires.reaped.found are
     (c.lower_slots.ensures.counts (take c.args.i words) outside out are.counts)
@@ -98,7 +99,7 @@ returns-clause-reapable g c = λ stack outside are.
 pub returns-clause-heap : goal.returns-clause-heap
 returns-clause-heap g c =
     recounted-both c.args.heap.now c.lower_slots.new.heap c.follow_slots.new.heap
-    (record { views = c.lower_slots.ensures.views; objects = c.lower_slots.ensures.objects; rest = c.lower_slots.ensures.rest })
+    (recounted-by c.lower_slots.ensures.views c.lower_slots.ensures.objects c.lower_slots.ensures.rest)
     c.follow_slots.ensures.heap
 
 pub returns-clause-cost : goal.returns-clause-cost

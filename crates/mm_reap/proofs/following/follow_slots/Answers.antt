@@ -25,7 +25,8 @@ loop-s-preserved g c = record {
       c.follow_slot-found.result c.loop-s.invariant.filled c.follow_slot-found.ensures.filled;
   reaped = c.follow_slot-found.ensures.reaped;
   reapable = λ stack dropped outside are.
-      c.follow_slot-found.ensures.reapable stack dropped outside (c.loop-s.invariant.reapable stack dropped outside are);
+      c.follow_slot-found.ensures.reapable stack dropped outside
+      (c.loop-s.invariant.reapable stack dropped outside are);
   heap = recounted-both c.args.heap.now c.loop-s.heap c.follow_slot-found.new.heap c.loop-s.invariant.heap
       c.follow_slot-found.ensures.heap;
   cost = omega (arith, c.loop-s.invariant.cost, c.follow_slot-found.ensures.cost);

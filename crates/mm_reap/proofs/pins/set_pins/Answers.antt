@@ -23,7 +23,8 @@ loop-word-preserved g c = record {
       (slice_index_or c.words-word-items.result.now c.loop-word.word-index 0) c.args.pinned
       (names-more c.words-word-items.result.now c.loop-word.word-index c.loop-word-test.true)
       c.loop-word.invariant.pins c.set_pin_in.ensures.pins;
-  heap = recounted-both c.args.heap.now c.loop-word.heap c.set_pin_in.new.heap c.loop-word.invariant.heap c.set_pin_in.ensures.heap;
+  heap = recounted-both c.args.heap.now c.loop-word.heap c.set_pin_in.new.heap
+      c.loop-word.invariant.heap c.set_pin_in.ensures.heap;
   right = c.set_pin_in.ensures.right;
   sound = c.set_pin_in.ensures.sound;
   cost = omega (arith, c.set_pin_in.ensures.cost, c.loop-word.invariant.cost);
@@ -33,7 +34,8 @@ pub returns-clause-pins : goal.returns-clause-pins
 returns-clause-pins g c =
     let words = c.words-word-items.result.now in
     let objects = c.loop-word.heap.objects in
-    let all : take c.loop-word.word-index words ≡ words = take_all c.loop-word.word-index words c.loop-word-test.false in
+    let all : take c.loop-word.word-index words ≡ words =
+    take_all c.loop-word.word-index words c.loop-word-test.false in
     pinned-reverse c.args.heap.now.objects objects c.args.stack.now.words c.args.pinned
     (subst (λ (ws : List ℕ). ArePinned c.args.heap.now.objects objects ws c.args.pinned)
     (all ∙ c.words-word-items.ensures.words) c.loop-word.invariant.pins)

@@ -103,7 +103,8 @@ returns-clause-cost g c =
     let views = c.take_entries-entries.ensures.heap.views ∙ c.set_pins.ensures.heap.views in
     let own = ap (λ (vs : ObjectsByBase). counted_slots_of vs before) views in
     let same : counted_slots_of old (take n c.sort_front.new.words.words) ≡ counted_slots_of old before =
-    sum_by-IsPermutation (counted_slots_at old) before (take n c.sort_front.new.words.words) c.sort_front.ensures.same in
+    sum_by-IsPermutation (counted_slots_at old) before (take n c.sort_front.new.words.words)
+    c.sort_front.ensures.same in
     let pins = c.set_pins.ensures.cost in
     let entries = c.take_entries-entries.ensures.cost in
     let found = c.follow_all-found.ensures.cost in
