@@ -1,9 +1,11 @@
 pub mod Apart
+pub mod Born
 pub mod ChangedEntries
 pub mod Changes
 pub mod Composites
 pub mod Counted
 pub mod Entries
+pub mod Leaving
 pub mod Lowering
 pub mod Null
 pub mod Places
