@@ -9,7 +9,8 @@ ghost use Rattle.mm_count.specs.Table.{IsCountedAt};
 ghost use Rattle.mm_count.specs.Counts.{composite_at, HasCountedSlot, table_left};
 ghost use Rattle.mm_count.specs.DeadApart.{IsRecounted};
 ghost use Rattle.mm_reap.specs.Filled.{IsFilled};
-ghost use Rattle.mm_reap.specs.Pins.{ListsPinned, ListsPinnedOrNamed, ArePinnedFrom, IsUnpinnedEntry, IsEntryIf, HasLeft};
+ghost use Rattle.mm_reap.specs.Pins.{ListsPinned, ListsPinnedOrNamed, ArePinnedFrom};
+ghost use Rattle.mm_reap.specs.Pins.{IsUnpinnedEntry, IsEntryIf, HasLeft};
 ghost use Rattle.mm_reap.specs.Found.{AreReapable, IsReaped};
 
 use mm_count::ZeroTable;
