@@ -10,7 +10,8 @@ use Rattle.mm_count.specs.Counts.{composite_at, counts_of}
 use Rattle.mm_count.specs.Apart.{AreCountsApart}
 use Rattle.mm_reap.specs.Pins.{PinsName}
 
--- Objects that have the count 0 and are out of the table, each once. Every other object with the count 0 is in it.
+-- Counted objects that aren't sticky, have the count 0 and are out of the table, each once. Every other such object with
+-- the count 0 is in the table.
 pub record AreFound (objects : StoredObjects) (found : List ℕ) : Type 0 where
   pub counted : (base : ℕ) → lists found base ≡ true → IsCountedAt objects base
   pub left : (base : ℕ) → lists found base ≡ true → (composite_at objects base).listed ≡ false
@@ -26,7 +27,8 @@ pub record IsReaped (table : Table) (heap : Heap) (bases : List ℕ) : Type 0 wh
   pub sound : IsSound heap
   pub found : AreFound heap.objects bases
 
--- Each that was found is reapable. Those whose slots are counted no more are some of them.
+-- What the stack names is pinned, each that was found is reapable, and counts are right without the slots of those that
+-- were dropped, which are some of them.
 pub record AreReapable (objects : StoredObjects) (stack dropped found : List ℕ) (outside : ℕ → ℕ) : Type 0 where
   pub pins : PinsName objects stack
   pub counts : AreCountsApart dropped objects outside

@@ -8,7 +8,8 @@ use Rattle.mm_object.specs.Heap.{Heap, Covers}
 use Rattle.mm_count.specs.Table.{IsCountedAt, composite_of}
 use Rattle.mm_count.specs.Counts.{composite_at, counts_of}
 
--- The counted objects in which one of the words falls are pinned now, or aren't, and nothing else is said of any.
+-- Of the counted objects, those in which one of the words falls are pinned now, or aren't. The pins of the others, what
+-- is in the table, and the counts are as they were.
 pub record ArePinned (before after : StoredObjects) (words : List ℕ) (pinned : Bool) : Type 0 where
   pub named : (base : ℕ) (object : StoredObject) → Begins before base object → IsTrue (is_counted object.kind)
       → names_at words base (view_of_stored object) ≡ true → (composite_at after base).pinned ≡ pinned
@@ -19,7 +20,7 @@ pub record ArePinned (before after : StoredObjects) (words : List ℕ) (pinned :
       → (composite_at after base).listed ≡ (composite_at before base).listed
   pub counts : (base : ℕ) → IsCountedAt before base → counts_of after base ≡ counts_of before base
 
--- exactly the counted objects in which one of the words falls are pinned
+-- of the counted objects, exactly those in which one of the words falls are pinned
 abbrev pub PinsName : StoredObjects → List ℕ → Type 0
 PinsName objects words =
     (base : ℕ) (object : StoredObject) → Begins objects base object → IsTrue (is_counted object.kind)
@@ -53,7 +54,7 @@ pub record IsUnpinnedEntry (objects : StoredObjects) (base : ℕ) : Type 0 where
   pub listed : (composite_at objects base).listed ≡ true
   pub unpinned : (composite_at objects base).pinned ≡ false
 
--- an object has left the table, and nothing else has changed
+-- an object has left the table, and the other entries, the pins and the counts are as they were
 pub record HasLeft (before after : StoredObjects) (base : ℕ) : Type 0 where
   pub own : (composite_at after base).listed ≡ false
   pub others : (other : ℕ) → IsCountedAt before other → other ≢ base
@@ -62,6 +63,7 @@ pub record HasLeft (before after : StoredObjects) (base : ℕ) : Type 0 where
       → (composite_at after other).pinned ≡ (composite_at before other).pinned
   pub counts : (other : ℕ) → IsCountedAt before other → counts_of after other ≡ counts_of before other
 
+-- whether it is one
 abbrev pub IsEntryIf : StoredObjects → ℕ → Bool → Type 0
 IsEntryIf objects base true = IsUnpinnedEntry objects base
 IsEntryIf objects base false = IsUnpinnedEntry objects base → ⊥
