@@ -10,8 +10,8 @@ use Rattle.mm_count.specs.Counts.{composite_at, counts_of}
 use Rattle.mm_count.specs.Apart.{AreCountsApart}
 use Rattle.mm_reap.specs.Pins.{PinsName}
 
--- Counted objects that aren't sticky, have the count 0 and are out of the table, each once. Every other such object with
--- the count 0 is in the table.
+-- Counted objects that aren't sticky, have the count 0 and are out of the table, each once. Every other one with the
+-- count 0 is in the table.
 pub record AreFound (objects : StoredObjects) (found : List ℕ) : Type 0 where
   pub counted : (base : ℕ) → lists found base ≡ true → IsCountedAt objects base
   pub left : (base : ℕ) → lists found base ≡ true → (composite_at objects base).listed ≡ false
