@@ -5,7 +5,7 @@ ghost use Rattle.mm_model.specs.GoodView.{HoldTight};
 ghost use Rattle.mm_object.specs.Object.{StoredObject, views_of};
 ghost use Rattle.mm_object.specs.Heap.{IsSound};
 ghost use Rattle.mm_words.specs.Piece.{with_words};
-ghost use Rattle.mm_count.specs.Table.{IsCountedAt};
+ghost use Rattle.mm_count.specs.Table.{IsCountedAt, IsSameTable};
 ghost use Rattle.mm_count.specs.Counts.{composite_at, HasCountedSlot, table_left};
 ghost use Rattle.mm_count.specs.DeadApart.{IsRecounted};
 ghost use Rattle.mm_reap.specs.Filled.{IsFilled};
@@ -70,6 +70,7 @@ fn take_entry<L: Ledger>(
     ensures reapable { (stack dropped : List ℕ) (outside : ℕ → ℕ)
         → AreReapable heap.old.objects stack dropped (take k dead.old.words) outside
         → AreReapable heap.new.objects stack dropped (take result dead.new.words) outside }
+    ensures table { IsSameTable count.old count.new }
     ensures heap { IsRecounted heap.old heap.new }
     ensures cost { steps.new ≤ steps.old + 10 }
 {
@@ -97,6 +98,7 @@ pub(crate) fn take_entries<L: Ledger>(
     ensures reapable { (stack dropped : List ℕ) (outside : ℕ → ℕ)
         → AreReapable heap.old.objects stack dropped [] outside
         → AreReapable heap.new.objects stack dropped (take result dead.new.words) outside }
+    ensures table { IsSameTable count.old count.new }
     ensures heap { IsRecounted heap.old heap.new }
     ensures cost { steps.new ≤ steps.old + 10 * length count.old.entries }
 {
@@ -161,6 +163,7 @@ pub(crate) fn follow_slot<L: Ledger>(
     ensures reapable { (stack dropped : List ℕ) (outside : ℕ → ℕ)
         → AreReapable heap.old.objects stack dropped (take k dead.old.words) outside
         → AreReapable heap.new.objects stack dropped (take result dead.new.words) outside }
+    ensures table { IsSameTable count.old count.new }
     ensures heap { IsRecounted heap.old heap.new }
     ensures cost { steps.new ≤ steps.old + 11 }
 {

@@ -2,7 +2,7 @@
 ghost use Rattle.std.specs.Prelude.{◌≡◌, ◌≤◌, ◌<◌, ◌+◌, ◌-◌, ◌*◌, [], ℕ, List, length, take, slice_index};
 ghost use Rattle.mm_model.specs.GoodView.{HoldTight};
 ghost use Rattle.mm_object.specs.Object.{views_of};
-ghost use Rattle.mm_count.specs.Table.{IsCountedAt};
+ghost use Rattle.mm_count.specs.Table.{IsCountedAt, IsSameTable};
 ghost use Rattle.mm_count.specs.DeadApart.{IsRecounted};
 ghost use Rattle.mm_reap.specs.Slots.{counted_slots_at, counted_slots_of};
 ghost use Rattle.mm_reap.specs.Filled.{IsFilled};
@@ -39,6 +39,7 @@ fn follow_slots<L: Ledger>(
     ensures reapable { (stack dropped : List ℕ) (outside : ℕ → ℕ)
         → AreReapable heap.old.objects stack dropped (take k dead.old.words) outside
         → AreReapable heap.new.objects stack dropped (take result dead.new.words) outside }
+    ensures table { IsSameTable count.old count.new }
     ensures heap { IsRecounted heap.old heap.new }
     ensures cost { steps.new ≤ steps.old + 1 + 11 * counted_slots_at (views_of heap.old.objects) base }
 {
@@ -72,6 +73,7 @@ fn follow<L: Ledger>(
     ensures reapable { (stack : List ℕ) (outside : ℕ → ℕ)
         → AreReapable heap.old.objects stack (take i dead.old.words) (take k dead.old.words) outside
         → AreReapable heap.new.objects stack (take (i + 1) dead.new.words) (take result dead.new.words) outside }
+    ensures table { IsSameTable count.old count.new }
     ensures heap { IsRecounted heap.old heap.new }
     ensures cost { steps.new ≤ steps.old + 3
         + 21 * counted_slots_at (views_of heap.old.objects) (slice_index dead.old.words i) }
@@ -102,6 +104,7 @@ pub(crate) fn follow_all<L: Ledger>(
     ensures reapable { (stack : List ℕ) (outside : ℕ → ℕ)
         → AreReapable heap.old.objects stack [] (take k dead.old.words) outside
         → AreReapable heap.new.objects stack (take result dead.new.words) (take result dead.new.words) outside }
+    ensures table { IsSameTable count.old count.new }
     ensures heap { IsRecounted heap.old heap.new }
     ensures cost { steps.new ≤ steps.old + 3 * result
         + 21 * counted_slots_of (views_of heap.old.objects) (take result dead.new.words) }

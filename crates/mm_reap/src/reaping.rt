@@ -5,7 +5,7 @@ ghost use Rattle.mm_model.specs.GoodView.{HoldTight};
 ghost use Rattle.mm_model.specs.SetsByBase.{IsReapableAt, AreBasesAt};
 ghost use Rattle.mm_object.specs.Object.{views_of};
 ghost use Rattle.mm_object.specs.Heap.{IsSound};
-ghost use Rattle.mm_count.specs.Table.{IsRight};
+ghost use Rattle.mm_count.specs.Table.{IsRight, IsSameTable};
 ghost use Rattle.mm_count.specs.Counts.{IsCountedBy};
 ghost use Rattle.mm_count.specs.Apart.{AreCountsApart};
 ghost use Rattle.mm_count.specs.Listed.{AllListed, NonePinned};
@@ -56,6 +56,7 @@ pub fn reap<L: Ledger>(
     ensures apart { AreDeadApart (take result dead.new.words) heap.new.objects }
     ensures dead { IsFilled dead.old dead.new 0 result }
     ensures heap { IsRecounted heap.old heap.new }
+    ensures table { IsSameTable count.old count.new }
     ensures unpinned { NonePinned heap.new.objects }
     ensures right { IsRight count.new heap.new }
     ensures sound { IsSound heap.new }

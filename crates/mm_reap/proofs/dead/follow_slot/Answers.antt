@@ -1,4 +1,6 @@
 use Rattle.mm_reap.specs.Pins.{IsUnpinnedEntry}
+use Rattle.mm_count.specs.Counts.{composite_at}
+use Rattle.mm_count.proofs.Tables.{left-table}
 use Rattle.mm_reap.proofs.Recounted.{recounted-same}
 use Rattle.mm_reap.proofs.Slots.{none-at-zero, slot-counted, passed-over, taken-out}
 use Rattle.mm_reap.proofs.dead.follow_slot.Goals as goal
@@ -37,3 +39,8 @@ returns-clause-pinned g c =
     taken-out c.args.heap.now c.take_out.new.heap c.args.base c.args.s c.counted_word-word.result slot
     (c.counted_word-word.ensures.word slot.object slot.begins) c.take_out.ensures.heap c.take_out.ensures.left
     c.requires.pinned
+
+pub returns-clause-table : goal.returns-clause-table
+returns-clause-table g c =
+    left-table c.args.count.now c.take_out.new.count (composite_at c.args.heap.now.objects c.counted_word-word.result)
+    c.take_out.ensures.table

@@ -1,4 +1,5 @@
-use Rattle.std.proofs.Common.{arith}
+use Rattle.std.proofs.Common.{refl, arith}
+use Rattle.mm_count.proofs.Tables.{same-table}
 use Rattle.mm_reap.proofs.Entries.{lists-pinned, pinned-past}
 use Rattle.mm_reap.proofs.Filled.{filled-none, filled-both, size-same}
 use Rattle.mm_reap.proofs.Recounted.{recounted-same, recounted-both, pages-same}
@@ -12,6 +13,7 @@ loop-i-init g c = record {
   filled = filled-none c.args.dead.now 0 (omega arith);
   reaped = c.requires.reaped;
   reapable = λ stack dropped outside are. are;
+  table = refl;
   heap = recounted-same c.args.heap.now;
   cost = omega arith;
 }
@@ -38,6 +40,8 @@ loop-i-preserved g c = record {
   reaped = c.take_entry-k.ensures.reaped;
   reapable = λ stack dropped outside are.
       c.take_entry-k.ensures.reapable stack dropped outside (c.loop-i.invariant.reapable stack dropped outside are);
+  table = same-table c.args.count.now c.loop-i.count c.take_entry-k.new.count c.loop-i.invariant.table
+      c.take_entry-k.ensures.table;
   heap = recounted-both c.args.heap.now c.loop-i.heap c.take_entry-k.new.heap c.loop-i.invariant.heap
       c.take_entry-k.ensures.heap;
   cost = omega (arith, c.loop-i.invariant.cost, c.take_entry-k.ensures.cost, c.loop-i-test.true);

@@ -1,4 +1,5 @@
 use Rattle.std.proofs.Common.{◌≤◌, ◌+◌, ◌*◌, [], ℕ, List, length, take}
+use Rattle.mm_count.specs.Table.{IsSameTable}
 use Rattle.mm_count.specs.DeadApart.{IsRecounted}
 use Rattle.mm_reap.specs.Filled.{IsFilled}
 use Rattle.mm_reap.specs.Pins.{ArePinnedFrom}
@@ -14,6 +15,7 @@ invariant-loop-i g l = record {
   reaped : IsReaped l.count l.heap (take l.k l.dead.words);
   reapable : (stack dropped : List ℕ) (outside : ℕ → ℕ) → AreReapable l.fn.heap.objects stack dropped [] outside
       → AreReapable l.heap.objects stack dropped (take l.k l.dead.words) outside;
+  table : IsSameTable l.fn.count l.count;
   heap : IsRecounted l.fn.heap l.heap;
   cost : l.steps + 10 * l.i ≤ l.initial.steps + 10 * length l.fn.count.entries;
 }

@@ -1,4 +1,6 @@
 use Rattle.std.proofs.Common.{sym, ◌∙◌}
+use Rattle.mm_count.specs.Counts.{composite_at}
+use Rattle.mm_count.proofs.Tables.{left-table}
 use Rattle.mm_reap.proofs.Entries.{entry-counted, entry-listed, pinned-from-kept, pinned-from-left, entries-left}
 use Rattle.mm_reap.proofs.Recounted.{recounted-same}
 use Rattle.mm_reap.proofs.dead.take_entry.Goals as goal
@@ -36,3 +38,8 @@ returns-clause-pinned g c =
     pinned-from-left c.args.count.now c.args.heap.now c.requires.reaped.right c.args.i c.entry-base.result
     c.requires.entry c.entry-base.ensures.base c.take_out.new.count c.take_out.ensures.table c.requires.pinned
     c.take_out.new.heap c.take_out.ensures.left
+
+pub returns-clause-table : goal.returns-clause-table
+returns-clause-table g c =
+    left-table c.args.count.now c.take_out.new.count (composite_at c.args.heap.now.objects c.entry-base.result)
+    c.take_out.ensures.table

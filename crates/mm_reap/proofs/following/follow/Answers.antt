@@ -5,6 +5,7 @@ use Rattle.mm_model.specs.GoodView.{HoldTight}
 use Rattle.mm_object.specs.Object.{views_of}
 use Rattle.mm_reap.specs.Slots.{counted_slots_at}
 use Rattle.mm_reap.specs.Found.{AreReapable}
+use Rattle.mm_count.proofs.Tables.{same-table}
 use Rattle.mm_reap.proofs.Recounted.{counted-to, recounted-both, recounted-by}
 use Rattle.mm_reap.proofs.Dropping.{front-found, front-out, front-more, dropped-pinned, dropped-found, dropped-reapable}
 use Rattle.mm_reap.proofs.Slots.{slots-at, length-words}
@@ -114,3 +115,8 @@ returns-clause-cost g c =
     let slots = ap (λ (vs : ObjectsByBase). counted_slots_at vs base) c.lower_slots.ensures.views in
     let same = ap (counted_slots_at (views_of c.args.heap.now.objects)) c.get-base.ensures in
     omega arith
+
+pub returns-clause-table : goal.returns-clause-table
+returns-clause-table g c =
+    same-table c.args.count.now c.lower_slots.new.self c.follow_slots.new.count c.lower_slots.ensures.table
+    c.follow_slots.ensures.table

@@ -1,10 +1,11 @@
-use Rattle.std.proofs.Common.{◌≡◌, ℕ, ◌+◌, ◌*◌, ◌≤◌, take, sym, ap, subst, arith}
+use Rattle.std.proofs.Common.{refl, ◌≡◌, ℕ, ◌+◌, ◌*◌, ◌≤◌, take, sym, ap, subst, arith}
 use Rattle.std.specs.Prelude.{slice_index}
 use Rattle.mm_model.specs.ObjectView.{ObjectsByBase}
 use Rattle.mm_model.specs.GoodView.{HoldTight}
 use Rattle.mm_object.specs.Object.{views_of}
 use Rattle.mm_reap.specs.Slots.{counted_slots_at, counted_slots_of}
 use Rattle.mm_reap.specs.Found.{AreReapable}
+use Rattle.mm_count.proofs.Tables.{same-table}
 use Rattle.mm_reap.proofs.Recounted.{recounted-same, recounted-both, pages-same}
 use Rattle.mm_reap.proofs.Filled.{filled-none, filled-both, size-same, sum-front}
 use Rattle.mm_reap.proofs.following.follow_all.Goals as goal
@@ -17,6 +18,7 @@ loop-i-init g c = record {
   filled = filled-none c.args.dead.now c.args.k c.requires.within;
   reaped = c.requires.reaped;
   reapable = λ stack outside are. are;
+  table = refl;
   heap = recounted-same c.args.heap.now;
   cost = omega arith;
 }
@@ -64,6 +66,8 @@ loop-i-preserved g c =
       reaped = c.follow-found.ensures.reaped;
       reapable = λ stack outside are.
           c.follow-found.ensures.reapable stack outside (c.loop-i.invariant.reapable stack outside are);
+      table = same-table c.args.count.now c.loop-i.count c.follow-found.new.count c.loop-i.invariant.table
+          c.follow-found.ensures.table;
       heap = recounted-both c.args.heap.now c.loop-i.heap c.follow-found.new.heap c.loop-i.invariant.heap
           c.follow-found.ensures.heap;
       cost = omega arith;

@@ -1,5 +1,6 @@
 use Rattle.std.proofs.Common.{◌≤◌, ◌+◌, ◌-◌, ◌*◌, [], ℕ, List, length, take}
 use Rattle.mm_object.specs.Object.{views_of}
+use Rattle.mm_count.specs.Table.{IsSameTable}
 use Rattle.mm_count.specs.DeadApart.{IsRecounted}
 use Rattle.mm_reap.specs.Slots.{counted_slots_of}
 use Rattle.mm_reap.specs.Filled.{IsFilled}
@@ -17,6 +18,7 @@ invariant-loop-i g l = record {
   reapable : (stack : List ℕ) (outside : ℕ → ℕ)
       → AreReapable l.fn.heap.objects stack [] (take l.k l.fn.dead.words) outside
       → AreReapable l.heap.objects stack (take l.i l.dead.words) (take l.found l.dead.words) outside;
+  table : IsSameTable l.fn.count l.count;
   heap : IsRecounted l.fn.heap l.heap;
   cost : l.steps ≤ l.initial.steps + 3 * l.i
       + 21 * counted_slots_of (views_of l.fn.heap.objects) (take l.i l.dead.words);

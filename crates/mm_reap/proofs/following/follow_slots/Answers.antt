@@ -1,6 +1,7 @@
-use Rattle.std.proofs.Common.{sym, ap, subst, arith}
+use Rattle.std.proofs.Common.{refl, sym, ap, subst, arith}
 use Rattle.mm_model.specs.GoodView.{HoldTight}
 use Rattle.mm_model.specs.declared.object.Shape.{Shape}
+use Rattle.mm_count.proofs.Tables.{same-table}
 use Rattle.mm_reap.proofs.Recounted.{counted-to, recounted-both}
 use Rattle.mm_reap.proofs.Filled.{filled-both}
 use Rattle.mm_reap.proofs.Slots.{slots-at, slot-at, none-named}
@@ -27,6 +28,8 @@ loop-s-preserved g c = record {
   reapable = λ stack dropped outside are.
       c.follow_slot-found.ensures.reapable stack dropped outside
       (c.loop-s.invariant.reapable stack dropped outside are);
+  table = same-table c.args.count.now c.loop-s.count c.follow_slot-found.new.count c.loop-s.invariant.table
+      c.follow_slot-found.ensures.table;
   heap = recounted-both c.args.heap.now c.loop-s.heap c.follow_slot-found.new.heap c.loop-s.invariant.heap
       c.follow_slot-found.ensures.heap;
   cost = omega (arith, c.loop-s.invariant.cost, c.follow_slot-found.ensures.cost);

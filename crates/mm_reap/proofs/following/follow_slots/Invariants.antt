@@ -1,4 +1,5 @@
 use Rattle.std.proofs.Common.{◌≤◌, ◌+◌, ◌*◌, ℕ, List, take}
+use Rattle.mm_count.specs.Table.{IsSameTable}
 use Rattle.mm_count.specs.DeadApart.{IsRecounted}
 use Rattle.mm_reap.specs.Filled.{IsFilled}
 use Rattle.mm_reap.specs.Pins.{ListsPinnedOrNamed}
@@ -14,6 +15,7 @@ invariant-loop-s g l = record {
   reapable : (stack dropped : List ℕ) (outside : ℕ → ℕ)
       → AreReapable l.fn.heap.objects stack dropped (take l.k l.fn.dead.words) outside
       → AreReapable l.heap.objects stack dropped (take l.found l.dead.words) outside;
+  table : IsSameTable l.fn.count l.count;
   heap : IsRecounted l.fn.heap l.heap;
   cost : l.steps ≤ l.initial.steps + 11 * l.s;
 }

@@ -4,6 +4,7 @@ use Rattle.mm_model.specs.ObjectView.{ObjectsByBase}
 use Rattle.mm_model.specs.GoodView.{HoldTight}
 use Rattle.mm_object.specs.Object.{views_of}
 use Rattle.mm_reap.specs.Slots.{counted_slots_at, counted_slots_of}
+use Rattle.mm_count.proofs.Tables.{same-table}
 use Rattle.mm_reap.proofs.Filled.{filled-both, filled-again}
 use Rattle.mm_reap.proofs.Pinned.{none-pinned}
 use Rattle.mm_reap.proofs.Recounted.{recounted-both}
@@ -112,3 +113,8 @@ returns-clause-cost g c =
     let some = c.take_entries-entries.ensures.few in
     let few = c.follow_all-found.ensures.few in
     omega arith
+
+pub returns-clause-table : goal.returns-clause-table
+returns-clause-table g c =
+    same-table c.args.count.now c.take_entries-entries.new.count c.follow_all-found.new.count
+    c.take_entries-entries.ensures.table c.follow_all-found.ensures.table
