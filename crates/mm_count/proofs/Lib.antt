@@ -14,6 +14,7 @@ pub mod Right
 pub mod Room
 pub mod Sticky
 pub mod Stored
+pub mod Tables
 pub mod Views
 pub mod Words
 pub mod Writing

@@ -1,6 +1,7 @@
 pub mod Apart
 pub mod Composite
 pub mod Counts
+pub mod DeadApart
 pub mod Kept
 pub mod Listed
 pub mod Sticky

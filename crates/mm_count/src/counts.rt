@@ -221,4 +221,14 @@ impl ZeroTable {
     {
         composite_of(heap, base, steps).counted()
     }
+
+    /// Whether an object is in the table.
+    pub fn is_listed<L: Ledger>(&self, heap: &Heap, base: u32, steps: &mut Steps<L>) -> bool
+        requires { IsCountedAt heap.now.objects base }
+        ensures listed { result ≡ (composite_at heap.now.objects base).listed }
+        ensures sound { IsSound heap.now }
+        ensures cost { steps.new ≡ steps.old + 1 }
+    {
+        composite_of(heap, base, steps).listed
+    }
 }
