@@ -1,0 +1,10 @@
+pub mod Changed
+pub mod Released
+pub mod Partners
+pub mod Cuts
+pub mod Parted
+pub mod Erased
+pub mod Bases
+pub mod Finals
+pub mod Freed
+pub mod Right
