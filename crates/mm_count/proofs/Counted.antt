@@ -46,7 +46,7 @@ module _ (h h' : Heap) (f : Composite → Composite) (base : ℕ) (o : StoredObj
   abbrev now : Composite
   now = f (unplaced (composite_of o))
 
-  views-is : views_of h'.objects ≡ with_entry base (Some (view_of_stored (new h h' f base o begins e))) (views_of h.objects)
+  pub views-is : views_of h'.objects ≡ with_entry base (Some (view_of_stored (new h h' f base o begins e))) (views_of h.objects)
   views-is =
       let n = new h h' f base o begins e in
       sym (seen-bare h'.objects) ∙ ap views_of (bared-is h h' f base o begins e)
@@ -139,7 +139,7 @@ module _ (h h' : Heap) (base : ℕ) (o : StoredObject) (begins : Begins h.object
   abbrev c : Composite
   c = composite_of o
 
-  fits-raised : FitsWord (raised (unplaced c))
+  pub fits-raised : FitsWord (raised (unplaced c))
   fits-raised = split c.sticky refl
     where
       split : (b : Bool) → c.sticky ≡ b → FitsWord (cond b (unplaced c) (one_above (unplaced c)))
@@ -164,10 +164,10 @@ module _ (h h' : Heap) (base : ℕ) (o : StoredObject) (begins : Begins h.object
       counted h h' raised base o begins e fits-raised outside (one_more outside base)
       (λ b other. one_more-other outside base b other) (step-raised outside)
 
-  abbrev less : Composite
+  abbrev pub less : Composite
   less = record (unplaced c) { count = c.count - 1; listed = c.count == 1 }
 
-  fits-lowered : FitsWord (lowered (unplaced c))
+  pub fits-lowered : FitsWord (lowered (unplaced c))
   fits-lowered = split c.sticky refl
     where
       split : (b : Bool) → c.sticky ≡ b → FitsWord (cond b (unplaced c) less)
@@ -189,7 +189,7 @@ module _ (h h' : Heap) (base : ℕ) (o : StoredObject) (begins : Begins h.object
           let ne = some e in
           record { was = e; total = omega arith; few = λ most. omega arith }
 
-  fits-now : FitsWord (unplaced c)
+  pub fits-now : FitsWord (unplaced c)
   fits-now = split c.sticky refl
     where
       split : (b : Bool) → c.sticky ≡ b → FitsWord (unplaced c)

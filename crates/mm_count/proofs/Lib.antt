@@ -1,3 +1,4 @@
+pub mod ChangedEntries
 pub mod Changes
 pub mod Composites
 pub mod Counted
@@ -7,5 +8,7 @@ pub mod Places
 pub mod References
 pub mod Right
 pub mod Room
+pub mod Sticky
 pub mod Stored
+pub mod Views
 pub mod Words

@@ -25,7 +25,7 @@ skip_cases v x = split (nat_lt v x) refl
         let ge : x ≤ v = grind (arith, nat_tests) in inr (ge, ap (λ b. cond b (x - 1) x) e)
 
 -- numbers that all differ are no more than they have values
-pigeons : (m n : ℕ) (f : ℕ → ℕ) → ((i : ℕ) → i < m → f i < n)
+pub pigeons : (m n : ℕ) (f : ℕ → ℕ) → ((i : ℕ) → i < m → f i < n)
     → ((i j : ℕ) → i < m → j < m → f i ≡ f j → i ≡ j) → m ≤ n
 pigeons zero n f below apart = omega arith
 pigeons (suc m) zero f below apart = absurd (let h = below 0 (omega arith) in omega arith)
@@ -61,7 +61,7 @@ pub record IsRoom (h : Heap) (base : ℕ) : Type 0 where
   pub from : 256 ≤ grain
   pub to : grain < 256 * h.size
 
-begins_room : (h : Heap) → IsSound h → (base : ℕ) (o : StoredObject) → Begins h.objects base o → IsRoom h base
+pub begins_room : (h : Heap) → IsSound h → (base : ℕ) (o : StoredObject) → Begins h.objects base o → IsRoom h base
 begins_room h sound base o begins =
     let inside = sound.inside base o begins in
     let room = sound.room base o begins in

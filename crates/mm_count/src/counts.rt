@@ -1,11 +1,13 @@
 // Counts of references, which are raised and lowered.
 ghost use Rattle.std.specs.Prelude.{◌≡◌, ◌≤◌, ◌<◌, ◌+◌, ◌^◌, ◌++◌, ◌∷◌, ℕ, [], false, length};
 ghost use Rattle.mm_model.specs.ByBase.{Begins};
-ghost use Rattle.mm_object.specs.Object.{StoredObject};
+ghost use Rattle.mm_object.specs.Object.{StoredObject, views_of};
 ghost use Rattle.mm_object.specs.Heap.{IsObject, IsSound};
 ghost use Rattle.mm_count.specs.Composite.{FitsWord};
 ghost use Rattle.mm_count.specs.Table.{with_entries, without_place, composite_of, IsCountedAt, IsRight};
 ghost use Rattle.mm_count.specs.Counts.{composite_at, IsCountedBy, one_more, count_in, raised, lowered, entered, left, changed_at, without_places, table_left, table_raised, table_lowered, KeepsObjects, HasReference};
+ghost use Rattle.mm_count.specs.Sticky.{with_sticky};
+ghost use Rattle.mm_count.specs.Listed.{AllListed, AllListedBut, NonePinned, KeepsPins, ListsNamed};
 ghost use Rattle.mm_count.specs.Kept.{HasGap, gives, with_entry_word};
 
 use crate::composite::Composite;
@@ -108,6 +110,10 @@ impl ZeroTable {
         ensures counts { (outside : ℕ → ℕ) → IsCountedBy heap.old.objects outside
             → IsCountedBy heap.new.objects outside }
         ensures objects { KeepsObjects heap.old.objects heap.new.objects }
+        ensures rest { heap.new ≡ record heap.old { objects = heap.new.objects } }
+        ensures views { views_of heap.new.objects ≡ views_of heap.old.objects }
+        ensures unpinned { NonePinned heap.old.objects → NonePinned heap.new.objects }
+        ensures listed { AllListedBut base heap.old.objects → AllListed heap.new.objects }
         ensures right { IsRight self.new heap.new }
         ensures sound { IsSound heap.new }
         ensures cost { steps.new ≤ steps.old + 8 }
@@ -125,6 +131,11 @@ impl ZeroTable {
         ensures counts { (outside : ℕ → ℕ) → IsCountedBy heap.old.objects outside
             → IsCountedBy heap.new.objects (one_more outside base) }
         ensures objects { KeepsObjects heap.old.objects heap.new.objects }
+        ensures rest { heap.new ≡ record heap.old { objects = heap.new.objects } }
+        ensures views { (outside : ℕ → ℕ) → IsCountedBy heap.old.objects outside
+            → views_of heap.new.objects ≡ with_sticky (one_more outside base) base (views_of heap.old.objects) }
+        ensures unpinned { NonePinned heap.old.objects → NonePinned heap.new.objects }
+        ensures listed { AllListed heap.old.objects → AllListed heap.new.objects }
         ensures right { IsRight self.new heap.new }
         ensures sound { IsSound heap.new }
         ensures cost { steps.new ≤ steps.old + 8 }
@@ -149,6 +160,12 @@ impl ZeroTable {
         ensures counts { (outside : ℕ → ℕ) → IsCountedBy heap.old.objects (one_more outside base)
             → IsCountedBy heap.new.objects outside }
         ensures objects { KeepsObjects heap.old.objects heap.new.objects }
+        ensures rest { heap.new ≡ record heap.old { objects = heap.new.objects } }
+        ensures views { views_of heap.new.objects ≡ views_of heap.old.objects }
+        ensures pins { KeepsPins heap.old.objects heap.new.objects }
+        ensures unpinned { NonePinned heap.old.objects → NonePinned heap.new.objects }
+        ensures listed { AllListed heap.old.objects → AllListed heap.new.objects }
+        ensures entered { ListsNamed (base ∷ []) heap.old.objects heap.new.objects }
         ensures right { IsRight self.new heap.new }
         ensures sound { IsSound heap.new }
         ensures cost { steps.new ≤ steps.old + 8 }
@@ -173,6 +190,9 @@ impl ZeroTable {
         ensures counts { (outside : ℕ → ℕ) → IsCountedBy heap.old.objects outside
             → IsCountedBy heap.new.objects outside }
         ensures objects { KeepsObjects heap.old.objects heap.new.objects }
+        ensures rest { heap.new ≡ record heap.old { objects = heap.new.objects } }
+        ensures views { views_of heap.new.objects ≡ views_of heap.old.objects }
+        ensures unpinned { NonePinned heap.old.objects → NonePinned heap.new.objects }
         ensures right { IsRight self.new heap.new }
         ensures sound { IsSound heap.new }
         ensures cost { steps.new ≤ steps.old + 8 }
@@ -189,8 +209,19 @@ impl ZeroTable {
     pub fn count_of<L: Ledger>(&self, heap: &Heap, base: u32, steps: &mut Steps<L>) -> Count
         requires { IsCountedAt heap.now.objects base }
         ensures count { result ≡ count_in (composite_at heap.now.objects base) }
+        ensures sound { IsSound heap.now }
         ensures cost { steps.new ≤ steps.old + 8 }
     {
         composite_of(heap, base, steps).counted()
+    }
+
+    /// Whether an object is in the table.
+    pub fn is_listed<L: Ledger>(&self, heap: &Heap, base: u32, steps: &mut Steps<L>) -> bool
+        requires { IsCountedAt heap.now.objects base }
+        ensures listed { result ≡ (composite_at heap.now.objects base).listed }
+        ensures sound { IsSound heap.now }
+        ensures cost { steps.new ≡ steps.old + 1 }
+    {
+        composite_of(heap, base, steps).listed
     }
 }

@@ -1,5 +1,6 @@
 // Pins, which mark within a reap what the stack names.
 ghost use Rattle.std.specs.Prelude.{◌≡◌, ◌+◌, ◌≤◌, ℕ, true, false};
+ghost use Rattle.mm_object.specs.Object.{views_of};
 ghost use Rattle.mm_object.specs.Heap.{IsSound};
 ghost use Rattle.mm_count.specs.Table.{IsCountedAt, IsRight};
 ghost use Rattle.mm_count.specs.Counts.{composite_at, IsCountedBy, with_pin, changed_at, without_places, KeepsObjects};
@@ -19,6 +20,8 @@ impl ZeroTable {
         ensures counts { (outside : ℕ → ℕ) → IsCountedBy heap.old.objects outside
             → IsCountedBy heap.new.objects outside }
         ensures objects { KeepsObjects heap.old.objects heap.new.objects }
+        ensures rest { heap.new ≡ record heap.old { objects = heap.new.objects } }
+        ensures views { views_of heap.new.objects ≡ views_of heap.old.objects }
         ensures right { IsRight self.now heap.new }
         ensures sound { IsSound heap.new }
         ensures cost { steps.new ≡ steps.old + 2 }

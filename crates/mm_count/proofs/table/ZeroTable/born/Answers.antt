@@ -7,6 +7,7 @@ use Rattle.mm_count.proofs.Composites.{fits-entry}
 use Rattle.mm_count.proofs.Places.{keeps}
 use Rattle.mm_count.proofs.Counted.{counted-entered}
 use Rattle.mm_count.proofs.Changes.{born-enters}
+use Rattle.mm_count.proofs.Views.{rest-changed, entered-views, entered-unpinned, entered-listed}
 use Rattle.mm_count.proofs.table.ZeroTable.born.Goals as goal
 
 pub enter-requires-clause-zero : goal.enter-requires-clause-zero
@@ -44,3 +45,25 @@ pub returns-clause-objects : goal.returns-clause-objects
 returns-clause-objects g c =
     let k = c.requires.counted in
     keeps c.args.heap.now c.enter.new.heap entered c.args.base k.object k.begins (returns-clause-heap g c)
+
+pub returns-clause-rest : goal.returns-clause-rest
+returns-clause-rest g c =
+    rest-changed c.args.heap.now c.enter.new.heap entered c.args.base (returns-clause-heap g c)
+
+pub returns-clause-views : goal.returns-clause-views
+returns-clause-views g c =
+    let k = c.requires.counted in
+    let is = (c.requires.right.spelled c.args.base k.object k.begins).counted k.counted in
+    entered-views c.args.heap.now c.enter.new.heap c.args.base k.object k.begins is (returns-clause-heap g c)
+
+pub returns-clause-unpinned : goal.returns-clause-unpinned
+returns-clause-unpinned g c =
+    let k = c.requires.counted in
+    let is = (c.requires.right.spelled c.args.base k.object k.begins).counted k.counted in
+    entered-unpinned c.args.heap.now c.enter.new.heap c.args.base k.object k.begins is (returns-clause-heap g c)
+
+pub returns-clause-listed : goal.returns-clause-listed
+returns-clause-listed g c =
+    let k = c.requires.counted in
+    let is = (c.requires.right.spelled c.args.base k.object k.begins).counted k.counted in
+    entered-listed c.args.heap.now c.enter.new.heap c.args.base k.object k.begins is (returns-clause-heap g c)

@@ -6,6 +6,7 @@ use Rattle.mm_count.proofs.Composites.{not-true_is, not-false_is, fits-left, com
 use Rattle.mm_count.proofs.Places.{keeps}
 use Rattle.mm_count.proofs.Counted.{counted-left}
 use Rattle.mm_count.proofs.Changes.{composite-said, place-within, leave-kept, leave-gives, left-gap}
+use Rattle.mm_count.proofs.Views.{rest-changed, left-views, left-unpinned}
 use Rattle.mm_count.proofs.table.ZeroTable.leave.Goals as goal
 
 pub returns-then-not-composite-clause-heap : goal.returns-then-not-composite-clause-heap
@@ -58,3 +59,35 @@ pub returns-clause-objects : goal.returns-clause-objects
 returns-clause-objects g c =
     let k = c.requires.counted in
     keeps c.args.heap.now c.close_gap.new.heap left c.args.base k.object k.begins (returns-clause-heap g c)
+
+pub returns-then-not-composite-clause-rest : goal.returns-then-not-composite-clause-rest
+returns-then-not-composite-clause-rest g c =
+    rest-changed c.args.heap.now c.args.heap.now left c.args.base (returns-then-not-composite-clause-heap g c)
+
+pub returns-then-not-composite-clause-views : goal.returns-then-not-composite-clause-views
+returns-then-not-composite-clause-views g c =
+    let k = c.requires.counted in
+    let is = (c.requires.right.spelled c.args.base k.object k.begins).counted k.counted in
+    left-views c.args.heap.now c.args.heap.now c.args.base k.object k.begins is (returns-then-not-composite-clause-heap g c)
+
+pub returns-then-not-composite-clause-unpinned : goal.returns-then-not-composite-clause-unpinned
+returns-then-not-composite-clause-unpinned g c =
+    let k = c.requires.counted in
+    let is = (c.requires.right.spelled c.args.base k.object k.begins).counted k.counted in
+    left-unpinned c.args.heap.now c.args.heap.now c.args.base k.object k.begins is (returns-then-not-composite-clause-heap g c)
+
+pub returns-clause-rest : goal.returns-clause-rest
+returns-clause-rest g c =
+    rest-changed c.args.heap.now c.close_gap.new.heap left c.args.base (returns-clause-heap g c)
+
+pub returns-clause-views : goal.returns-clause-views
+returns-clause-views g c =
+    let k = c.requires.counted in
+    let is = (c.requires.right.spelled c.args.base k.object k.begins).counted k.counted in
+    left-views c.args.heap.now c.close_gap.new.heap c.args.base k.object k.begins is (returns-clause-heap g c)
+
+pub returns-clause-unpinned : goal.returns-clause-unpinned
+returns-clause-unpinned g c =
+    let k = c.requires.counted in
+    let is = (c.requires.right.spelled c.args.base k.object k.begins).counted k.counted in
+    left-unpinned c.args.heap.now c.close_gap.new.heap c.args.base k.object k.begins is (returns-clause-heap g c)

@@ -7,6 +7,7 @@ use Rattle.mm_count.proofs.Composites.{fits-below, fits-entry, composite-below}
 use Rattle.mm_count.proofs.Places.{keeps}
 use Rattle.mm_count.proofs.Counted.{counted-lowered}
 use Rattle.mm_count.proofs.Changes.{composite-said, lower-kept, lower-gives, lower-enters, kept-right, some-said, out-said}
+use Rattle.mm_count.proofs.Views.{rest-changed, lowered-views, lowered-pins, lowered-unpinned, lowered-listed, lowered-names}
 use Rattle.mm_count.proofs.table.ZeroTable.lower.Goals as goal
 
 pub returns-then-composite-clause-heap : goal.returns-then-composite-clause-heap
@@ -93,3 +94,111 @@ returns-clause-right g c =
     (subst IsComposite (sym c.lowered-2.ensures) (composite-below r is c.if-composite.false zero))
     (ap (λ (r : Composite). r.listed) c.lowered-2.ensures) (ap (λ (r : Composite). r.place) c.lowered-2.ensures)
     c.requires.right
+
+pub returns-then-composite-clause-rest : goal.returns-then-composite-clause-rest
+returns-then-composite-clause-rest g c =
+    rest-changed c.args.heap.now c.args.heap.now lowered c.args.base (returns-then-composite-clause-heap g c)
+
+pub returns-then-composite-clause-views : goal.returns-then-composite-clause-views
+returns-then-composite-clause-views g c =
+    let k = c.requires.counted in
+    let is = (c.requires.right.spelled c.args.base k.object k.begins).counted k.counted in
+    lowered-views c.args.heap.now c.args.heap.now c.args.base k.object k.begins is (returns-then-composite-clause-heap g c)
+
+pub returns-then-composite-clause-pins : goal.returns-then-composite-clause-pins
+returns-then-composite-clause-pins g c =
+    let k = c.requires.counted in
+    let is = (c.requires.right.spelled c.args.base k.object k.begins).counted k.counted in
+    lowered-pins c.args.heap.now c.args.heap.now c.args.base k.object k.begins is (returns-then-composite-clause-heap g c)
+
+pub returns-then-composite-clause-unpinned : goal.returns-then-composite-clause-unpinned
+returns-then-composite-clause-unpinned g c =
+    let k = c.requires.counted in
+    let is = (c.requires.right.spelled c.args.base k.object k.begins).counted k.counted in
+    lowered-unpinned c.args.heap.now c.args.heap.now c.args.base k.object k.begins is (returns-then-composite-clause-heap g c)
+
+pub returns-then-composite-clause-listed : goal.returns-then-composite-clause-listed
+returns-then-composite-clause-listed g c =
+    let k = c.requires.counted in
+    let is = (c.requires.right.spelled c.args.base k.object k.begins).counted k.counted in
+    lowered-listed c.args.heap.now c.args.heap.now c.args.base k.object k.begins is (returns-then-composite-clause-heap g c)
+    (some-said c.args.heap.now.objects c.args.base k c.requires.some)
+
+pub returns-then-composite-clause-entered : goal.returns-then-composite-clause-entered
+returns-then-composite-clause-entered g c =
+    let k = c.requires.counted in
+    let is = (c.requires.right.spelled c.args.base k.object k.begins).counted k.counted in
+    lowered-names c.args.heap.now c.args.heap.now c.args.base k.object k.begins is (returns-then-composite-clause-heap g c)
+    (some-said c.args.heap.now.objects c.args.base k c.requires.some)
+
+pub returns-then-composite-eq1-clause-rest : goal.returns-then-composite-eq1-clause-rest
+returns-then-composite-eq1-clause-rest g c =
+    rest-changed c.args.heap.now c.enter.new.heap lowered c.args.base (returns-then-composite-eq1-clause-heap g c)
+
+pub returns-then-composite-eq1-clause-views : goal.returns-then-composite-eq1-clause-views
+returns-then-composite-eq1-clause-views g c =
+    let k = c.requires.counted in
+    let is = (c.requires.right.spelled c.args.base k.object k.begins).counted k.counted in
+    lowered-views c.args.heap.now c.enter.new.heap c.args.base k.object k.begins is (returns-then-composite-eq1-clause-heap g c)
+
+pub returns-then-composite-eq1-clause-pins : goal.returns-then-composite-eq1-clause-pins
+returns-then-composite-eq1-clause-pins g c =
+    let k = c.requires.counted in
+    let is = (c.requires.right.spelled c.args.base k.object k.begins).counted k.counted in
+    lowered-pins c.args.heap.now c.enter.new.heap c.args.base k.object k.begins is (returns-then-composite-eq1-clause-heap g c)
+
+pub returns-then-composite-eq1-clause-unpinned : goal.returns-then-composite-eq1-clause-unpinned
+returns-then-composite-eq1-clause-unpinned g c =
+    let k = c.requires.counted in
+    let is = (c.requires.right.spelled c.args.base k.object k.begins).counted k.counted in
+    lowered-unpinned c.args.heap.now c.enter.new.heap c.args.base k.object k.begins is (returns-then-composite-eq1-clause-heap g c)
+
+pub returns-then-composite-eq1-clause-listed : goal.returns-then-composite-eq1-clause-listed
+returns-then-composite-eq1-clause-listed g c =
+    let k = c.requires.counted in
+    let is = (c.requires.right.spelled c.args.base k.object k.begins).counted k.counted in
+    lowered-listed c.args.heap.now c.enter.new.heap c.args.base k.object k.begins is (returns-then-composite-eq1-clause-heap g c)
+    (some-said c.args.heap.now.objects c.args.base k c.requires.some)
+
+pub returns-then-composite-eq1-clause-entered : goal.returns-then-composite-eq1-clause-entered
+returns-then-composite-eq1-clause-entered g c =
+    let k = c.requires.counted in
+    let is = (c.requires.right.spelled c.args.base k.object k.begins).counted k.counted in
+    lowered-names c.args.heap.now c.enter.new.heap c.args.base k.object k.begins is (returns-then-composite-eq1-clause-heap g c)
+    (some-said c.args.heap.now.objects c.args.base k c.requires.some)
+
+pub returns-clause-rest : goal.returns-clause-rest
+returns-clause-rest g c =
+    rest-changed c.args.heap.now c.set_composite.new.heap lowered c.args.base (returns-clause-heap g c)
+
+pub returns-clause-views : goal.returns-clause-views
+returns-clause-views g c =
+    let k = c.requires.counted in
+    let is = (c.requires.right.spelled c.args.base k.object k.begins).counted k.counted in
+    lowered-views c.args.heap.now c.set_composite.new.heap c.args.base k.object k.begins is (returns-clause-heap g c)
+
+pub returns-clause-pins : goal.returns-clause-pins
+returns-clause-pins g c =
+    let k = c.requires.counted in
+    let is = (c.requires.right.spelled c.args.base k.object k.begins).counted k.counted in
+    lowered-pins c.args.heap.now c.set_composite.new.heap c.args.base k.object k.begins is (returns-clause-heap g c)
+
+pub returns-clause-unpinned : goal.returns-clause-unpinned
+returns-clause-unpinned g c =
+    let k = c.requires.counted in
+    let is = (c.requires.right.spelled c.args.base k.object k.begins).counted k.counted in
+    lowered-unpinned c.args.heap.now c.set_composite.new.heap c.args.base k.object k.begins is (returns-clause-heap g c)
+
+pub returns-clause-listed : goal.returns-clause-listed
+returns-clause-listed g c =
+    let k = c.requires.counted in
+    let is = (c.requires.right.spelled c.args.base k.object k.begins).counted k.counted in
+    lowered-listed c.args.heap.now c.set_composite.new.heap c.args.base k.object k.begins is (returns-clause-heap g c)
+    (some-said c.args.heap.now.objects c.args.base k c.requires.some)
+
+pub returns-clause-entered : goal.returns-clause-entered
+returns-clause-entered g c =
+    let k = c.requires.counted in
+    let is = (c.requires.right.spelled c.args.base k.object k.begins).counted k.counted in
+    lowered-names c.args.heap.now c.set_composite.new.heap c.args.base k.object k.begins is (returns-clause-heap g c)
+    (some-said c.args.heap.now.objects c.args.base k c.requires.some)

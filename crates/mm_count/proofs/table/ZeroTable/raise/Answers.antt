@@ -6,6 +6,7 @@ use Rattle.mm_count.proofs.Composites.{fits-above, composite-above}
 use Rattle.mm_count.proofs.Places.{keeps}
 use Rattle.mm_count.proofs.Counted.{counted-raised}
 use Rattle.mm_count.proofs.Changes.{composite-said, place-within, raise-kept, raise-gives, kept-right, left-gap}
+use Rattle.mm_count.proofs.Views.{rest-changed, raised-views, raised-unpinned, raised-listed}
 use Rattle.mm_count.proofs.table.ZeroTable.raise.Goals as goal
 
 pub returns-then-composite-clause-heap : goal.returns-then-composite-clause-heap
@@ -121,3 +122,69 @@ returns-else-composite-2-clause-right g c =
     c.args.self.now (subst IsComposite (sym c.raised.ensures) (composite-above r most))
     (ap (λ (r : Composite). r.listed) c.raised.ensures ∙ sym out)
     (ap (λ (r : Composite). r.place) c.raised.ensures ∙ sym (is.unlisted out)) c.requires.right
+
+pub returns-then-composite-clause-rest : goal.returns-then-composite-clause-rest
+returns-then-composite-clause-rest g c =
+    rest-changed c.args.heap.now c.args.heap.now raised c.args.base (returns-then-composite-clause-heap g c)
+
+pub returns-then-composite-clause-views : goal.returns-then-composite-clause-views
+returns-then-composite-clause-views g c =
+    let k = c.requires.counted in
+    let is = (c.requires.right.spelled c.args.base k.object k.begins).counted k.counted in
+    raised-views c.args.heap.now c.args.heap.now c.args.base k.object k.begins is (returns-then-composite-clause-heap g c) k.counted
+
+pub returns-then-composite-clause-unpinned : goal.returns-then-composite-clause-unpinned
+returns-then-composite-clause-unpinned g c =
+    let k = c.requires.counted in
+    let is = (c.requires.right.spelled c.args.base k.object k.begins).counted k.counted in
+    raised-unpinned c.args.heap.now c.args.heap.now c.args.base k.object k.begins is (returns-then-composite-clause-heap g c)
+
+pub returns-then-composite-clause-listed : goal.returns-then-composite-clause-listed
+returns-then-composite-clause-listed g c =
+    let k = c.requires.counted in
+    let is = (c.requires.right.spelled c.args.base k.object k.begins).counted k.counted in
+    raised-listed c.args.heap.now c.args.heap.now c.args.base k.object k.begins is (returns-then-composite-clause-heap g c)
+
+pub returns-then-composite-2-clause-rest : goal.returns-then-composite-2-clause-rest
+returns-then-composite-2-clause-rest g c =
+    rest-changed c.args.heap.now c.close_gap.new.heap raised c.args.base (returns-then-composite-2-clause-heap g c)
+
+pub returns-then-composite-2-clause-views : goal.returns-then-composite-2-clause-views
+returns-then-composite-2-clause-views g c =
+    let k = c.requires.counted in
+    let is = (c.requires.right.spelled c.args.base k.object k.begins).counted k.counted in
+    raised-views c.args.heap.now c.close_gap.new.heap c.args.base k.object k.begins is (returns-then-composite-2-clause-heap g c) k.counted
+
+pub returns-then-composite-2-clause-unpinned : goal.returns-then-composite-2-clause-unpinned
+returns-then-composite-2-clause-unpinned g c =
+    let k = c.requires.counted in
+    let is = (c.requires.right.spelled c.args.base k.object k.begins).counted k.counted in
+    raised-unpinned c.args.heap.now c.close_gap.new.heap c.args.base k.object k.begins is (returns-then-composite-2-clause-heap g c)
+
+pub returns-then-composite-2-clause-listed : goal.returns-then-composite-2-clause-listed
+returns-then-composite-2-clause-listed g c =
+    let k = c.requires.counted in
+    let is = (c.requires.right.spelled c.args.base k.object k.begins).counted k.counted in
+    raised-listed c.args.heap.now c.close_gap.new.heap c.args.base k.object k.begins is (returns-then-composite-2-clause-heap g c)
+
+pub returns-else-composite-2-clause-rest : goal.returns-else-composite-2-clause-rest
+returns-else-composite-2-clause-rest g c =
+    rest-changed c.args.heap.now c.set_composite.new.heap raised c.args.base (returns-else-composite-2-clause-heap g c)
+
+pub returns-else-composite-2-clause-views : goal.returns-else-composite-2-clause-views
+returns-else-composite-2-clause-views g c =
+    let k = c.requires.counted in
+    let is = (c.requires.right.spelled c.args.base k.object k.begins).counted k.counted in
+    raised-views c.args.heap.now c.set_composite.new.heap c.args.base k.object k.begins is (returns-else-composite-2-clause-heap g c) k.counted
+
+pub returns-else-composite-2-clause-unpinned : goal.returns-else-composite-2-clause-unpinned
+returns-else-composite-2-clause-unpinned g c =
+    let k = c.requires.counted in
+    let is = (c.requires.right.spelled c.args.base k.object k.begins).counted k.counted in
+    raised-unpinned c.args.heap.now c.set_composite.new.heap c.args.base k.object k.begins is (returns-else-composite-2-clause-heap g c)
+
+pub returns-else-composite-2-clause-listed : goal.returns-else-composite-2-clause-listed
+returns-else-composite-2-clause-listed g c =
+    let k = c.requires.counted in
+    let is = (c.requires.right.spelled c.args.base k.object k.begins).counted k.counted in
+    raised-listed c.args.heap.now c.set_composite.new.heap c.args.base k.object k.begins is (returns-else-composite-2-clause-heap g c)

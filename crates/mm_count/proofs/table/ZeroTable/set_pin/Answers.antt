@@ -6,6 +6,7 @@ use Rattle.mm_count.proofs.Composites.{fits-pin, composite-pin}
 use Rattle.mm_count.proofs.Places.{keeps}
 use Rattle.mm_count.proofs.Counted.{counted-pinned}
 use Rattle.mm_count.proofs.Changes.{composite-said, pin-gives, kept-right}
+use Rattle.mm_count.proofs.Views.{rest-changed, pinned-views}
 use Rattle.mm_count.proofs.table.ZeroTable.set_pin.Goals as goal
 
 pub set_composite-requires-clause-fits : goal.set_composite-requires-clause-fits
@@ -46,3 +47,13 @@ returns-clause-right g c =
     c.args.self.now (subst IsComposite (sym c.with_pin.ensures) (composite-pin c.args.pinned r is))
     (ap (λ (r : Composite). r.listed) c.with_pin.ensures) (ap (λ (r : Composite). r.place) c.with_pin.ensures)
     c.requires.right
+
+pub returns-clause-rest : goal.returns-clause-rest
+returns-clause-rest g c =
+    rest-changed c.args.heap.now c.set_composite.new.heap (with_pin c.args.pinned) c.args.base (returns-clause-heap g c)
+
+pub returns-clause-views : goal.returns-clause-views
+returns-clause-views g c =
+    let k = c.requires.counted in
+    let is = (c.requires.right.spelled c.args.base k.object k.begins).counted k.counted in
+    pinned-views c.args.heap.now c.set_composite.new.heap c.args.base k.object k.begins is c.args.pinned (returns-clause-heap g c)

@@ -1,0 +1,100 @@
+-- Lists by base of which each entry is changed by a function that is told its base.
+use Rattle.std.proofs.Common.{◌≡◌, ◌≢◌, ⊎_elim, ℕ, ◌*◌, ◌/◌, List, Option, Some, None, refl, sym, ap, ◌∙◌, subst, arith}
+use Rattle.std.specs.Prelude.{slice_get, slice_set}
+use Rattle.std.specs.Option.{option_map, option_and_then}
+use Rattle.std.proofs.lemmas.Bool.{cases_eq}
+use Rattle.mm_model.specs.ByBase.{Begins, with_entry, changed}
+use Rattle.mm_model.proofs.Lists.Replaced.{get-set_same, get-set_other}
+use Rattle.mm_model.proofs.View.Entries.{get-changed, same_entries}
+use Rattle.mm_count.proofs.Entries.{begins_get}
+
+-- what a function makes of an entry that isn't there, is empty, or holds something
+abbrev pub change_told : {X : Type 0} → (ℕ → X → Option X) → ℕ → Option (Option X) → Option (Option X)
+change_told f k told = option_map (option_and_then (f (16 * k))) told
+
+-- functions that do the same to all that begins somewhere
+pub changed-alike : {X : Type 0} (f g : ℕ → X → Option X) (entries : List (Option X))
+    → ((base : ℕ) (x : X) → Begins entries base x → f base x ≡ g base x) → changed f entries ≡ changed g entries
+changed-alike {X} f g entries alike =
+    same_entries (changed f entries) (changed g entries)
+    (λ k. get-changed f entries k ∙ split k (slice_get entries k) refl ∙ sym (get-changed g entries k))
+  where
+    split : (k : ℕ) (told : Option (Option X)) → slice_get entries k ≡ told → change_told f k told ≡ change_told g k told
+    split k None e = refl
+    split k (Some None) e = refl
+    split k (Some (Some x)) e =
+        ap (λ (y : Option X). Some y) (alike (16 * k) x (record { grain = k; aligned = refl; is = e }))
+
+-- a function that changes nothing but what begins at a base
+pub changed-one : {X : Type 0} (f : ℕ → X → Option X) (entries : List (Option X)) (base : ℕ) (x : X)
+    → Begins entries base x → ((b : ℕ) (y : X) → b ≢ base → Begins entries b y → f b y ≡ Some y)
+    → changed f entries ≡ with_entry base (f base x) entries
+changed-one {X} f entries base x begins others =
+    same_entries (changed f entries) (with_entry base (f base x) entries)
+    (λ k. get-changed f entries k ∙ ⊎_elim (here k) (there k) (cases_eq k (base / 16)))
+  where
+    here : (k : ℕ) → k ≡ base / 16
+        → change_told f k (slice_get entries k) ≡ slice_get (slice_set entries (base / 16) (f base x)) k
+    here k e =
+        let a = begins.aligned in
+        let at : 16 * k ≡ base = omega arith in
+        let is = ap (slice_get entries) e ∙ begins_get entries base x begins in
+        ap (change_told f k) is ∙ ap (λ (b : ℕ). Some (f b x)) at
+        ∙ sym (get-set_same entries (base / 16) (Some x) (f base x) (begins_get entries base x begins))
+        ∙ ap (slice_get (slice_set entries (base / 16) (f base x))) (sym e)
+
+    kept : (k : ℕ) → k ≢ base / 16 → (told : Option (Option X)) → slice_get entries k ≡ told
+        → change_told f k told ≡ told
+    kept k other None e = refl
+    kept k other (Some None) e = refl
+    kept k other (Some (Some y)) e =
+        let a = begins.aligned in
+        ap (λ (z : Option X). Some z)
+        (others (16 * k) y (λ same. other (omega arith)) (record { grain = k; aligned = refl; is = e }))
+
+    there : (k : ℕ) → k ≢ base / 16
+        → change_told f k (slice_get entries k) ≡ slice_get (slice_set entries (base / 16) (f base x)) k
+    there k other =
+        kept k other (slice_get entries k) refl ∙ sym (get-set_other entries (base / 16) k (f base x) other)
+
+-- a function that changes nothing
+pub changed-none : {X : Type 0} (f : ℕ → X → Option X) (entries : List (Option X))
+    → ((b : ℕ) (y : X) → Begins entries b y → f b y ≡ Some y) → changed f entries ≡ entries
+changed-none {X} f entries none =
+    same_entries (changed f entries) entries (λ k. get-changed f entries k ∙ split k (slice_get entries k) refl)
+  where
+    split : (k : ℕ) (told : Option (Option X)) → slice_get entries k ≡ told → change_told f k told ≡ told
+    split k None e = refl
+    split k (Some None) e = refl
+    split k (Some (Some y)) e =
+        ap (λ (z : Option X). Some z) (none (16 * k) y (record { grain = k; aligned = refl; is = e }))
+
+-- one entry is replaced before, or after
+pub changed-with_entry : {X : Type 0} (f : ℕ → X → Option X) (entries : List (Option X)) (base : ℕ) (x y : X)
+    → Begins entries base x → changed f (with_entry base (Some y) entries) ≡ with_entry base (f base y) (changed f entries)
+changed-with_entry {X} f entries base x y begins =
+    same_entries (changed f (with_entry base (Some y) entries)) (with_entry base (f base y) (changed f entries))
+    (λ k. get-changed f (with_entry base (Some y) entries) k ∙ ⊎_elim (here k) (there k) (cases_eq k (base / 16)))
+  where
+    is : slice_get entries (base / 16) ≡ Some (Some x)
+    is = begins_get entries base x begins
+
+    here : (k : ℕ) → k ≡ base / 16
+        → change_told f k (slice_get (slice_set entries (base / 16) (Some y)) k)
+        ≡ slice_get (slice_set (changed f entries) (base / 16) (f base y)) k
+    here k e =
+        let a = begins.aligned in
+        let at : 16 * k ≡ base = omega arith in
+        let old = get-changed f entries (base / 16) ∙ ap (change_told f (base / 16)) is in
+        ap (λ n. change_told f k (slice_get (slice_set entries (base / 16) (Some y)) n)) e
+        ∙ ap (change_told f k) (get-set_same entries (base / 16) (Some x) (Some y) is)
+        ∙ ap (λ (b : ℕ). Some (f b y)) at
+        ∙ sym (get-set_same (changed f entries) (base / 16) (f (16 * (base / 16)) x) (f base y) old)
+        ∙ ap (slice_get (slice_set (changed f entries) (base / 16) (f base y))) (sym e)
+
+    there : (k : ℕ) → k ≢ base / 16
+        → change_told f k (slice_get (slice_set entries (base / 16) (Some y)) k)
+        ≡ slice_get (slice_set (changed f entries) (base / 16) (f base y)) k
+    there k other =
+        ap (change_told f k) (get-set_other entries (base / 16) k (Some y) other) ∙ sym (get-changed f entries k)
+        ∙ sym (get-set_other (changed f entries) (base / 16) k (f base y) other)

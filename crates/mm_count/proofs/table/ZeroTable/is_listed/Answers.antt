@@ -1,0 +1,10 @@
+use Rattle.std.proofs.Common.{sym, ap, ◌∙◌}
+use Rattle.mm_count.specs.declared.composite.Composite.{Composite}
+use Rattle.mm_count.proofs.Changes.{composite_at-counted}
+use Rattle.mm_count.proofs.table.ZeroTable.is_listed.Goals as goal
+
+pub returns-clause-listed : goal.returns-clause-listed
+returns-clause-listed g c =
+    let k = c.requires in
+    ap (λ (r : Composite). r.listed)
+    (c.composite_of.ensures.says k.object k.begins ∙ sym (composite_at-counted c.args.heap.now.objects c.args.base k))
