@@ -98,3 +98,17 @@ changed-with_entry {X} f entries base x y begins =
     there k other =
         ap (change_told f k) (get-set_other entries (base / 16) k (Some y) other) ∙ sym (get-changed f entries k)
         ∙ sym (get-set_other (changed f entries) (base / 16) k (f base y) other)
+
+-- what the function made of what began at a base
+pub changed_begins : {X : Type 0} (f : ℕ → X → Option X) (entries : List (Option X)) (base : ℕ) (x y : X)
+    → Begins entries base x → Begins (changed f entries) base y → f base x ≡ Some y
+changed_begins {X} f entries base x y begins there =
+    let a = begins.aligned in
+    let at : 16 * (base / 16) ≡ base = omega arith in
+    let was = get-changed f entries (base / 16)
+    ∙ ap (change_told f (base / 16)) (begins_get entries base x begins) in
+    let now = begins_get (changed f entries) base y there in
+    ap (λ (b : ℕ). f b x) (sym at) ∙ inner (f (16 * (base / 16)) x) (sym was ∙ now)
+  where
+    inner : (e : Option X) → ◌≡◌ {A = Option (Option X)} (Some e) (Some (Some y)) → e ≡ Some y
+    inner e same = cc

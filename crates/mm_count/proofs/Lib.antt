@@ -12,3 +12,4 @@ pub mod Sticky
 pub mod Stored
 pub mod Views
 pub mod Words
+pub mod Writing

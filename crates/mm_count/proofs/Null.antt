@@ -46,8 +46,8 @@ module _ (h : Heap) (sound : IsSound h) where
       → table ≡ table_lowered table (composite_at h.objects word) word
   table_lowered-zero table word e = ap (λ c. table_lowered table c word) (sym (composite_at-zero word e))
 
-  other : (word : ℕ) → word ≡ 0 → (b : ℕ) (v : ObjectView) → Begins (views_of h.objects) b v → b ≢ word
-  other word e b v begins same =
+  pub none_begins : (word : ℕ) → word ≡ 0 → (b : ℕ) (v : ObjectView) → Begins (views_of h.objects) b v → b ≢ word
+  none_begins word e b v begins same =
       let m = mapped_begins view_of_stored h.objects b v begins in
       none m.value (subst (λ n. Begins h.objects n m.value) (same ∙ e) m.begins)
 
@@ -57,7 +57,7 @@ module _ (h : Heap) (sound : IsSound h) where
       record {
         exact = λ b v begins counted exact.
             let is = right.exact b v begins counted exact in
-            let more = one_more-other outside word b (other word e b v begins) in
+            let more = one_more-other outside word b (none_begins word e b v begins) in
             omega arith;
         few = right.few;
       }
@@ -68,7 +68,7 @@ module _ (h : Heap) (sound : IsSound h) where
       record {
         exact = λ b v begins counted exact.
             let is = right.exact b v begins counted exact in
-            let more = one_more-other outside word b (other word e b v begins) in
+            let more = one_more-other outside word b (none_begins word e b v begins) in
             omega arith;
         few = right.few;
       }

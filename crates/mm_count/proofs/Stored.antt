@@ -29,7 +29,7 @@ use Rattle.mm_count.proofs.Places.{bare, bared, composite_of-bare}
 use Rattle.mm_count.proofs.Right.{right-kept}
 
 -- a word that is replaced, in a count of those that are a base
-abbrev one_if : Bool → ℕ
+abbrev pub one_if : Bool → ℕ
 one_if b = if b then 1 else 0
 
 count-set : (words : List ℕ) (s word b : ℕ) → s < length words
@@ -101,7 +101,7 @@ module _ (h : Heap) (base : ℕ) (o : StoredObject) (begins : Begins h.objects b
     abbrev old : ℕ
     old = slice_index o.words s
 
-    all-references : (b : ℕ)
+    pub all-references : (b : ℕ)
         → references_in (views_of stored.objects) b + one_if (old == b)
         ≡ references_in (views_of h.objects) b + one_if (word == b)
     all-references b =
@@ -261,13 +261,13 @@ module _ (h raised_heap written : Heap) (base s word : ℕ) (slot : HasCountedSl
     (raises : without_places raised_heap ≡ changed_at raised word (without_places h))
     (writes : (object : StoredObject) → Begins raised_heap.objects base object
     → written ≡ with_object raised_heap base (Some (record object { words = slice_set object.words s word }))) where
-  abbrev first : (composite : ℕ) × Begins raised_heap.objects base (record slot.object { composite = composite })
+  abbrev pub first : (composite : ℕ) × Begins raised_heap.objects base (record slot.object { composite = composite })
   first = keeps.to base slot.object slot.begins
 
-  abbrev object-now : StoredObject
+  abbrev pub object-now : StoredObject
   object-now = record slot.object { composite = first.0 }
 
-  is : written ≡ stored raised_heap base object-now first.1 s word
+  pub is : written ≡ stored raised_heap base object-now first.1 s word
   is = writes object-now first.1
 
   pub between-right : (table : Table) → IsRight table raised_heap → IsRight table written

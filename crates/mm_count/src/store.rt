@@ -1,10 +1,17 @@
 // Writes into counted slots.
-ghost use Rattle.std.specs.Prelude.{◌≡◌, ◌≢◌, ◌≤◌, ◌+◌, ℕ, slice_index};
+ghost use Rattle.std.specs.Prelude.{◌≡◌, ◌≢◌, ◌≤◌, ◌+◌, ◌∷◌, [], ℕ, slice_index};
+ghost use Rattle.mm_model.specs.Words.{CountedSlot};
 ghost use Rattle.mm_model.specs.ByBase.{Begins};
-ghost use Rattle.mm_object.specs.Object.{StoredObject};
+ghost use Rattle.mm_model.specs.ObjectView.{ObjectView};
+ghost use Rattle.mm_model.specs.View.{View};
+ghost use Rattle.mm_model.specs.ViewWords.{outside_references};
+ghost use Rattle.mm_model.specs.ViewStore.{view_recounted, view_with_word};
+ghost use Rattle.mm_object.specs.Object.{StoredObject, views_of};
 ghost use Rattle.mm_object.specs.Heap.{IsSound};
 ghost use Rattle.mm_count.specs.Table.{IsRight};
 ghost use Rattle.mm_count.specs.Counts.{composite_at, IsCountedBy, one_more, raised, lowered, changed_at, written_at, without_places, table_raised, table_lowered, KeepsObjects, NamesCounted, HasCountedSlot, HasReference};
+ghost use Rattle.mm_count.specs.Sticky.{with_sticky};
+ghost use Rattle.mm_count.specs.Listed.{AllListed, NonePinned, KeepsPins, ListsNamed};
 
 use crate::table::ZeroTable;
 use mm_object::{Heap, Slot};
@@ -35,6 +42,11 @@ impl ZeroTable {
         ensures counts { (outside : ℕ → ℕ) → IsCountedBy heap.old.objects outside
             → IsCountedBy heap.new.objects (one_more outside word) }
         ensures objects { KeepsObjects heap.old.objects heap.new.objects }
+        ensures rest { heap.new ≡ record heap.old { objects = heap.new.objects } }
+        ensures views { (outside : ℕ → ℕ) → IsCountedBy heap.old.objects outside
+            → views_of heap.new.objects ≡ with_sticky (one_more outside word) word (views_of heap.old.objects) }
+        ensures unpinned { NonePinned heap.old.objects → NonePinned heap.new.objects }
+        ensures listed { AllListed heap.old.objects → AllListed heap.new.objects }
         ensures right { IsRight self.new heap.new }
         ensures sound { IsSound heap.new }
         ensures cost { steps.new ≤ steps.old + 8 }
@@ -56,6 +68,12 @@ impl ZeroTable {
         ensures counts { (outside : ℕ → ℕ) → IsCountedBy heap.old.objects (one_more outside word)
             → IsCountedBy heap.new.objects outside }
         ensures objects { KeepsObjects heap.old.objects heap.new.objects }
+        ensures rest { heap.new ≡ record heap.old { objects = heap.new.objects } }
+        ensures views { views_of heap.new.objects ≡ views_of heap.old.objects }
+        ensures pins { KeepsPins heap.old.objects heap.new.objects }
+        ensures unpinned { NonePinned heap.old.objects → NonePinned heap.new.objects }
+        ensures listed { AllListed heap.old.objects → AllListed heap.new.objects }
+        ensures entered { ListsNamed (word ∷ []) heap.old.objects heap.new.objects }
         ensures right { IsRight self.new heap.new }
         ensures sound { IsSound heap.new }
         ensures cost { steps.new ≤ steps.old + 8 }
@@ -93,6 +111,14 @@ impl ZeroTable {
             ≡ changed_at lowered result (written_at base s w (changed_at raised w (without_places heap.old))) }
         ensures counts { (outside : ℕ → ℕ) → IsCountedBy heap.old.objects outside
             → IsCountedBy heap.new.objects outside }
+        ensures objects { KeepsObjects (written_at base s w heap.old).objects heap.new.objects }
+        ensures rest { heap.new ≡ record heap.old { objects = heap.new.objects } }
+        ensures views { (view : View) (object : ObjectView) → view.objects ≡ views_of heap.old.objects
+            → Begins view.objects base object → IsCountedBy heap.old.objects (outside_references view)
+            → views_of heap.new.objects ≡ (view_recounted CountedSlot (slice_index object.words s) w
+            (view_with_word (record { base = base; value = object }) s w view)).objects }
+        ensures unpinned { NonePinned heap.old.objects → NonePinned heap.new.objects }
+        ensures listed { AllListed heap.old.objects → AllListed heap.new.objects }
         ensures right { IsRight self.new heap.new }
         ensures sound { IsSound heap.new }
         ensures cost { steps.new ≤ steps.old + 24 }

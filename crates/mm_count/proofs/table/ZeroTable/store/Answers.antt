@@ -1,7 +1,10 @@
-use Rattle.std.proofs.Common.{ℕ, sym, ap, ◌∙◌, subst}
+use Rattle.std.proofs.Common.{◌≢◌, ℕ, sym, ap, ◌∙◌, subst, slice_index}
+use Rattle.mm_model.specs.ViewWords.{outside_references}
+use Rattle.mm_object.specs.Heap.{Heap}
 use Rattle.mm_count.specs.Table.{Table}
-use Rattle.mm_count.specs.Counts.{lowered, changed_at, composite_at, table_raised, table_lowered, IsCountedBy, one_more, NamesCounted, HasReference}
+use Rattle.mm_count.specs.Counts.{lowered, changed_at, written_at, composite_at, table_raised, table_lowered, IsCountedBy, one_more, NamesCounted, HasReference}
 use Rattle.mm_count.proofs.Stored.{between-right, between-places, between-counted, between-named, between-reference, between-table}
+use Rattle.mm_count.proofs.Writing.{keeps-then, keeps-unwritten, views-unwritten, between-rest, between-unpinned, between-listed, between-objects, between-views, views-written}
 use Rattle.mm_count.proofs.table.ZeroTable.store.Goals as goal
 
 pub set_slot-requires : goal.set_slot-requires
@@ -67,3 +70,56 @@ returns-clause-counts g c = λ outside right.
     (c.raise_named.ensures.counts outside right) in
     c.lower_named.ensures.counts outside
     (subst (λ (n : ℕ). IsCountedBy c.set_slot.new.self.objects (one_more outside n)) (sym is) now)
+
+pub returns-then-old-w-clause-objects : goal.returns-then-old-w-clause-objects
+returns-then-old-w-clause-objects g c =
+    let slot = c.requires.slot in
+    keeps-unwritten c.args.heap.now c.args.base c.args.s c.args.w slot
+    (sym c.if-old-w.true ∙ c.counted_word-old.ensures.word slot.object slot.begins)
+
+pub returns-then-old-w-clause-views : goal.returns-then-old-w-clause-views
+returns-then-old-w-clause-views g c = λ view object shows begins right.
+    let slot = c.requires.slot in
+    views-unwritten c.args.heap.now c.args.base c.args.s c.args.w slot
+    (sym c.if-old-w.true ∙ c.counted_word-old.ensures.word slot.object slot.begins) view object shows begins
+
+pub returns-clause-objects : goal.returns-clause-objects
+returns-clause-objects g c =
+    keeps-then (written_at c.args.base c.args.s c.args.w c.args.heap.now).objects c.set_slot.new.self.objects
+    c.lower_named.new.heap.objects
+    (between-objects c.args.heap.now c.raise_named.new.heap c.set_slot.new.self c.args.base c.args.s c.args.w
+    c.requires.slot c.raise_named.ensures.objects c.raise_named.ensures.heap c.set_slot.ensures.slot)
+    c.lower_named.ensures.objects
+
+pub returns-clause-rest : goal.returns-clause-rest
+returns-clause-rest g c =
+    c.lower_named.ensures.rest
+    ∙ ap (λ (h : Heap). record h { objects = c.lower_named.new.heap.objects })
+    (between-rest c.args.heap.now c.raise_named.new.heap c.set_slot.new.self c.args.base c.args.s c.args.w
+    c.requires.slot c.raise_named.ensures.objects c.raise_named.ensures.heap c.set_slot.ensures.slot
+    c.raise_named.ensures.rest)
+
+pub returns-clause-views : goal.returns-clause-views
+returns-clause-views g c = λ view object shows begins right.
+    let slot = c.requires.slot in
+    let other : slice_index slot.object.words c.args.s ≢ c.args.w = λ e.
+    c.if-old-w.false (c.counted_word-old.ensures.word slot.object slot.begins ∙ e) in
+    c.lower_named.ensures.views
+    ∙ between-views c.args.heap.now c.raise_named.new.heap c.set_slot.new.self c.args.base c.args.s c.args.w
+    c.requires.slot c.raise_named.ensures.objects c.raise_named.ensures.heap c.set_slot.ensures.slot
+    (outside_references view) other (c.raise_named.ensures.views (outside_references view) right)
+    ∙ views-written c.args.heap.now c.args.base c.args.s c.args.w slot other view object shows begins
+
+pub returns-clause-unpinned : goal.returns-clause-unpinned
+returns-clause-unpinned g c = λ none.
+    c.lower_named.ensures.unpinned
+    (between-unpinned c.args.heap.now c.raise_named.new.heap c.set_slot.new.self c.args.base c.args.s c.args.w
+    c.requires.slot c.raise_named.ensures.objects c.raise_named.ensures.heap c.set_slot.ensures.slot
+    (c.raise_named.ensures.unpinned none))
+
+pub returns-clause-listed : goal.returns-clause-listed
+returns-clause-listed g c = λ all.
+    c.lower_named.ensures.listed
+    (between-listed c.args.heap.now c.raise_named.new.heap c.set_slot.new.self c.args.base c.args.s c.args.w
+    c.requires.slot c.raise_named.ensures.objects c.raise_named.ensures.heap c.set_slot.ensures.slot
+    (c.raise_named.ensures.listed all))
