@@ -1,8 +1,9 @@
 -- Lists by base of which each entry is changed by a function that is told its base.
-use Rattle.std.proofs.Common.{◌≡◌, ◌≢◌, ⊎_elim, ℕ, ◌*◌, ◌/◌, List, Option, Some, None, refl, sym, ap, ◌∙◌, subst, arith}
+use Rattle.std.proofs.Common.{◌≡◌, ◌≢◌, ⊎_elim, ℕ, ◌*◌, ◌/◌, List, map, Option, Some, None, refl, sym, ap, ◌∙◌, subst, arith}
 use Rattle.std.specs.Prelude.{slice_get, slice_set}
 use Rattle.std.specs.Option.{option_map, option_and_then}
 use Rattle.std.proofs.lemmas.Bool.{cases_eq}
+use Rattle.std.proofs.lemmas.Option.{slice_get-map}
 use Rattle.mm_model.specs.ByBase.{Begins, with_entry, changed}
 use Rattle.mm_model.proofs.Lists.Replaced.{get-set_same, get-set_other}
 use Rattle.mm_model.proofs.View.Entries.{get-changed, same_entries}
@@ -112,3 +113,20 @@ changed_begins {X} f entries base x y begins there =
   where
     inner : (e : Option X) → ◌≡◌ {A = Option (Option X)} (Some e) (Some (Some y)) → e ≡ Some y
     inner e same = cc
+
+-- a function of what stands in a list, before or after
+pub map-changed : {X Y : Type 0} (v : X → Y) (f : ℕ → X → Option X) (g : ℕ → Y → Option Y)
+    → ((base : ℕ) (x : X) → option_map v (f base x) ≡ g base (v x)) → (entries : List (Option X))
+    → map (option_map v) (changed f entries) ≡ changed g (map (option_map v) entries)
+map-changed {X} {Y} v f g alike entries =
+    same_entries (map (option_map v) (changed f entries)) (changed g (map (option_map v) entries))
+    (λ k. slice_get-map (option_map v) (changed f entries) k ∙ ap (option_map (option_map v)) (get-changed f entries k)
+    ∙ split k (slice_get entries k)
+    ∙ sym (get-changed g (map (option_map v) entries) k
+    ∙ ap (change_told g k) (slice_get-map (option_map v) entries k)))
+  where
+    split : (k : ℕ) (told : Option (Option X))
+        → option_map (option_map v) (change_told f k told) ≡ change_told g k (option_map (option_map v) told)
+    split k None = refl
+    split k (Some None) = refl
+    split k (Some (Some x)) = ap (λ (y : Option Y). Some y) (alike (16 * k) x)

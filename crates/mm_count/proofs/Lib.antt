@@ -1,8 +1,10 @@
+pub mod Apart
 pub mod ChangedEntries
 pub mod Changes
 pub mod Composites
 pub mod Counted
 pub mod Entries
+pub mod Lowering
 pub mod Null
 pub mod Places
 pub mod References

@@ -50,3 +50,32 @@ references-with_entry objects base x y begins b =
     let sums = sum-set (λ (v : ObjectView). references_of v b) 0 objects (base / 16) x y
     (begins_get objects base x begins) in
     omega arith
+
+module _ {X : Type 0} (g : X → ℕ) where
+  sum-clear : (low : ℕ) (entries : List (Option X)) (k : ℕ) (x : X) → slice_get entries k ≡ Some (Some x)
+      → sum_by (weight g) (based_from low (slice_set entries k None)) + g x ≡ sum_by (weight g) (based_from low entries)
+  sum-clear low [] k x e = cc
+  sum-clear low (None ∷ entries) zero x e = cc
+  sum-clear low (Some z ∷ entries) zero x e =
+      let same : z ≡ x = cc in
+      let own : g z ≡ g x = ap g same in
+      let rest = based_from (low + 16) entries in
+      let b = sum_by-cons (weight g) (record { base = low; value = z }) rest in
+      omega arith
+  sum-clear low (None ∷ entries) (suc k) x e = sum-clear (low + 16) entries k x e
+  sum-clear low (Some z ∷ entries) (suc k) x e =
+      let rest = sum-clear (low + 16) entries k x e in
+      let a = sum_by-cons (weight g) (record { base = low; value = z })
+      (based_from (low + 16) (slice_set entries k None)) in
+      let b = sum_by-cons (weight g) (record { base = low; value = z }) (based_from (low + 16) entries) in
+      omega arith
+
+-- how many hold a base once an object is left out
+pub references-cleared : (objects : ObjectsByBase) (base : ℕ) (x : ObjectView) → Begins objects base x → (b : ℕ)
+    → references_in (with_entry base None objects) b + references_of x b ≡ references_in objects b
+references-cleared objects base x begins b =
+    let after = references-sum (with_entry base None objects) b in
+    let before = references-sum objects b in
+    let sums = sum-clear (λ (v : ObjectView). references_of v b) 0 objects (base / 16) x
+    (begins_get objects base x begins) in
+    omega arith

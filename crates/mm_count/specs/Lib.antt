@@ -1,3 +1,4 @@
+pub mod Apart
 pub mod Composite
 pub mod Counts
 pub mod DeadApart

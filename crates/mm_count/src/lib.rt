@@ -3,6 +3,7 @@
 
 mod composite;
 mod counts;
+mod dead;
 mod pins;
 mod store;
 mod table;

@@ -19,7 +19,7 @@ use mm_steps::Steps;
 use std::sync::ledger::Ledger;
 
 /// The word of a counted slot.
-fn counted_word<L: Ledger>(heap: &Heap, base: u32, s: u32, steps: &mut Steps<L>) -> u32
+pub(crate) fn counted_word<L: Ledger>(heap: &Heap, base: u32, s: u32, steps: &mut Steps<L>) -> u32
     requires { HasCountedSlot heap.now.objects base s }
     ensures word { (object : StoredObject) → Begins heap.now.objects base object → result ≡ slice_index object.words s }
     ensures sound { IsSound heap.now }
