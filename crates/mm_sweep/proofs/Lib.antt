@@ -8,3 +8,4 @@ pub mod Bases
 pub mod Finals
 pub mod Freed
 pub mod Right
+pub mod CountsLeft

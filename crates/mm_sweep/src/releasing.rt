@@ -11,6 +11,10 @@ ghost use Rattle.mm_object.specs.Object.{StoredObject, views_of};
 ghost use Rattle.mm_object.specs.Heap.{IsSound, FitsHeap};
 ghost use Rattle.mm_weak.specs.Links.{IsLinked};
 ghost use Rattle.mm_count.specs.Table.{Table, IsRight, composite_of};
+ghost use Rattle.mm_count.specs.Counts.{IsCountedBy};
+ghost use Rattle.mm_count.specs.Listed.{AllListed, NonePinned};
+ghost use Rattle.mm_count.specs.Apart.{AreCountsApart};
+ghost use Rattle.mm_count.specs.DeadApart.{AreDeadApart};
 ghost use Rattle.mm_sweep.specs.Release.{after_release, finalized_slots, AreObjects, KeepsRaw, IsReleaseCost};
 ghost use Rattle.mm_sweep.specs.Release.{HaveNoCommonRun, AreAllParked};
 
@@ -52,6 +56,10 @@ pub fn release<J: Journal, L: Ledger>(
         ≡ changed (view_after_release (take k dead.now.words)) (views_of heap.old.objects) }
     ensures objects { heap.new.objects ≡ changed (after_release (take k dead.now.words)) heap.old.objects }
     ensures right { (table : Table) → IsRight table heap.old → IsRight table heap.new }
+    ensures counts { (outside : ℕ → ℕ) → AreCountsApart (take k dead.now.words) heap.old.objects outside
+        → IsCountedBy heap.new.objects outside }
+    ensures listed { AreDeadApart (take k dead.now.words) heap.old.objects → AllListed heap.new.objects }
+    ensures unpinned { NonePinned heap.old.objects → NonePinned heap.new.objects }
     ensures linked { IsLinked heap.new }
     ensures fits { FitsHeap heap.new pages.new }
     ensures apart { (runs : List ℕ) → HaveNoCommonRun heap.old.runs runs → HaveNoCommonRun heap.new.runs runs }
