@@ -170,15 +170,15 @@ impl ZeroTable {
         ensures sound { IsSound heap.new }
         ensures cost { steps.new ≤ steps.old + 8 }
     {
-        let composite = composite_of(heap, base, steps);
-        if composite.sticky {
+        let old = composite_of(heap, base, steps);
+        if old.sticky {
             return;
         }
-        if composite.count == 1 {
-            self.enter(heap, base, composite.lowered(), steps);
+        if old.count == 1 {
+            self.enter(heap, base, old.lowered(), steps);
             return;
         }
-        set_composite(heap, base, composite.lowered(), steps);
+        set_composite(heap, base, old.lowered(), steps);
     }
 
     /// Takes an object that is about to be freed out of the table, if it's there.

@@ -10,61 +10,61 @@ use Rattle.mm_count.proofs.Changes.{composite-said, lower-kept, lower-gives, low
 use Rattle.mm_count.proofs.Views.{rest-changed, lowered-views, lowered-pins, lowered-unpinned, lowered-listed, lowered-names}
 use Rattle.mm_count.proofs.table.ZeroTable.lower.Goals as goal
 
-pub returns-then-composite-clause-heap : goal.returns-then-composite-clause-heap
-returns-then-composite-clause-heap g c =
+pub returns-then-old-clause-heap : goal.returns-then-old-clause-heap
+returns-then-old-clause-heap g c =
     let k = c.requires.counted in
-    lower-kept c.args.heap.now c.args.base k c.composite_of-composite.result
-    (c.composite_of-composite.ensures.says k.object k.begins) c.if-composite.true
+    lower-kept c.args.heap.now c.args.base k c.composite_of-old.result
+    (c.composite_of-old.ensures.says k.object k.begins) c.if-old.true
 
-pub returns-then-composite-clause-counts : goal.returns-then-composite-clause-counts
-returns-then-composite-clause-counts g c =
+pub returns-then-old-clause-counts : goal.returns-then-old-clause-counts
+returns-then-old-clause-counts g c =
     let k = c.requires.counted in
     counted-lowered c.args.heap.now c.args.heap.now c.args.base k.object k.begins
     ((c.requires.right.spelled c.args.base k.object k.begins).counted k.counted)
-    (some-said c.args.heap.now.objects c.args.base k c.requires.some) (returns-then-composite-clause-heap g c)
+    (some-said c.args.heap.now.objects c.args.base k c.requires.some) (returns-then-old-clause-heap g c)
 
-pub returns-then-composite-clause-objects : goal.returns-then-composite-clause-objects
-returns-then-composite-clause-objects g c =
+pub returns-then-old-clause-objects : goal.returns-then-old-clause-objects
+returns-then-old-clause-objects g c =
     let k = c.requires.counted in
     keeps c.args.heap.now c.args.heap.now lowered c.args.base k.object k.begins
-    (returns-then-composite-clause-heap g c)
+    (returns-then-old-clause-heap g c)
 
-pub returns-then-composite-eq1-clause-heap : goal.returns-then-composite-eq1-clause-heap
-returns-then-composite-eq1-clause-heap g c =
+pub returns-then-old-eq1-clause-heap : goal.returns-then-old-eq1-clause-heap
+returns-then-old-eq1-clause-heap g c =
     let k = c.requires.counted in
-    let r = c.composite_of-composite.result in
+    let r = c.composite_of-old.result in
     let n = length c.args.self.now.entries in
-    let fits = subst FitsWord (sym c.lowered.ensures) (fits-below r c.composite_of-composite.ensures.fits) in
-    lower-enters c.args.heap.now c.args.base k r (c.composite_of-composite.ensures.says k.object k.begins)
+    let fits = subst FitsWord (sym c.lowered.ensures) (fits-below r c.composite_of-old.ensures.fits) in
+    lower-enters c.args.heap.now c.args.base k r (c.composite_of-old.ensures.says k.object k.begins)
     c.enter.new.heap (with_entry_word n c.lowered.result) (c.enter.ensures.heap k.object k.begins)
     (fits-entry n c.lowered.result c.enter.ensures.few fits) n
-    (ap (with_entry_word n) c.lowered.ensures) c.if-composite.false c.if-composite-eq1.true
+    (ap (with_entry_word n) c.lowered.ensures) c.if-old.false c.if-old-eq1.true
 
-pub returns-then-composite-eq1-clause-counts : goal.returns-then-composite-eq1-clause-counts
-returns-then-composite-eq1-clause-counts g c =
+pub returns-then-old-eq1-clause-counts : goal.returns-then-old-eq1-clause-counts
+returns-then-old-eq1-clause-counts g c =
     let k = c.requires.counted in
     counted-lowered c.args.heap.now c.enter.new.heap c.args.base k.object k.begins
     ((c.requires.right.spelled c.args.base k.object k.begins).counted k.counted)
-    (some-said c.args.heap.now.objects c.args.base k c.requires.some) (returns-then-composite-eq1-clause-heap g c)
+    (some-said c.args.heap.now.objects c.args.base k c.requires.some) (returns-then-old-eq1-clause-heap g c)
 
-pub returns-then-composite-eq1-clause-objects : goal.returns-then-composite-eq1-clause-objects
-returns-then-composite-eq1-clause-objects g c =
+pub returns-then-old-eq1-clause-objects : goal.returns-then-old-eq1-clause-objects
+returns-then-old-eq1-clause-objects g c =
     let k = c.requires.counted in
     keeps c.args.heap.now c.enter.new.heap lowered c.args.base k.object k.begins
-    (returns-then-composite-eq1-clause-heap g c)
+    (returns-then-old-eq1-clause-heap g c)
 
 pub returns-clause-heap : goal.returns-clause-heap
 returns-clause-heap g c =
     let k = c.requires.counted in
-    let r = c.composite_of-composite.result in
-    let says = c.composite_of-composite.ensures.says k.object k.begins in
+    let r = c.composite_of-old.result in
+    let says = c.composite_of-old.ensures.says k.object k.begins in
     let is = composite-said c.args.heap.now c.args.base k r says c.args.self.now c.requires.right in
     let some = some-said c.args.heap.now.objects c.args.base k c.requires.some in
-    let out = out-said c.args.heap.now c.args.base k r says is some c.if-composite.false in
-    let fits = subst FitsWord (sym c.lowered-2.ensures) (fits-below r c.composite_of-composite.ensures.fits) in
+    let out = out-said c.args.heap.now c.args.base k r says is some c.if-old.false in
+    let fits = subst FitsWord (sym c.lowered-2.ensures) (fits-below r c.composite_of-old.ensures.fits) in
     lower-gives c.args.heap.now c.args.base k r says c.set_composite.new.heap c.lowered-2.result
-    (c.set_composite.ensures.says k.object k.begins) fits c.lowered-2.ensures c.if-composite.false out
-    c.if-composite-eq1.false
+    (c.set_composite.ensures.says k.object k.begins) fits c.lowered-2.ensures c.if-old.false out
+    c.if-old-eq1.false
 
 pub returns-clause-counts : goal.returns-clause-counts
 returns-clause-counts g c =
@@ -81,90 +81,90 @@ returns-clause-objects g c =
 pub returns-clause-right : goal.returns-clause-right
 returns-clause-right g c =
     let k = c.requires.counted in
-    let r = c.composite_of-composite.result in
-    let says = c.composite_of-composite.ensures.says k.object k.begins in
+    let r = c.composite_of-old.result in
+    let says = c.composite_of-old.ensures.says k.object k.begins in
     let is = composite-said c.args.heap.now c.args.base k r says c.args.self.now c.requires.right in
     let some = some-said c.args.heap.now.objects c.args.base k c.requires.some in
     let zero : r.count ≢ 0 = λ e. some
-    (sym (ap (λ (r : Composite). r.sticky) says) ∙ c.if-composite.false)
+    (sym (ap (λ (r : Composite). r.sticky) says) ∙ c.if-old.false)
     (sym (ap (λ (r : Composite). r.count) says) ∙ e) in
-    let fits = subst FitsWord (sym c.lowered-2.ensures) (fits-below r c.composite_of-composite.ensures.fits) in
+    let fits = subst FitsWord (sym c.lowered-2.ensures) (fits-below r c.composite_of-old.ensures.fits) in
     kept-right c.args.heap.now c.args.base k r says c.set_composite.new.heap c.lowered-2.result
     (c.set_composite.ensures.says k.object k.begins) fits c.args.self.now
-    (subst IsComposite (sym c.lowered-2.ensures) (composite-below r is c.if-composite.false zero))
+    (subst IsComposite (sym c.lowered-2.ensures) (composite-below r is c.if-old.false zero))
     (ap (λ (r : Composite). r.listed) c.lowered-2.ensures) (ap (λ (r : Composite). r.place) c.lowered-2.ensures)
     c.requires.right
 
-pub returns-then-composite-clause-rest : goal.returns-then-composite-clause-rest
-returns-then-composite-clause-rest g c =
-    rest-changed c.args.heap.now c.args.heap.now lowered c.args.base (returns-then-composite-clause-heap g c)
+pub returns-then-old-clause-rest : goal.returns-then-old-clause-rest
+returns-then-old-clause-rest g c =
+    rest-changed c.args.heap.now c.args.heap.now lowered c.args.base (returns-then-old-clause-heap g c)
 
-pub returns-then-composite-clause-views : goal.returns-then-composite-clause-views
-returns-then-composite-clause-views g c =
+pub returns-then-old-clause-views : goal.returns-then-old-clause-views
+returns-then-old-clause-views g c =
     let k = c.requires.counted in
     let is = (c.requires.right.spelled c.args.base k.object k.begins).counted k.counted in
-    lowered-views c.args.heap.now c.args.heap.now c.args.base k.object k.begins is (returns-then-composite-clause-heap g c)
+    lowered-views c.args.heap.now c.args.heap.now c.args.base k.object k.begins is (returns-then-old-clause-heap g c)
 
-pub returns-then-composite-clause-pins : goal.returns-then-composite-clause-pins
-returns-then-composite-clause-pins g c =
+pub returns-then-old-clause-pins : goal.returns-then-old-clause-pins
+returns-then-old-clause-pins g c =
     let k = c.requires.counted in
     let is = (c.requires.right.spelled c.args.base k.object k.begins).counted k.counted in
-    lowered-pins c.args.heap.now c.args.heap.now c.args.base k.object k.begins is (returns-then-composite-clause-heap g c)
+    lowered-pins c.args.heap.now c.args.heap.now c.args.base k.object k.begins is (returns-then-old-clause-heap g c)
 
-pub returns-then-composite-clause-unpinned : goal.returns-then-composite-clause-unpinned
-returns-then-composite-clause-unpinned g c =
+pub returns-then-old-clause-unpinned : goal.returns-then-old-clause-unpinned
+returns-then-old-clause-unpinned g c =
     let k = c.requires.counted in
     let is = (c.requires.right.spelled c.args.base k.object k.begins).counted k.counted in
-    lowered-unpinned c.args.heap.now c.args.heap.now c.args.base k.object k.begins is (returns-then-composite-clause-heap g c)
+    lowered-unpinned c.args.heap.now c.args.heap.now c.args.base k.object k.begins is (returns-then-old-clause-heap g c)
 
-pub returns-then-composite-clause-listed : goal.returns-then-composite-clause-listed
-returns-then-composite-clause-listed g c =
+pub returns-then-old-clause-listed : goal.returns-then-old-clause-listed
+returns-then-old-clause-listed g c =
     let k = c.requires.counted in
     let is = (c.requires.right.spelled c.args.base k.object k.begins).counted k.counted in
-    lowered-listed c.args.heap.now c.args.heap.now c.args.base k.object k.begins is (returns-then-composite-clause-heap g c)
+    lowered-listed c.args.heap.now c.args.heap.now c.args.base k.object k.begins is (returns-then-old-clause-heap g c)
     (some-said c.args.heap.now.objects c.args.base k c.requires.some)
 
-pub returns-then-composite-clause-entered : goal.returns-then-composite-clause-entered
-returns-then-composite-clause-entered g c =
+pub returns-then-old-clause-entered : goal.returns-then-old-clause-entered
+returns-then-old-clause-entered g c =
     let k = c.requires.counted in
     let is = (c.requires.right.spelled c.args.base k.object k.begins).counted k.counted in
-    lowered-names c.args.heap.now c.args.heap.now c.args.base k.object k.begins is (returns-then-composite-clause-heap g c)
+    lowered-names c.args.heap.now c.args.heap.now c.args.base k.object k.begins is (returns-then-old-clause-heap g c)
     (some-said c.args.heap.now.objects c.args.base k c.requires.some)
 
-pub returns-then-composite-eq1-clause-rest : goal.returns-then-composite-eq1-clause-rest
-returns-then-composite-eq1-clause-rest g c =
-    rest-changed c.args.heap.now c.enter.new.heap lowered c.args.base (returns-then-composite-eq1-clause-heap g c)
+pub returns-then-old-eq1-clause-rest : goal.returns-then-old-eq1-clause-rest
+returns-then-old-eq1-clause-rest g c =
+    rest-changed c.args.heap.now c.enter.new.heap lowered c.args.base (returns-then-old-eq1-clause-heap g c)
 
-pub returns-then-composite-eq1-clause-views : goal.returns-then-composite-eq1-clause-views
-returns-then-composite-eq1-clause-views g c =
+pub returns-then-old-eq1-clause-views : goal.returns-then-old-eq1-clause-views
+returns-then-old-eq1-clause-views g c =
     let k = c.requires.counted in
     let is = (c.requires.right.spelled c.args.base k.object k.begins).counted k.counted in
-    lowered-views c.args.heap.now c.enter.new.heap c.args.base k.object k.begins is (returns-then-composite-eq1-clause-heap g c)
+    lowered-views c.args.heap.now c.enter.new.heap c.args.base k.object k.begins is (returns-then-old-eq1-clause-heap g c)
 
-pub returns-then-composite-eq1-clause-pins : goal.returns-then-composite-eq1-clause-pins
-returns-then-composite-eq1-clause-pins g c =
+pub returns-then-old-eq1-clause-pins : goal.returns-then-old-eq1-clause-pins
+returns-then-old-eq1-clause-pins g c =
     let k = c.requires.counted in
     let is = (c.requires.right.spelled c.args.base k.object k.begins).counted k.counted in
-    lowered-pins c.args.heap.now c.enter.new.heap c.args.base k.object k.begins is (returns-then-composite-eq1-clause-heap g c)
+    lowered-pins c.args.heap.now c.enter.new.heap c.args.base k.object k.begins is (returns-then-old-eq1-clause-heap g c)
 
-pub returns-then-composite-eq1-clause-unpinned : goal.returns-then-composite-eq1-clause-unpinned
-returns-then-composite-eq1-clause-unpinned g c =
+pub returns-then-old-eq1-clause-unpinned : goal.returns-then-old-eq1-clause-unpinned
+returns-then-old-eq1-clause-unpinned g c =
     let k = c.requires.counted in
     let is = (c.requires.right.spelled c.args.base k.object k.begins).counted k.counted in
-    lowered-unpinned c.args.heap.now c.enter.new.heap c.args.base k.object k.begins is (returns-then-composite-eq1-clause-heap g c)
+    lowered-unpinned c.args.heap.now c.enter.new.heap c.args.base k.object k.begins is (returns-then-old-eq1-clause-heap g c)
 
-pub returns-then-composite-eq1-clause-listed : goal.returns-then-composite-eq1-clause-listed
-returns-then-composite-eq1-clause-listed g c =
+pub returns-then-old-eq1-clause-listed : goal.returns-then-old-eq1-clause-listed
+returns-then-old-eq1-clause-listed g c =
     let k = c.requires.counted in
     let is = (c.requires.right.spelled c.args.base k.object k.begins).counted k.counted in
-    lowered-listed c.args.heap.now c.enter.new.heap c.args.base k.object k.begins is (returns-then-composite-eq1-clause-heap g c)
+    lowered-listed c.args.heap.now c.enter.new.heap c.args.base k.object k.begins is (returns-then-old-eq1-clause-heap g c)
     (some-said c.args.heap.now.objects c.args.base k c.requires.some)
 
-pub returns-then-composite-eq1-clause-entered : goal.returns-then-composite-eq1-clause-entered
-returns-then-composite-eq1-clause-entered g c =
+pub returns-then-old-eq1-clause-entered : goal.returns-then-old-eq1-clause-entered
+returns-then-old-eq1-clause-entered g c =
     let k = c.requires.counted in
     let is = (c.requires.right.spelled c.args.base k.object k.begins).counted k.counted in
-    lowered-names c.args.heap.now c.enter.new.heap c.args.base k.object k.begins is (returns-then-composite-eq1-clause-heap g c)
+    lowered-names c.args.heap.now c.enter.new.heap c.args.base k.object k.begins is (returns-then-old-eq1-clause-heap g c)
     (some-said c.args.heap.now.objects c.args.base k c.requires.some)
 
 pub returns-clause-rest : goal.returns-clause-rest
