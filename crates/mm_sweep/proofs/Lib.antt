@@ -9,3 +9,4 @@ pub mod Finals
 pub mod Freed
 pub mod Right
 pub mod CountsLeft
+pub mod Whites

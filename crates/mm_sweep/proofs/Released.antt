@@ -31,7 +31,7 @@ after_with-twice test false true false object = refl
 after_with-twice test false false true object = unlinked-twice (test 0) object
 after_with-twice test false false false object = refl
 
-lists-append : (bases more : List ℕ) (base : ℕ) → lists (bases ++ more) base ≡ (lists bases base || lists more base)
+pub lists-append : (bases more : List ℕ) (base : ℕ) → lists (bases ++ more) base ≡ (lists bases base || lists more base)
 lists-append bases more base = list_any-append (λ b. b == base) bases more
 
 after_release-twice : (bases more : List ℕ) (base : ℕ) (object : StoredObject)

@@ -5,6 +5,8 @@ mod finalizing;
 mod freeing;
 mod journal;
 mod releasing;
+mod sweeping;
 
 pub use journal::{Finalizer, Journal};
 pub use releasing::release;
+pub use sweeping::sweep;
