@@ -145,7 +145,6 @@ lowered-none h =
       objects = keeps-same h.objects;
       pins = still-pins h.objects;
       entered = still-listed [] h.objects;
-      all_listed = λ all. all;
       totals = λ total is. totals-alike h.objects (λ b. total b + among [] b) total (λ b. omega arith) is;
     }
 
@@ -158,7 +157,6 @@ lowered-zero h sound word e =
       objects = keeps-same h.objects;
       pins = still-pins h.objects;
       entered = still-listed (word ∷ []) h.objects;
-      all_listed = λ all. all;
       totals = λ total is.
           record {
             exact = λ b o begins counted exact.
@@ -218,7 +216,6 @@ lowered-then a b c xs ys one two =
       objects = keeps-then a.objects b.objects c.objects one.objects two.objects;
       pins = pins-then a.objects b.objects c.objects one.objects one.pins two.pins;
       entered = lists-then xs ys a.objects b.objects c.objects one.objects one.entered two.entered;
-      all_listed = λ all. two.all_listed (one.all_listed all);
       totals = λ total is.
           two.totals total
           (one.totals (λ base. total base + among ys base)

@@ -11,7 +11,7 @@ use Rattle.mm_count.specs.declared.composite.Composite.{Composite}
 use Rattle.mm_count.specs.Composite.{word_of}
 use Rattle.mm_count.specs.Table.{Table, IsEntry, IsSpelled, composite_of}
 use Rattle.mm_count.specs.Counts.{KeepsObjects}
-use Rattle.mm_count.specs.Listed.{AllListed, KeepsPins, ListsNamed}
+use Rattle.mm_count.specs.Listed.{KeepsPins, ListsNamed}
 
 -- what callers see
 abbrev pub table_of : Piece → ℕ → ℕ → Table
@@ -56,7 +56,6 @@ pub record AreLowered (before after : Heap) (words : List ℕ) : Type 0 where
   pub objects : KeepsObjects before.objects after.objects
   pub pins : KeepsPins before.objects after.objects
   pub entered : ListsNamed words before.objects after.objects
-  pub all_listed : AllListed before.objects → AllListed after.objects
   pub totals : (total : ℕ → ℕ)
       → AreTotals before.objects (λ base. total base + count_by (λ word. word == base) words)
       → AreTotals after.objects total

@@ -8,7 +8,7 @@ ghost use Rattle.mm_object.specs.Object.{StoredObject, view_of_stored, views_of}
 ghost use Rattle.mm_object.specs.Heap.{IsObject, IsSound};
 ghost use Rattle.mm_count.specs.Table.{IsRight};
 ghost use Rattle.mm_count.specs.Counts.{KeepsObjects, NamesCounted, HasCountedSlot, HasReference};
-ghost use Rattle.mm_count.specs.Listed.{AllListed, KeepsPins, ListsNamed};
+ghost use Rattle.mm_count.specs.Listed.{KeepsPins, ListsNamed};
 ghost use Rattle.mm_count.specs.Apart.{AreCountsApart, CanDrop};
 ghost use Rattle.mm_count.specs.Kept.{AreLowered};
 
@@ -56,7 +56,6 @@ impl ZeroTable {
         ensures pins { KeepsPins heap.old.objects heap.new.objects }
         ensures listed { (object : StoredObject) → Begins heap.old.objects base object
             → ListsNamed (counted_words_of (view_of_stored object)) heap.old.objects heap.new.objects }
-        ensures all_listed { AllListed heap.old.objects → AllListed heap.new.objects }
         ensures right { IsRight self.new heap.new }
         ensures sound { IsSound heap.new }
         ensures cost { (object : StoredObject) → Begins heap.old.objects base object

@@ -39,7 +39,6 @@ returns-clause-lowered g c = λ object begins.
       objects = c.lower.ensures.objects;
       pins = c.lower.ensures.pins;
       entered = c.lower.ensures.entered;
-      all_listed = c.lower.ensures.listed;
       totals = λ total before.
           totals-lowered c.args.heap.now c.lower.new.heap c.counted_word-word.result k.object k.begins composite
           k.counted c.lower.ensures.heap total before;

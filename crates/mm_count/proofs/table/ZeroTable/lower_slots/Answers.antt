@@ -90,9 +90,6 @@ returns-clause-views g c = (c.loop-s.invariant.lowered c.requires.object.0 c.req
 pub returns-clause-pins : goal.returns-clause-pins
 returns-clause-pins g c = (c.loop-s.invariant.lowered c.requires.object.0 c.requires.object.1).pins
 
-pub returns-clause-all_listed : goal.returns-clause-all_listed
-returns-clause-all_listed g c = (c.loop-s.invariant.lowered c.requires.object.0 c.requires.object.1).all_listed
-
 pub returns-clause-listed : goal.returns-clause-listed
 returns-clause-listed g c = λ object begins.
     let counted = ap (λ (shape : Shape). shape.counted) (c.shape-shape.ensures.shape object begins) in
