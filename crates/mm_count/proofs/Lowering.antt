@@ -135,6 +135,8 @@ still-listed words objects =
       still = λ b o x p q listed. ap (λ (c : Composite). c.listed) (same-composite objects b o x p q) ∙ listed;
       only = λ b o x p q listed.
           inl (sym (ap (λ (c : Composite). c.listed) (same-composite objects b o x p q)) ∙ listed);
+      zeros = λ b o x p q none.
+          inl (sym (ap (λ (c : Composite). c.count) (same-composite objects b o x p q)) ∙ none);
     }
 
 pub lowered-none : (h : Heap) → AreLowered h h []
@@ -189,6 +191,15 @@ lists-then xs ys a b c keeps one two =
           (λ (named : IsTrue (holds_base ys base)).
           inr (list_any-append (λ word. word == base) xs ys ∙ right (holds_base xs base) (holds_base ys base) named))
           (two.only base mid x k.1 q listed);
+      zeros = λ base o x p q none.
+          let k = keeps.to base o p in
+          let mid = record o { composite = k.0 } in
+          ⊎_elim
+          (λ (was : (composite_of mid).count ≡ 0).
+          ⊎_elim (λ (first : (composite_of o).count ≡ 0). inl first)
+          (λ (listed : (composite_of mid).listed ≡ true). inr (two.still base mid x k.1 q listed))
+          (one.zeros base o mid p k.1 was))
+          (λ (listed : (composite_of x).listed ≡ true). inr listed) (two.zeros base mid x k.1 q none);
     }
   where
     left : (p q : Bool) → p ≡ true → (p || q) ≡ true

@@ -241,8 +241,29 @@ module _ (h h' : Heap) (base : ℕ) (o : StoredObject) (begins : Begins h.object
                 ⊎_elim (λ (at : b ≡ base). inr (ap (λ (t : Bool). t || false) (decides base b (sym at))))
                 (λ (n : b ≡ base → ⊥). inl (sym (ap (λ (d : Composite). d.listed) (s.other n)) ∙ listed))
                 (cases_eq b base);
+            zeros = λ b x x' was there none.
+                let s = said h h' lowered base o begins e fits-down b x x' was there in
+                ⊎_elim
+                (λ (at : b ≡ base).
+                let same : x ≡ o =
+                begins_same h.objects b x o was (subst (λ n. Begins h.objects n o) (sym at) begins) in
+                let now = s.own at ∙ ap (λ (y : StoredObject). lowered (unplaced (composite_of y))) same in
+                falls c.sticky refl (composite_of x') (ap (λ (d : Composite). d.count) now)
+                (ap (λ (d : Composite). d.listed) now) none (ap (λ (y : StoredObject). (composite_of y).count) same))
+                (λ (n : b ≡ base → ⊥). inl (sym (ap (λ (d : Composite). d.count) (s.other n)) ∙ none))
+                (cases_eq b base);
           }
         where
+          falls : (b : Bool) → c.sticky ≡ b → (d : Composite)
+              → d.count
+              ≡ (cond b (unplaced c) (record (unplaced c) { count = c.count - 1; listed = c.count == 1 })).count
+              → d.listed
+              ≡ (cond b (unplaced c) (record (unplaced c) { count = c.count - 1; listed = c.count == 1 })).listed
+              → d.count ≡ 0 → {n : ℕ} → n ≡ c.count → (n ≡ 0) ⊎ (d.listed ≡ true)
+          falls true s d count listed none same = inl (same ∙ sym count ∙ none)
+          falls false s d count listed none same =
+              let ne = some s in inr (listed ∙ decides c.count 1 (omega arith))
+
           split : (b : Bool) → c.sticky ≡ b → c.listed ≡ true
               → (cond b (unplaced c) (record (unplaced c) { count = c.count - 1; listed = c.count == 1 })).listed
               ≡ true
