@@ -1,6 +1,7 @@
 -- Counts without the slots of some objects.
-use Rattle.std.proofs.Common.{◌≡◌, ◌≢◌, ⊎_elim, ℕ, ◌+◌, ◌*◌, ◌/◌, ◌≤◌, Bool, true, false, cond, List, [], ◌∷◌, map, Option, Some, None, refl, sym, ap, ◌∙◌, subst, arith}
-use Rattle.std.specs.Prelude.{slice_get, slice_set, ◌==◌, ◌||◌, IsTrue}
+use Rattle.std.proofs.Common.{◌≡◌, ◌≢◌, ⊎_elim, ℕ, ◌+◌, ◌*◌, ◌/◌, Bool, true, false, cond, List, [], ◌∷◌, Option}
+use Rattle.std.proofs.Common.{Some, None, refl, sym, ap, ◌∙◌, subst, arith}
+use Rattle.std.specs.Prelude.{slice_get, slice_set, ◌||◌, IsTrue}
 use Rattle.std.specs.Option.{option_map}
 use Rattle.std.proofs.lemmas.Bool.{cases_eq}
 use Rattle.mm_model.specs.Object.{is_counted}
@@ -47,7 +48,8 @@ apart-none objects outside right =
           ∙ right.exact base (view_of_stored o) (begins_mapped view_of_stored objects base o begins) counted exact
           ∙ sym (ap (λ os. count_at (views_of os) outside base) (without_dead-none objects));
       few = λ base o begins counted exact.
-          let most = right.few base (view_of_stored o) (begins_mapped view_of_stored objects base o begins) counted exact
+          let most = right.few base (view_of_stored o) (begins_mapped view_of_stored objects base o begins) counted
+          exact
           in
           let is = counts_of-begins objects base o begins in
           omega arith;
@@ -173,7 +175,8 @@ kept_begins {X} bases entries base x begins out =
     record {
       grain = begins.grain;
       aligned = begins.aligned;
-      is = get-changed (unless_dead bases) entries begins.grain ∙ ap (change_told (unless_dead bases) begins.grain) begins.is
+      is = get-changed (unless_dead bases) entries begins.grain ∙ ap (change_told (unless_dead bases) begins.grain)
+          begins.is
           ∙ ap (λ (n : ℕ). Some (cond (lists bases n) None (Some x))) (sym begins.aligned)
           ∙ ap (λ (b : Bool). Some (cond b None (Some x))) out;
     }
@@ -181,7 +184,8 @@ kept_begins {X} bases entries base x begins out =
 -- how many hold a base without the slots of one more
 pub references-dropped : (base : ℕ) (bases : List ℕ) (views : ObjectsByBase) (x : ObjectView) → Begins views base x
     → lists bases base ≡ false → (b : ℕ)
-    → references_in (views_without (base ∷ bases) views) b + references_of x b ≡ references_in (views_without bases views) b
+    → references_in (views_without (base ∷ bases) views) b + references_of x b ≡ references_in (views_without bases
+    views) b
 references-dropped base bases views x begins out b =
     let cleared = references-cleared (views_without bases views) base x (kept_begins bases views base x begins out) b in
     let same : references_in (views_without (base ∷ bases) views) b

@@ -1,5 +1,5 @@
 -- Lists by base of which each entry is changed by a function that is told its base.
-use Rattle.std.proofs.Common.{◌≡◌, ◌≢◌, ⊎_elim, ℕ, ◌*◌, ◌/◌, List, map, Option, Some, None, refl, sym, ap, ◌∙◌, subst, arith}
+use Rattle.std.proofs.Common.{◌≡◌, ◌≢◌, ⊎_elim, ℕ, ◌*◌, ◌/◌, List, map, Option, Some, None, refl, sym, ap, ◌∙◌, arith}
 use Rattle.std.specs.Prelude.{slice_get, slice_set}
 use Rattle.std.specs.Option.{option_map, option_and_then}
 use Rattle.std.proofs.lemmas.Bool.{cases_eq}
@@ -20,7 +20,8 @@ changed-alike {X} f g entries alike =
     same_entries (changed f entries) (changed g entries)
     (λ k. get-changed f entries k ∙ split k (slice_get entries k) refl ∙ sym (get-changed g entries k))
   where
-    split : (k : ℕ) (told : Option (Option X)) → slice_get entries k ≡ told → change_told f k told ≡ change_told g k told
+    split : (k : ℕ) (told : Option (Option X)) → slice_get entries k ≡ told → change_told f k told ≡ change_told g k
+        told
     split k None e = refl
     split k (Some None) e = refl
     split k (Some (Some x)) e =
@@ -72,7 +73,8 @@ changed-none {X} f entries none =
 
 -- one entry is replaced before, or after
 pub changed-with_entry : {X : Type 0} (f : ℕ → X → Option X) (entries : List (Option X)) (base : ℕ) (x y : X)
-    → Begins entries base x → changed f (with_entry base (Some y) entries) ≡ with_entry base (f base y) (changed f entries)
+    → Begins entries base x → changed f (with_entry base (Some y) entries) ≡ with_entry base (f base y) (changed f
+    entries)
 changed-with_entry {X} f entries base x y begins =
     same_entries (changed f (with_entry base (Some y) entries)) (with_entry base (f base y) (changed f entries))
     (λ k. get-changed f (with_entry base (Some y) entries) k ∙ ⊎_elim (here k) (there k) (cases_eq k (base / 16)))

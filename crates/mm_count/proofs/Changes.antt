@@ -1,5 +1,6 @@
 -- What a composite that is written makes of the heap and of the table.
-use Rattle.std.proofs.Common.{◌≡◌, ◌≢◌, ℕ, ◌-◌, ◌<◌, ◌≤◌, Bool, true, false, cond, [], ◌∷◌, ◌++◌, length, Some, refl, sym, ap, ◌∙◌, subst, arith}
+use Rattle.std.proofs.Common.{◌≡◌, ◌≢◌, ℕ, ◌-◌, ◌<◌, ◌≤◌, Bool, true, false, cond, [], ◌∷◌, ◌++◌, length, Some, refl}
+use Rattle.std.proofs.Common.{sym, ap, ◌∙◌, subst, arith}
 use Rattle.std.specs.Prelude.{slice_get, slice_index, ◌==◌, ◌&&◌, not}
 use Rattle.std.proofs.lemmas.Option.{slice_get_within, slice_get-get_or}
 use Rattle.mm_object.specs.Object.{StoredObject, StoredObjects}
@@ -7,11 +8,13 @@ use Rattle.mm_object.specs.Heap.{Heap, with_object}
 use Rattle.mm_count.specs.declared.composite.Composite.{Composite}
 use Rattle.mm_count.specs.Composite.{word_of, FitsWord, IsComposite}
 use Rattle.mm_count.specs.Table.{Table, with_entries, without_place, composite_of, IsCountedAt, IsEntry, IsRight}
-use Rattle.mm_count.specs.Counts.{composite_told, composite_at, raised, lowered, entered, left, with_pin, changed_at, unplaced, without_places, table_left, table_raised, table_lowered}
+use Rattle.mm_count.specs.Counts.{composite_told, composite_at, raised, lowered, entered, left, with_pin, changed_at}
+use Rattle.mm_count.specs.Counts.{unplaced, without_places, table_left, table_raised, table_lowered}
 use Rattle.mm_count.specs.Kept.{gives, with_entry_word, HasGap}
 use Rattle.mm_count.proofs.Entries.{entry_at-begins, length-without_place}
 use Rattle.mm_count.proofs.Places.{gives-changed, kept-changed, gives-same}
-use Rattle.mm_count.proofs.Composites.{clash, decides, refutes, one_above, one_below, raised-sticky, raised-exact, lowered-sticky, lowered-exact, composite_of-new, spelled-new}
+use Rattle.mm_count.proofs.Composites.{clash, decides, refutes, one_above, one_below, raised-sticky, raised-exact}
+use Rattle.mm_count.proofs.Composites.{lowered-sticky, lowered-exact, composite_of-new, spelled-new}
 use Rattle.mm_count.proofs.Right.{right-kept, gap-left, right-entered, right-closed}
 
 pub composite_at-counted : (objects : StoredObjects) (base : ℕ) (k : IsCountedAt objects base)

@@ -1,5 +1,6 @@
 -- The counts stay right, for other places outside, where one object's count changes.
-use Rattle.std.proofs.Common.{◌≡◌, ◌≢◌, ⊎_elim, ℕ, ◌+◌, ◌-◌, ◌/◌, ◌≤◌, Bool, true, false, cond, [], ◌∷◌, Option, Some, None, refl, sym, ap, ◌∙◌, subst, arith}
+use Rattle.std.proofs.Common.{◌≡◌, ◌≢◌, ⊎_elim, ℕ, ◌+◌, ◌-◌, ◌/◌, ◌≤◌, Bool, true, false, cond, [], ◌∷◌, Option, Some}
+use Rattle.std.proofs.Common.{None, refl, sym, ap, ◌∙◌, subst, arith}
 use Rattle.std.specs.Prelude.{◌==◌, IsTrue}
 use Rattle.std.specs.Option.{option_map}
 use Rattle.mm_model.specs.Object.{is_counted}
@@ -12,10 +13,12 @@ use Rattle.mm_object.specs.Heap.{Heap}
 use Rattle.mm_count.specs.declared.composite.Composite.{Composite}
 use Rattle.mm_count.specs.Composite.{FitsWord, IsComposite}
 use Rattle.mm_count.specs.Table.{composite_of}
-use Rattle.mm_count.specs.Counts.{composite_told, counts_of, IsCountedBy, one_more, raised, lowered, entered, left, with_pin, changed_at, unplaced, without_places}
+use Rattle.mm_count.specs.Counts.{composite_told, counts_of, IsCountedBy, one_more, raised, lowered, entered, left}
+use Rattle.mm_count.specs.Counts.{with_pin, changed_at, unplaced, without_places}
 use Rattle.mm_count.proofs.Entries.{entry_at-begins, begins_mapped, mapped_begins}
 use Rattle.mm_count.proofs.References.{references_of, references-with_entry}
-use Rattle.mm_count.proofs.Places.{bare, bared, composite_of-bare, new, bared-is, cases, IsOwn, IsOther, composite_of-own, composite_of-other}
+use Rattle.mm_count.proofs.Places.{bare, bared, composite_of-bare, new, bared-is, cases, IsOwn, IsOther}
+use Rattle.mm_count.proofs.Places.{composite_of-own, composite_of-other}
 use Rattle.mm_count.proofs.Composites.{clash, differs, decides, refutes, one_above}
 
 pub counts_of-begins : (objects : StoredObjects) (b : ℕ) (x : StoredObject) → Begins objects b x
@@ -65,7 +68,8 @@ module _ (h h' : Heap) (f : Composite → Composite) (base : ℕ) (o : StoredObj
       omega arith
 
   module _ (fits : FitsWord now) (before after : ℕ → ℕ) (others : (b : ℕ) → b ≢ base → after b ≡ before b)
-      (step : now.sticky ≡ false → IsStep before after base (composite_of o) now) (right : IsCountedBy h.objects before) where
+      (step : now.sticky ≡ false → IsStep before after base (composite_of o) now) (right : IsCountedBy h.objects
+      before) where
     record IsCount (b : ℕ) : Type 0 where
       exact : counts_of h'.objects b ≡ count_at (views_of h'.objects) after b
       few : counts_of h'.objects b ≤ 254

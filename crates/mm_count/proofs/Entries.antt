@@ -1,5 +1,6 @@
 -- Lists by base of which one entry is replaced.
-use Rattle.std.proofs.Common.{◌≡◌, ◌≢◌, ◌⊎◌, ⊎_elim, inl, inr, ℕ, zero, suc, ◌-◌, ◌/◌, ◌<◌, ◌≤◌, List, [], ◌∷◌, map, take, length, Option, Some, None, refl, sym, ap, ◌∙◌, subst, arith}
+use Rattle.std.proofs.Common.{◌≡◌, ◌≢◌, ◌⊎◌, ⊎_elim, inl, inr, ℕ, zero, suc, ◌-◌, ◌/◌, ◌<◌, ◌≤◌, List, [], ◌∷◌, map}
+use Rattle.std.proofs.Common.{take, length, Option, Some, None, refl, sym, ap, ◌∙◌, subst, arith}
 use Rattle.std.specs.Prelude.{slice_get, slice_set, slice_index}
 use Rattle.std.specs.Option.{option_map, option_and_then}
 use Rattle.std.proofs.lemmas.Bool.{cases_eq}
@@ -144,12 +145,14 @@ pub pulled : (n : ℕ) (words : List ℕ) (place : ℕ) → place < n → n ≤ 
     → take (n - 1) (slice_set words place (slice_index words (n - 1))) ≡ without_place (take n words) place
 pulled n words place below within =
     let size : length (take n words) ≡ n = omega (arith, length-take n words) in
-    let word : slice_index (take n words) (n - 1) ≡ slice_index words (n - 1) = get_or-take n words (n - 1) 0 (omega arith) in
+    let word : slice_index (take n words) (n - 1) ≡ slice_index words (n - 1) = get_or-take n words (n - 1) 0 (omega
+    arith) in
     sym (take-take (n - 1) n (slice_set words place (slice_index words (n - 1))) (omega arith))
     ∙ ap (take (n - 1)) (take-set-lt n words place (slice_index words (n - 1)) below)
     ∙ ap (λ (w : ℕ). take (n - 1) (slice_set (take n words) place w)) (sym word)
     ∙ ap (λ (m : ℕ). take (m - 1) (slice_set (take n words) place (slice_index (take n words) (n - 1)))) (sym size)
-    ∙ ap (λ (m : ℕ). take (length (take n words) - 1) (slice_set (take n words) place (slice_index (take n words) (m - 1)))) (sym size)
+    ∙ ap (λ (m : ℕ). take (length (take n words) - 1) (slice_set (take n words) place (slice_index (take n words) (m -
+    1)))) (sym size)
 
 pub table-pulled : (words : Piece) (n pages place last : ℕ) → place < n → n ≤ length words.words
     → last ≡ slice_index words.words (n - 1)

@@ -1,11 +1,11 @@
 -- What lowering what the counted slots of an object name leaves, one after the other.
-use Rattle.std.proofs.Common.{◌≡◌, ◌≢◌, ⊎_elim, inl, inr, ℕ, ◌+◌, ◌-◌, ◌<◌, ◌≤◌, Bool, true, false, cond, List, [], ◌∷◌, ◌++◌, take, length, get_or, Some, refl, sym, ap, ◌∙◌, subst, arith}
+use Rattle.std.proofs.Common.{◌≡◌, ◌≢◌, ⊎_elim, inl, inr, ℕ, ◌+◌, ◌-◌, ◌<◌, ◌≤◌, Bool, true, false, cond, List, []}
+use Rattle.std.proofs.Common.{◌∷◌, ◌++◌, take, length, Some, refl, sym, ap, ◌∙◌, subst, arith}
 use Rattle.std.specs.Prelude.{slice_get, slice_index, nat_lt, ◌==◌, ◌||◌, IsTrue, if◌then◌else◌}
-use Rattle.std.specs.List.{list_any, sum_by, count_by}
-use Rattle.std.proofs.lemmas.Bool.{cases_eq}
+use Rattle.std.specs.List.{count_by}
 use Rattle.std.proofs.lemmas.Bool.Decides.{nat_tests}
 use Rattle.std.proofs.lemmas.Option.{slice_get-get_or}
-use Rattle.std.proofs.lemmas.List.{take_more, take_all, get_or-take, length-take}
+use Rattle.std.proofs.lemmas.List.{take_more, get_or-take, length-take}
 use Rattle.std.proofs.lemmas.List.Folds.{list_any-append}
 use Rattle.std.proofs.lemmas.List.Sums.{sum_by-cons, sum_by-append, sum_by-take-le}
 use Rattle.mm_model.specs.declared.object.Kind.{Kind}
@@ -26,8 +26,9 @@ use Rattle.mm_object.specs.Heap.{Heap, IsSound}
 use Rattle.mm_object.specs.Header.{IsShape}
 use Rattle.mm_count.specs.declared.composite.Composite.{Composite}
 use Rattle.mm_count.specs.Composite.{IsComposite}
-use Rattle.mm_count.specs.Table.{composite_of, IsCountedAt}
-use Rattle.mm_count.specs.Counts.{one_more, lowered, changed_at, unplaced, without_places, KeepsObjects, NamesCounted, HasCountedSlot, HasReference}
+use Rattle.mm_count.specs.Table.{composite_of}
+use Rattle.mm_count.specs.Counts.{lowered, changed_at, unplaced, without_places, KeepsObjects, NamesCounted}
+use Rattle.mm_count.specs.Counts.{HasCountedSlot, HasReference}
 use Rattle.mm_count.specs.Listed.{KeepsPins, ListsNamed}
 use Rattle.mm_count.specs.Apart.{without_dead, AreCountsApart}
 use Rattle.mm_count.specs.Kept.{AreTotals, AreLowered}
@@ -37,7 +38,6 @@ use Rattle.mm_count.proofs.Places.{cases, IsOwn, IsOther, composite_of-own, comp
 use Rattle.mm_count.proofs.Changes.{composite_at-counted}
 use Rattle.mm_count.proofs.Counted.{fits-lowered}
 use Rattle.mm_count.proofs.Null.{none_begins, keeps-same}
-use Rattle.mm_count.proofs.References.{references_of}
 use Rattle.mm_count.proofs.Stored.{one_if, kept-counted}
 use Rattle.mm_count.proofs.Writing.{keeps-then}
 use Rattle.mm_count.proofs.Apart.{views_without, views_of-without_dead, references-dropped}
@@ -377,7 +377,8 @@ module _ (start now : Heap) (base : ℕ) (o : StoredObject) (begins : Begins sta
             let k = named-now tight some in
             let told = composite_at-counted now.objects word k in
             let totals = lowers.totals left totals-start in
-            let is = totals.exact word k.object k.begins k.counted (sym (ap (λ (c : Composite). c.sticky) told) ∙ exact) in
+            let is = totals.exact word k.object k.begins k.counted (sym (ap (λ (c : Composite). c.sticky) told) ∙
+            exact) in
             let zero : (composite_of k.object).count ≡ 0 = sym (ap (λ (c : Composite). c.count) told) ∙ none in
             let more : among (take (s + 1) words) word ≡ among (take s words) word + among (word ∷ []) word =
             ap (λ ws. among ws word) words-more ∙ among-append (take s words) (word ∷ []) word in

@@ -8,7 +8,8 @@ use Rattle.mm_object.specs.Heap.{Heap, IsSound}
 use Rattle.mm_count.specs.declared.composite.Composite.{Composite}
 use Rattle.mm_count.specs.Composite.{composite_in}
 use Rattle.mm_count.specs.Table.{Table}
-use Rattle.mm_count.specs.Counts.{entry_at, composite_at, IsCountedBy, one_more, with_composite, changed_at, without_places, table_raised, table_lowered, KeepsObjects}
+use Rattle.mm_count.specs.Counts.{entry_at, composite_at, IsCountedBy, one_more, with_composite, changed_at}
+use Rattle.mm_count.specs.Counts.{without_places, table_raised, table_lowered, KeepsObjects}
 use Rattle.mm_count.proofs.Entries.{mapped_begins}
 use Rattle.mm_count.proofs.Places.{bared}
 use Rattle.mm_count.proofs.Counted.{one_more-other}

@@ -1,5 +1,6 @@
 -- What a new composite of one object makes of a heap without its places.
-use Rattle.std.proofs.Common.{◌≡◌, ◌≢◌, ◌⊎◌, ⊎_elim, inl, inr, ℕ, zero, suc, ◌/◌, List, [], ◌∷◌, map, Option, Some, refl, sym, ap, ◌∙◌, subst, arith}
+use Rattle.std.proofs.Common.{◌≡◌, ◌≢◌, ◌⊎◌, ⊎_elim, inl, inr, ℕ, zero, suc, ◌/◌, List, [], ◌∷◌, map, Option, Some}
+use Rattle.std.proofs.Common.{refl, sym, ap, ◌∙◌, subst, arith}
 use Rattle.std.specs.Prelude.{slice_get, slice_set}
 use Rattle.std.specs.Option.{option_map}
 use Rattle.std.proofs.lemmas.Bool.{cases_eq}
@@ -14,7 +15,8 @@ use Rattle.mm_count.specs.Table.{composite_of}
 use Rattle.mm_count.specs.Counts.{with_composite, changed_at, unplaced, without_places, KeepsObjects}
 use Rattle.mm_count.specs.Kept.{gives}
 use Rattle.mm_count.proofs.Words.{composite_in-word_of, fits-composite_in}
-use Rattle.mm_count.proofs.Entries.{begins_get, entry_at-begins, begins_here, begins_there, begins_cases, begins_mapped, mapped_begins}
+use Rattle.mm_count.proofs.Entries.{begins_get, entry_at-begins, begins_here, begins_there, begins_cases}
+use Rattle.mm_count.proofs.Entries.{begins_mapped, mapped_begins}
 
 pub set_same : {X : Type 0} (xs : List X) (i : ℕ) (x : X) → slice_get xs i ≡ Some x → slice_set xs i x ≡ xs
 set_same [] i x e = refl

@@ -1,5 +1,6 @@
 -- The table stays right where one object's composite changes and the table with it.
-use Rattle.std.proofs.Common.{◌≡◌, ◌≢◌, ◌⊎◌, ⊎_elim, ℕ, ◌-◌, ◌<◌, true, false, [], ◌∷◌, ◌++◌, length, Option, Some, sym, ap, ◌∙◌, subst, arith}
+use Rattle.std.proofs.Common.{◌≡◌, ◌≢◌, ◌⊎◌, ⊎_elim, ℕ, ◌-◌, ◌<◌, true, false, [], ◌∷◌, ◌++◌, length, Option, Some}
+use Rattle.std.proofs.Common.{sym, ap, ◌∙◌, subst, arith}
 use Rattle.std.specs.Prelude.{slice_get, slice_index, IsTrue}
 use Rattle.std.proofs.lemmas.Bool.{cases_eq}
 use Rattle.std.proofs.lemmas.Option.{slice_get_within}
@@ -11,7 +12,8 @@ use Rattle.mm_object.specs.Object.{StoredObject}
 use Rattle.mm_object.specs.Heap.{Heap, with_object}
 use Rattle.mm_count.specs.Table.{Table, with_entries, without_place, composite_of, IsEntry, IsSpelled, IsRight}
 use Rattle.mm_count.specs.Kept.{HasGap}
-use Rattle.mm_count.proofs.Entries.{begins_here, begins_there, begins_cases, without_place_within, without_place_other, without_place_gap}
+use Rattle.mm_count.proofs.Entries.{begins_here, begins_there, begins_cases, without_place_within}
+use Rattle.mm_count.proofs.Entries.{without_place_other, without_place_gap}
 
 clash : false ≡ true → ⊥
 clash e = cc
@@ -54,7 +56,8 @@ module _ (h : Heap) (base : ℕ) (o o' : StoredObject) (begins : Begins h.object
       own-counted : (place : ℕ) → slice_get table.entries place ≡ Some base → IsTrue (is_counted o.kind)
       own-counted place is =
           let e = right.entries place base is in
-          subst (λ (x : StoredObject). IsTrue (is_counted x.kind)) (begins_same h.objects base e.object o e.begins begins)
+          subst (λ (x : StoredObject). IsTrue (is_counted x.kind)) (begins_same h.objects base e.object o e.begins
+          begins)
           e.counted
 
       own-place : (place : ℕ) → slice_get table.entries place ≡ Some base → (composite_of o).place ≡ place
@@ -201,7 +204,8 @@ module _ (table : Table) (h : Heap) (gap : ℕ) (has : HasGap table h gap) (belo
         entered = λ b x there is.
             ⊎_elim
             (λ (e : (b ≡ moved) × (x ≡ o')).
-            ap (slice_get (without_place table.entries gap)) (ap (λ (x : StoredObject). (composite_of x).place) e.1 ∙ at)
+            ap (slice_get (without_place table.entries gap)) (ap (λ (x : StoredObject). (composite_of x).place) e.1 ∙
+            at)
             ∙ without_place_gap table.entries gap below ∙ ap (λ (n : ℕ). Some n) (sym last ∙ sym e.0))
             (λ (n : (b ≢ moved) × Begins h.objects b x).
             let old = has.entered b x n.1 is in

@@ -1,5 +1,7 @@
 -- There is room in the table for each object that isn't in it.
-use Rattle.std.proofs.Common.{◌≡◌, ◌≢◌, ◌⊎◌, ⊎_elim, inl, inr, ℕ, zero, suc, ◌+◌, ◌-◌, ◌*◌, ◌/◌, ◌<◌, ◌≤◌, Bool, true, false, cond, List, [], ◌∷◌, ◌++◌, length, Some, refl, sym, ap, ◌∙◌, subst, length-append, arith}
+use Rattle.std.proofs.Common.{◌≡◌, ◌≢◌, ◌⊎◌, ⊎_elim, inl, inr, ℕ, zero, suc, ◌+◌, ◌-◌, ◌*◌, ◌/◌, ◌<◌, ◌≤◌, Bool, true}
+use Rattle.std.proofs.Common.{false, cond, List, [], ◌∷◌, ◌++◌, length, Some, refl, sym, ap, ◌∙◌, subst}
+use Rattle.std.proofs.Common.{length-append, arith}
 use Rattle.std.specs.Prelude.{slice_get, slice_index, nat_lt, if◌then◌else◌}
 use Rattle.std.proofs.lemmas.Bool.Decides.{nat_tests}
 use Rattle.std.proofs.lemmas.Option.{slice_get-get_or}
@@ -30,7 +32,8 @@ pub pigeons : (m n : ℕ) (f : ℕ → ℕ) → ((i : ℕ) → i < m → f i < n
 pigeons zero n f below apart = omega arith
 pigeons (suc m) zero f below apart = absurd (let h = below 0 (omega arith) in omega arith)
 pigeons (suc m) (suc n) f below apart =
-    let other : (i : ℕ) → i < m → f i ≢ f m = λ i h e. (let same = apart i m (omega arith) (omega arith) e in omega arith) in
+    let other : (i : ℕ) → i < m → f i ≢ f m = λ i h e. (let same = apart i m (omega arith) (omega arith) e in omega
+    arith) in
     let rest = pigeons m n (λ i. skip (f m) (f i))
     (λ i h. (let lt = below i (omega arith) in
     let last = below m (omega arith) in
@@ -45,12 +48,16 @@ pigeons (suc m) (suc n) f below apart =
     back v x y p q e =
         ⊎_elim
         (λ (c : (v < x) × (skip v x ≡ x - 1)).
-        ⊎_elim (λ (d : (v < y) × (skip v y ≡ y - 1)). (let c0 = c.0 in let c1 = c.1 in let d0 = d.0 in let d1 = d.1 in omega arith))
-        (λ (d : (y ≤ v) × (skip v y ≡ y)). (let c0 = c.0 in let c1 = c.1 in let d0 = d.0 in let d1 = d.1 in omega arith))
+        ⊎_elim (λ (d : (v < y) × (skip v y ≡ y - 1)). (let c0 = c.0 in let c1 = c.1 in let d0 = d.0 in let d1 = d.1 in
+        omega arith))
+        (λ (d : (y ≤ v) × (skip v y ≡ y)). (let c0 = c.0 in let c1 = c.1 in let d0 = d.0 in let d1 = d.1 in omega
+        arith))
         (skip_cases v y))
         (λ (c : (x ≤ v) × (skip v x ≡ x)).
-        ⊎_elim (λ (d : (v < y) × (skip v y ≡ y - 1)). (let c0 = c.0 in let c1 = c.1 in let d0 = d.0 in let d1 = d.1 in omega arith))
-        (λ (d : (y ≤ v) × (skip v y ≡ y)). (let c0 = c.0 in let c1 = c.1 in let d0 = d.0 in let d1 = d.1 in omega arith))
+        ⊎_elim (λ (d : (v < y) × (skip v y ≡ y - 1)). (let c0 = c.0 in let c1 = c.1 in let d0 = d.0 in let d1 = d.1 in
+        omega arith))
+        (λ (d : (y ≤ v) × (skip v y ≡ y)). (let c0 = c.0 in let c1 = c.1 in let d0 = d.0 in let d1 = d.1 in omega
+        arith))
         (skip_cases v y))
         (skip_cases v x)
 

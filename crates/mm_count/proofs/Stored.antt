@@ -1,5 +1,6 @@
 -- One counted slot is written, between the raise of the new word and the lowering of the old one.
-use Rattle.std.proofs.Common.{◌≡◌, ◌≢◌, ⊎_elim, ℕ, ◌+◌, ◌*◌, ◌/◌, ◌<◌, ◌≤◌, Bool, true, false, cond, List, [], take, length, Option, Some, None, refl, sym, ap, ◌∙◌, subst, get_or, arith}
+use Rattle.std.proofs.Common.{◌≡◌, ◌≢◌, ⊎_elim, ℕ, ◌+◌, ◌*◌, ◌/◌, ◌<◌, ◌≤◌, Bool, true, false, cond, List, [], take}
+use Rattle.std.proofs.Common.{length, Option, Some, None, refl, sym, ap, ◌∙◌, subst, get_or, arith}
 use Rattle.std.specs.Prelude.{slice_get, slice_set, slice_index, nat_lt, ◌==◌, if◌then◌else◌, IsTrue}
 use Rattle.std.specs.List.{count_by}
 use Rattle.std.specs.Option.{option_map, option_and_then}
@@ -20,8 +21,11 @@ use Rattle.mm_object.specs.Object.{StoredObject, StoredObjects, view_of_stored, 
 use Rattle.mm_object.specs.Heap.{Heap, with_object}
 use Rattle.mm_count.specs.declared.composite.Composite.{Composite}
 use Rattle.mm_count.specs.Table.{Table, composite_of, IsCountedAt, IsRight}
-use Rattle.mm_count.specs.Counts.{composite_told, composite_at, counts_of, IsCountedBy, one_more, raised, changed_at, with_word, written_at, unplaced, without_places, table_lowered, entry_at, with_composite, KeepsObjects, NamesCounted, HasCountedSlot, HasReference}
-use Rattle.mm_count.proofs.Entries.{begins_get, entry_at-begins, begins_here, begins_there, begins_cases, begins_mapped, mapped_begins}
+use Rattle.mm_count.specs.Counts.{composite_told, composite_at, counts_of, IsCountedBy, one_more, raised, changed_at}
+use Rattle.mm_count.specs.Counts.{with_word, written_at, unplaced, without_places, table_lowered, entry_at}
+use Rattle.mm_count.specs.Counts.{with_composite, KeepsObjects, NamesCounted, HasCountedSlot, HasReference}
+use Rattle.mm_count.proofs.Entries.{begins_get, entry_at-begins, begins_here, begins_there, begins_cases}
+use Rattle.mm_count.proofs.Entries.{begins_mapped, mapped_begins}
 use Rattle.mm_count.proofs.Composites.{decides, refutes}
 use Rattle.mm_count.proofs.Counted.{counts_of-begins, one_more-other}
 use Rattle.mm_count.proofs.References.{references_of, references-with_entry}
@@ -173,7 +177,8 @@ module _ (h : Heap) (base : ℕ) (o : StoredObject) (begins : Begins h.objects b
       ∙ ap (λ (x : Option (Option StoredObject)). composite_told (option_and_then (λ (x : Option StoredObject). x) x))
       (get-set_same h.objects (base / 16) (Some o) (Some (with_word s word o)) is)
       ∙ sym (ap (λ n. composite_told (option_and_then (λ (x : Option StoredObject). x) (slice_get h.objects n))) e
-      ∙ ap (λ (x : Option (Option StoredObject)). composite_told (option_and_then (λ (x : Option StoredObject). x) x)) is))
+      ∙ ap (λ (x : Option (Option StoredObject)). composite_told (option_and_then (λ (x : Option StoredObject). x) x))
+      is))
       (λ (n : b / 16 ≡ base / 16 → ⊥).
       ap (λ (x : Option (Option StoredObject)). composite_told (option_and_then (λ (x : Option StoredObject). x) x))
       (get-set_other h.objects (base / 16) (b / 16) (Some (with_word s word o)) n))

@@ -1,24 +1,27 @@
 -- What the views, the heap besides, the pins and the table's members are once one object was given another composite.
-use Rattle.std.proofs.Common.{◌≡◌, ◌≢◌, ◌⊎◌, ⊎_elim, inl, inr, ℕ, ◌+◌, ◌-◌, ◌/◌, ◌≤◌, Bool, true, false, cond, [], ◌∷◌, Option, Some, refl, sym, ap, ◌∙◌, subst, arith}
+use Rattle.std.proofs.Common.{◌≡◌, ◌≢◌, ⊎_elim, inl, inr, ℕ, ◌-◌, ◌/◌, Bool, true, false, cond, [], ◌∷◌, Option, Some}
+use Rattle.std.proofs.Common.{refl, sym, ap, ◌∙◌, subst, arith}
 use Rattle.std.specs.Prelude.{◌==◌, ◌||◌, IsTrue}
 use Rattle.std.proofs.lemmas.Bool.{cases_eq}
 use Rattle.mm_model.specs.Object.{is_counted}
 use Rattle.mm_model.specs.ByBase.{Begins, with_entry}
-use Rattle.mm_model.specs.ObjectView.{ObjectView, ObjectsByBase}
+use Rattle.mm_model.specs.ObjectView.{ObjectView}
 use Rattle.mm_model.proofs.View.Entries.{begins_same}
 use Rattle.mm_object.specs.Object.{StoredObject, StoredObjects, view_of_stored, views_of}
 use Rattle.mm_object.specs.Heap.{Heap}
 use Rattle.mm_count.specs.declared.composite.Composite.{Composite}
 use Rattle.mm_count.specs.Composite.{composite_in, word_of, FitsWord, IsComposite}
 use Rattle.mm_count.specs.Table.{composite_of}
-use Rattle.mm_count.specs.Counts.{IsCountedBy, one_more, raised, lowered, entered, left, with_pin, changed_at, unplaced, without_places, KeepsObjects}
+use Rattle.mm_count.specs.Counts.{IsCountedBy, one_more, raised, lowered, entered, left, with_pin, changed_at}
+use Rattle.mm_count.specs.Counts.{unplaced, without_places, KeepsObjects}
 use Rattle.mm_count.specs.Sticky.{with_sticky, made_sticky}
-use Rattle.mm_count.specs.Listed.{IsListedAtZero, AllListed, AllListedBut, NonePinned, KeepsPins, ListsNamed}
+use Rattle.mm_count.specs.Listed.{AllListed, AllListedBut, NonePinned, KeepsPins, ListsNamed}
 use Rattle.mm_count.proofs.Words.{composite_in-word_of}
 use Rattle.mm_count.proofs.Entries.{begins_get, begins_mapped}
 use Rattle.mm_count.proofs.Composites.{clash, decides, one_above, raised-sticky, raised-exact}
-use Rattle.mm_count.proofs.Places.{set_same, bare, composite_of-bare, new, cases, IsOwn, IsOther, composite_of-own, composite_of-other, keeps}
-use Rattle.mm_count.proofs.Counted.{counts_of-begins, views-is, one_more-here, fits-raised, fits-lowered, fits-now, less}
+use Rattle.mm_count.proofs.Places.{set_same, bare, composite_of-bare, new, cases, IsOwn, IsOther, composite_of-own}
+use Rattle.mm_count.proofs.Places.{composite_of-other, keeps}
+use Rattle.mm_count.proofs.Counted.{counts_of-begins, views-is, one_more-here, fits-raised, fits-lowered, fits-now}
 use Rattle.mm_count.proofs.Sticky.{made_sticky-counted, made_sticky-sticky, with_sticky-one}
 
 -- the rest of the heap is as it was
@@ -27,89 +30,90 @@ pub rest-changed : (h h' : Heap) (f : Composite → Composite) (base : ℕ)
 rest-changed h h' f base e = ap (λ (g : Heap). record g { objects = h'.objects }) e
 
 module _ (h h' : Heap) (f : Composite → Composite) (base : ℕ) (o : StoredObject) (begins : Begins h.objects base o)
-    (e : without_places h' ≡ changed_at f base (without_places h)) (fits : FitsWord (f (unplaced (composite_of o)))) where
-  abbrev now : Composite
-  now = f (unplaced (composite_of o))
+    (e : without_places h' ≡ changed_at f base (without_places h)) (fits : FitsWord (f (unplaced (composite_of o))))
+  where
+    abbrev now : Composite
+    now = f (unplaced (composite_of o))
 
-  view-new : view_of_stored (new h h' f base o begins e) ≡ record (view_of_stored o) { sticky = now.sticky }
-  view-new =
-      let told : composite_in (word_of (f (composite_of (bare o)))) ≡ now =
-      ap (λ (c : Composite). composite_in (word_of (f c))) (composite_of-bare o) ∙ composite_in-word_of now fits in
-      ap (λ (c : Composite). record (view_of_stored o) { sticky = c.sticky }) told
+    view-new : view_of_stored (new h h' f base o begins e) ≡ record (view_of_stored o) { sticky = now.sticky }
+    view-new =
+        let told : composite_in (word_of (f (composite_of (bare o)))) ≡ now =
+        ap (λ (c : Composite). composite_in (word_of (f c))) (composite_of-bare o) ∙ composite_in-word_of now fits in
+        ap (λ (c : Composite). record (view_of_stored o) { sticky = c.sticky }) told
 
-  pub views-changed : views_of h'.objects
-      ≡ with_entry base (Some (record (view_of_stored o) { sticky = now.sticky })) (views_of h.objects)
-  views-changed =
-      views-is h h' f base o begins e
-      ∙ ap (λ (v : ObjectView). with_entry base (Some v) (views_of h.objects)) view-new
+    pub views-changed : views_of h'.objects
+        ≡ with_entry base (Some (record (view_of_stored o) { sticky = now.sticky })) (views_of h.objects)
+    views-changed =
+        views-is h h' f base o begins e
+        ∙ ap (λ (v : ObjectView). with_entry base (Some v) (views_of h.objects)) view-new
 
-  -- where it doesn't become sticky
-  pub views-kept : now.sticky ≡ (composite_of o).sticky → views_of h'.objects ≡ views_of h.objects
-  views-kept same =
-      views-changed
-      ∙ ap (λ (b : Bool). with_entry base (Some (record (view_of_stored o) { sticky = b })) (views_of h.objects)) same
-      ∙ set_same (views_of h.objects) (base / 16) (Some (view_of_stored o))
-      (begins_get (views_of h.objects) base (view_of_stored o) (begins_mapped view_of_stored h.objects base o begins))
+    -- where it doesn't become sticky
+    pub views-kept : now.sticky ≡ (composite_of o).sticky → views_of h'.objects ≡ views_of h.objects
+    views-kept same =
+        views-changed
+        ∙ ap (λ (b : Bool). with_entry base (Some (record (view_of_stored o) { sticky = b })) (views_of h.objects)) same
+        ∙ set_same (views_of h.objects) (base / 16) (Some (view_of_stored o))
+        (begins_get (views_of h.objects) base (view_of_stored o) (begins_mapped view_of_stored h.objects base o begins))
 
-  -- what an object says now, and what it said
-  pub record IsSaid (b : ℕ) (before after : Composite) : Type 0 where
-    pub own : b ≡ base → unplaced after ≡ f (unplaced before)
-    pub other : b ≢ base → unplaced after ≡ unplaced before
+    -- what an object says now, and what it said
+    pub record IsSaid (b : ℕ) (before after : Composite) : Type 0 where
+      pub own : b ≡ base → unplaced after ≡ f (unplaced before)
+      pub other : b ≢ base → unplaced after ≡ unplaced before
 
-  pub said : (b : ℕ) (x x' : StoredObject) → Begins h.objects b x → Begins h'.objects b x'
-      → IsSaid b (composite_of x) (composite_of x')
-  said b x x' was there =
-      ⊎_elim
-      (λ (c : IsOwn h h' f base o begins e b x').
-      let same : x ≡ o = begins_same h.objects b x o was (subst (λ n. Begins h.objects n o) (sym c.at) begins) in
-      record {
-        own = λ at.
-            composite_of-own h h' f base o begins e x' fits c.is
-            ∙ ap (λ (y : StoredObject). f (unplaced (composite_of y))) (sym same);
-        other = λ apart. absurd (apart c.at);
-      })
-      (λ (c : IsOther h h' f base o begins e b x').
-      let same : c.object ≡ x = begins_same h.objects b c.object x c.begun was in
-      record {
-        own = λ at. absurd (c.apart at);
-        other = λ apart.
-            sym (composite_of-other h h' f base o begins e c.object x' c.is)
-            ∙ ap (λ (y : StoredObject). unplaced (composite_of y)) same;
-      })
-      (cases h h' f base o begins e b x' there)
+    pub said : (b : ℕ) (x x' : StoredObject) → Begins h.objects b x → Begins h'.objects b x'
+        → IsSaid b (composite_of x) (composite_of x')
+    said b x x' was there =
+        ⊎_elim
+        (λ (c : IsOwn h h' f base o begins e b x').
+        let same : x ≡ o = begins_same h.objects b x o was (subst (λ n. Begins h.objects n o) (sym c.at) begins) in
+        record {
+          own = λ at.
+              composite_of-own h h' f base o begins e x' fits c.is
+              ∙ ap (λ (y : StoredObject). f (unplaced (composite_of y))) (sym same);
+          other = λ apart. absurd (apart c.at);
+        })
+        (λ (c : IsOther h h' f base o begins e b x').
+        let same : c.object ≡ x = begins_same h.objects b c.object x c.begun was in
+        record {
+          own = λ at. absurd (c.apart at);
+          other = λ apart.
+              sym (composite_of-other h h' f base o begins e c.object x' c.is)
+              ∙ ap (λ (y : StoredObject). unplaced (composite_of y)) same;
+        })
+        (cases h h' f base o begins e b x' there)
 
-  pub keeps-pins : ((c : Composite) → (f c).pinned ≡ c.pinned) → KeepsPins h.objects h'.objects
-  keeps-pins same =
-      record {
-        same = λ b x x' was there.
-            let s = said b x x' was there in
-            ⊎_elim
-            (λ (e : b ≡ base). ap (λ (c : Composite). c.pinned) (s.own e) ∙ same (unplaced (composite_of x)))
-            (λ (n : b ≡ base → ⊥). ap (λ (c : Composite). c.pinned) (s.other n)) (cases_eq b base);
-      }
+    pub keeps-pins : ((c : Composite) → (f c).pinned ≡ c.pinned) → KeepsPins h.objects h'.objects
+    keeps-pins same =
+        record {
+          same = λ b x x' was there.
+              let s = said b x x' was there in
+              ⊎_elim
+              (λ (e : b ≡ base). ap (λ (c : Composite). c.pinned) (s.own e) ∙ same (unplaced (composite_of x)))
+              (λ (n : b ≡ base → ⊥). ap (λ (c : Composite). c.pinned) (s.other n)) (cases_eq b base);
+        }
 
-  -- where the object itself is in the table if its count is 0
-  pub all-listed : (now.sticky ≡ false → now.count ≡ 0 → now.listed ≡ true) → AllListedBut base h.objects
-      → AllListed h'.objects
-  all-listed zero all =
-      record {
-        listed = λ b x' there.
-            ⊎_elim
-            (λ (c : IsOwn h h' f base o begins e b x').
-            let says = composite_of-own h h' f base o begins e x' fits c.is in
-            λ counted exact none.
-            ap (λ (c : Composite). c.listed) says
-            ∙ zero (sym (ap (λ (c : Composite). c.sticky) says) ∙ exact)
-            (sym (ap (λ (c : Composite). c.count) says) ∙ none))
-            (λ (c : IsOther h h' f base o begins e b x').
-            let says = composite_of-other h h' f base o begins e c.object x' c.is in
-            let kind : x'.kind ≡ c.object.kind = ap (λ (z : StoredObject). z.kind) (sym c.is) in
-            λ counted exact none.
-            sym (ap (λ (c : Composite). c.listed) says)
-            ∙ all.listed b c.object c.apart c.begun (subst (λ k. IsTrue (is_counted k)) kind counted)
-            (ap (λ (c : Composite). c.sticky) says ∙ exact) (ap (λ (c : Composite). c.count) says ∙ none))
-            (cases h h' f base o begins e b x' there);
-      }
+    -- where the object itself is in the table if its count is 0
+    pub all-listed : (now.sticky ≡ false → now.count ≡ 0 → now.listed ≡ true) → AllListedBut base h.objects
+        → AllListed h'.objects
+    all-listed zero all =
+        record {
+          listed = λ b x' there.
+              ⊎_elim
+              (λ (c : IsOwn h h' f base o begins e b x').
+              let says = composite_of-own h h' f base o begins e x' fits c.is in
+              λ counted exact none.
+              ap (λ (c : Composite). c.listed) says
+              ∙ zero (sym (ap (λ (c : Composite). c.sticky) says) ∙ exact)
+              (sym (ap (λ (c : Composite). c.count) says) ∙ none))
+              (λ (c : IsOther h h' f base o begins e b x').
+              let says = composite_of-other h h' f base o begins e c.object x' c.is in
+              let kind : x'.kind ≡ c.object.kind = ap (λ (z : StoredObject). z.kind) (sym c.is) in
+              λ counted exact none.
+              sym (ap (λ (c : Composite). c.listed) says)
+              ∙ all.listed b c.object c.apart c.begun (subst (λ k. IsTrue (is_counted k)) kind counted)
+              (ap (λ (c : Composite). c.sticky) says ∙ exact) (ap (λ (c : Composite). c.count) says ∙ none))
+              (cases h h' f base o begins e b x' there);
+        }
 
 pub listed-but : (base : ℕ) (objects : StoredObjects) → AllListed objects → AllListedBut base objects
 listed-but base objects all = record { listed = λ b x other begins. all.listed b x begins }
@@ -216,7 +220,8 @@ module _ (h h' : Heap) (base : ℕ) (o : StoredObject) (begins : Begins h.object
           all-listed h h' lowered base o begins e fits-down (split c.sticky refl) (listed-but base h.objects all)
         where
           split : (b : Bool) → c.sticky ≡ b
-              → (cond b (unplaced c) (record (unplaced c) { count = c.count - 1; listed = c.count == 1 })).sticky ≡ false
+              → (cond b (unplaced c) (record (unplaced c) { count = c.count - 1; listed = c.count == 1 })).sticky ≡
+              false
               → (cond b (unplaced c) (record (unplaced c) { count = c.count - 1; listed = c.count == 1 })).count ≡ 0
               → (cond b (unplaced c) (record (unplaced c) { count = c.count - 1; listed = c.count == 1 })).listed
               ≡ true

@@ -1,6 +1,7 @@
 -- What the objects and their views are once one counted slot is written.
-use Rattle.std.proofs.Common.{◌≡◌, ◌≢◌, ⊎_elim, ℕ, ◌+◌, ◌/◌, Bool, true, false, not, cond, List, Option, Some, refl, sym, ap, ◌∙◌, subst, arith}
-use Rattle.std.specs.Prelude.{slice_get, slice_set, slice_index, ◌==◌, IsTrue}
+use Rattle.std.proofs.Common.{◌≡◌, ◌≢◌, ⊎_elim, ℕ, ◌/◌, Bool, not, cond, List, Option, Some, refl, sym, ap, ◌∙◌}
+use Rattle.std.proofs.Common.{subst, arith}
+use Rattle.std.specs.Prelude.{slice_set, slice_index, ◌==◌, IsTrue}
 use Rattle.std.specs.Option.{option_map}
 use Rattle.std.proofs.lemmas.Option.{slice_get-get_or}
 use Rattle.mm_model.specs.Object.{is_scanned, is_counted}
@@ -17,7 +18,8 @@ use Rattle.mm_object.specs.Object.{StoredObject, StoredObjects, view_of_stored, 
 use Rattle.mm_object.specs.Heap.{Heap, with_object}
 use Rattle.mm_count.specs.declared.composite.Composite.{Composite}
 use Rattle.mm_count.specs.Table.{composite_of}
-use Rattle.mm_count.specs.Counts.{one_more, raised, changed_at, with_word, written_at, without_places, entry_at, KeepsObjects, HasCountedSlot}
+use Rattle.mm_count.specs.Counts.{one_more, raised, changed_at, with_word, written_at, without_places, KeepsObjects}
+use Rattle.mm_count.specs.Counts.{HasCountedSlot}
 use Rattle.mm_count.specs.Sticky.{made_sticky, with_sticky}
 use Rattle.mm_count.specs.Listed.{AllListed, NonePinned}
 use Rattle.mm_count.proofs.Entries.{begins_get, entry_at-begins, begins_here, begins_there, begins_cases, begins_mapped}
@@ -79,7 +81,8 @@ module _ (h : Heap) (base s word : ℕ) (slot : HasCountedSlot h.objects base s)
       sym
       (ap (λ (x : ObjectView). (view_recounted CountedSlot (slice_index x.words s) word
       (view_with_word (record { base = base; value = x }) s word view)).objects) is_own
-      ∙ ap (λ (b : Bool). (cond (not b) (view_with_sticky word (view_with view base s word v)) (view_with view base s word v)).objects)
+      ∙ ap (λ (b : Bool). (cond (not b) (view_with_sticky word (view_with view base s word v)) (view_with view base s
+      word v)).objects)
       (decides (slice_index o.words s) word (sym same))
       ∙ ap (λ (ws : List ℕ). with_entry base (Some (record v { words = ws })) view.objects) words-same
       ∙ ap (with_entry base (Some v)) shows
@@ -176,16 +179,16 @@ module _ (h raised_heap written : Heap) (base s word : ℕ) (slot : HasCountedSl
                 (λ (e : (b ≡ base) × (x ≡ with_word s word own)). (
                   between.composite,
                   subst (λ n. Begins (with_entry base (Some (with_word s word between)) raised_heap.objects) n
-                  (record x { composite = between.composite })) (sym e.0)
-                  (subst (Begins (with_entry base (Some (with_word s word between)) raised_heap.objects) base)
-                  (ap (λ (z : StoredObject). record z { composite = between.composite }) (sym e.1))
-                  (begins_here raised_heap.objects base between (with_word s word between) there)),
+                      (record x { composite = between.composite })) (sym e.0)
+                      (subst (Begins (with_entry base (Some (with_word s word between)) raised_heap.objects) base)
+                      (ap (λ (z : StoredObject). record z { composite = between.composite }) (sym e.1))
+                      (begins_here raised_heap.objects base between (with_word s word between) there)),
                 ))
                 (λ (n : (b ≢ base) × Begins h.objects b x).
                 let k = keeps.to b x n.1 in (
                   k.0,
                   begins_there raised_heap.objects base between (with_word s word between) there b
-                  (record x { composite = k.0 }) n.0 k.1,
+                      (record x { composite = k.0 }) n.0 k.1,
                 ))
                 (begins_cases h.objects base own (with_word s word own) slot.begins b x begins);
             back = λ b x begins.
@@ -193,16 +196,16 @@ module _ (h raised_heap written : Heap) (base s word : ℕ) (slot : HasCountedSl
                 (λ (e : (b ≡ base) × (x ≡ with_word s word between)). (
                   own.composite,
                   subst (λ n. Begins (with_entry base (Some (with_word s word own)) h.objects) n
-                  (record x { composite = own.composite })) (sym e.0)
-                  (subst (Begins (with_entry base (Some (with_word s word own)) h.objects) base)
-                  (ap (λ (z : StoredObject). record z { composite = own.composite }) (sym e.1))
-                  (begins_here h.objects base own (with_word s word own) slot.begins)),
+                      (record x { composite = own.composite })) (sym e.0)
+                      (subst (Begins (with_entry base (Some (with_word s word own)) h.objects) base)
+                      (ap (λ (z : StoredObject). record z { composite = own.composite }) (sym e.1))
+                      (begins_here h.objects base own (with_word s word own) slot.begins)),
                 ))
                 (λ (n : (b ≢ base) × Begins raised_heap.objects b x).
                 let k = keeps.back b x n.1 in (
                   k.0,
                   begins_there h.objects base own (with_word s word own) slot.begins b
-                  (record x { composite = k.0 }) n.0 k.1,
+                      (record x { composite = k.0 }) n.0 k.1,
                 ))
                 (begins_cases raised_heap.objects base between (with_word s word between) there b x begins);
           }
@@ -280,7 +283,8 @@ views-written h base s word slot other view object shows begins =
     sym
     (ap (λ (x : ObjectView). (view_recounted CountedSlot (slice_index x.words s) word
     (view_with_word (record { base = base; value = x }) s word view)).objects) is_own
-    ∙ ap (λ (b : Bool). (cond (not b) (view_with_sticky word (view_with view base s word v)) (view_with view base s word v)).objects)
+    ∙ ap (λ (b : Bool). (cond (not b) (view_with_sticky word (view_with view base s word v)) (view_with view base s
+    word v)).objects)
     (refutes (slice_index slot.object.words s) word other)
     ∙ ap (λ (vs : ObjectsByBase). with_sticky (outside_references view) word
     (with_entry base (Some (record v { words = slice_set slot.object.words s word })) vs)) shows)

@@ -15,8 +15,8 @@ abbrev pub without_dead : List ℕ → StoredObjects → StoredObjects
 without_dead bases objects = changed (unless_dead bases) objects
 
 -- The counts are right where the slots of the objects at some bases hold no counts any more: each counted object that
--- isn't sticky, also one at such a base, has as its count how many counted slots of the other objects hold its base, and
--- as many more as the number for the base says.
+-- isn't sticky, also one at such a base, has as its count how many counted slots of the other objects hold its base,
+-- and as many more as the number for the base says.
 pub record AreCountsApart (dropped : List ℕ) (objects : StoredObjects) (outside : ℕ → ℕ) : Type 0 where
   pub exact : (base : ℕ) (object : StoredObject) → Begins objects base object → IsTrue (is_counted object.kind)
       → (composite_of object).sticky ≡ false

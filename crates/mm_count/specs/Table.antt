@@ -1,5 +1,6 @@
 -- The zero-count table, and when it is right for a heap.
-use Rattle.std.specs.Prelude.{◌≡◌, ◌≤◌, ◌-◌, ℕ, true, IsTrue, not, List, [], length, take, Some, slice_get, slice_set, slice_index}
+use Rattle.std.specs.Prelude.{◌≡◌, ◌≤◌, ◌-◌, ℕ, true, IsTrue, not, List, [], length, take, Some, slice_get, slice_set}
+use Rattle.std.specs.Prelude.{slice_index}
 use Rattle.mm_model.specs.Object.{is_counted}
 use Rattle.mm_model.specs.ByBase.{Begins}
 use Rattle.mm_words.specs.Location.{Location}

@@ -40,8 +40,8 @@ impl ZeroTable {
         self.lower(heap, word, steps);
     }
 
-    /// One place fewer holds what each counted slot of an object names, which is about to be freed. The slots keep their
-    /// words.
+    /// One place fewer holds what each counted slot of an object names, which is about to be freed. The slots keep
+    /// their words.
     pub fn lower_slots<L: Ledger>(&mut self, heap: &mut Heap, base: u32, steps: &mut Steps<L>)
         requires object { IsObject heap.old base }
         requires right { IsRight self.old heap.old }

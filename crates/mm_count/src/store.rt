@@ -9,7 +9,9 @@ ghost use Rattle.mm_model.specs.ViewStore.{view_recounted, view_with_word};
 ghost use Rattle.mm_object.specs.Object.{StoredObject, views_of};
 ghost use Rattle.mm_object.specs.Heap.{IsSound};
 ghost use Rattle.mm_count.specs.Table.{IsRight};
-ghost use Rattle.mm_count.specs.Counts.{composite_at, IsCountedBy, one_more, raised, lowered, changed_at, written_at, without_places, table_raised, table_lowered, KeepsObjects, NamesCounted, HasCountedSlot, HasReference};
+ghost use Rattle.mm_count.specs.Counts.{composite_at, IsCountedBy, one_more, raised, lowered, changed_at, written_at};
+ghost use Rattle.mm_count.specs.Counts.{without_places, table_raised, table_lowered, KeepsObjects, NamesCounted};
+ghost use Rattle.mm_count.specs.Counts.{HasCountedSlot, HasReference};
 ghost use Rattle.mm_count.specs.Sticky.{with_sticky};
 ghost use Rattle.mm_count.specs.Listed.{AllListed, NonePinned, KeepsPins, ListsNamed};
 

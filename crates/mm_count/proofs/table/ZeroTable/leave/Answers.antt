@@ -13,7 +13,8 @@ pub returns-then-not-composite-clause-heap : goal.returns-then-not-composite-cla
 returns-then-not-composite-clause-heap g c =
     let k = c.requires.counted in
     leave-kept c.args.heap.now c.args.base k c.composite_of-composite.result
-    (c.composite_of-composite.ensures.says k.object k.begins) (not-true_is c.composite_of-composite.result.listed c.if-not-composite.true)
+    (c.composite_of-composite.ensures.says k.object k.begins) (not-true_is c.composite_of-composite.result.listed
+    c.if-not-composite.true)
 
 pub returns-then-not-composite-clause-objects : goal.returns-then-not-composite-clause-objects
 returns-then-not-composite-clause-objects g c =
@@ -30,7 +31,8 @@ close_gap-requires-clause-gap g c =
     left-gap c.args.heap.now c.args.base k r says c.set_composite.new.heap c.left.result
     (c.set_composite.ensures.says k.object k.begins)
     (subst FitsWord (sym c.left.ensures) (fits-left r c.composite_of-composite.ensures.fits))
-    c.args.self.now (subst IsComposite (sym c.left.ensures) (composite-left r is)) (not-false_is c.composite_of-composite.result.listed c.if-not-composite.false)
+    c.args.self.now (subst IsComposite (sym c.left.ensures) (composite-left r is)) (not-false_is
+    c.composite_of-composite.result.listed c.if-not-composite.false)
     (ap (λ (r : Composite). r.listed) c.left.ensures) c.requires.right
 
 pub close_gap-requires-clause-within : goal.close_gap-requires-clause-within
@@ -68,13 +70,15 @@ pub returns-then-not-composite-clause-views : goal.returns-then-not-composite-cl
 returns-then-not-composite-clause-views g c =
     let k = c.requires.counted in
     let is = (c.requires.right.spelled c.args.base k.object k.begins).counted k.counted in
-    left-views c.args.heap.now c.args.heap.now c.args.base k.object k.begins is (returns-then-not-composite-clause-heap g c)
+    left-views c.args.heap.now c.args.heap.now c.args.base k.object k.begins is
+    (returns-then-not-composite-clause-heap g c)
 
 pub returns-then-not-composite-clause-unpinned : goal.returns-then-not-composite-clause-unpinned
 returns-then-not-composite-clause-unpinned g c =
     let k = c.requires.counted in
     let is = (c.requires.right.spelled c.args.base k.object k.begins).counted k.counted in
-    left-unpinned c.args.heap.now c.args.heap.now c.args.base k.object k.begins is (returns-then-not-composite-clause-heap g c)
+    left-unpinned c.args.heap.now c.args.heap.now c.args.base k.object k.begins is
+    (returns-then-not-composite-clause-heap g c)
 
 pub returns-clause-rest : goal.returns-clause-rest
 returns-clause-rest g c =

@@ -6,8 +6,10 @@ use Rattle.mm_count.specs.Kept.{with_entry_word}
 use Rattle.mm_count.proofs.Composites.{fits-below, fits-entry, composite-below}
 use Rattle.mm_count.proofs.Places.{keeps}
 use Rattle.mm_count.proofs.Counted.{counted-lowered}
-use Rattle.mm_count.proofs.Changes.{composite-said, lower-kept, lower-gives, lower-enters, kept-right, some-said, out-said}
-use Rattle.mm_count.proofs.Views.{rest-changed, lowered-views, lowered-pins, lowered-unpinned, lowered-listed, lowered-names}
+use Rattle.mm_count.proofs.Changes.{composite-said, lower-kept, lower-gives, lower-enters, kept-right, some-said}
+use Rattle.mm_count.proofs.Changes.{out-said}
+use Rattle.mm_count.proofs.Views.{rest-changed, lowered-views, lowered-pins, lowered-unpinned, lowered-listed}
+use Rattle.mm_count.proofs.Views.{lowered-names}
 use Rattle.mm_count.proofs.table.ZeroTable.lower.Goals as goal
 
 pub returns-then-old-clause-heap : goal.returns-then-old-clause-heap
@@ -139,32 +141,37 @@ pub returns-then-old-eq1-clause-views : goal.returns-then-old-eq1-clause-views
 returns-then-old-eq1-clause-views g c =
     let k = c.requires.counted in
     let is = (c.requires.right.spelled c.args.base k.object k.begins).counted k.counted in
-    lowered-views c.args.heap.now c.enter.new.heap c.args.base k.object k.begins is (returns-then-old-eq1-clause-heap g c)
+    lowered-views c.args.heap.now c.enter.new.heap c.args.base k.object k.begins is (returns-then-old-eq1-clause-heap
+    g c)
 
 pub returns-then-old-eq1-clause-pins : goal.returns-then-old-eq1-clause-pins
 returns-then-old-eq1-clause-pins g c =
     let k = c.requires.counted in
     let is = (c.requires.right.spelled c.args.base k.object k.begins).counted k.counted in
-    lowered-pins c.args.heap.now c.enter.new.heap c.args.base k.object k.begins is (returns-then-old-eq1-clause-heap g c)
+    lowered-pins c.args.heap.now c.enter.new.heap c.args.base k.object k.begins is (returns-then-old-eq1-clause-heap g
+    c)
 
 pub returns-then-old-eq1-clause-unpinned : goal.returns-then-old-eq1-clause-unpinned
 returns-then-old-eq1-clause-unpinned g c =
     let k = c.requires.counted in
     let is = (c.requires.right.spelled c.args.base k.object k.begins).counted k.counted in
-    lowered-unpinned c.args.heap.now c.enter.new.heap c.args.base k.object k.begins is (returns-then-old-eq1-clause-heap g c)
+    lowered-unpinned c.args.heap.now c.enter.new.heap c.args.base k.object k.begins is
+    (returns-then-old-eq1-clause-heap g c)
 
 pub returns-then-old-eq1-clause-listed : goal.returns-then-old-eq1-clause-listed
 returns-then-old-eq1-clause-listed g c =
     let k = c.requires.counted in
     let is = (c.requires.right.spelled c.args.base k.object k.begins).counted k.counted in
-    lowered-listed c.args.heap.now c.enter.new.heap c.args.base k.object k.begins is (returns-then-old-eq1-clause-heap g c)
+    lowered-listed c.args.heap.now c.enter.new.heap c.args.base k.object k.begins is (returns-then-old-eq1-clause-heap
+    g c)
     (some-said c.args.heap.now.objects c.args.base k c.requires.some)
 
 pub returns-then-old-eq1-clause-entered : goal.returns-then-old-eq1-clause-entered
 returns-then-old-eq1-clause-entered g c =
     let k = c.requires.counted in
     let is = (c.requires.right.spelled c.args.base k.object k.begins).counted k.counted in
-    lowered-names c.args.heap.now c.enter.new.heap c.args.base k.object k.begins is (returns-then-old-eq1-clause-heap g c)
+    lowered-names c.args.heap.now c.enter.new.heap c.args.base k.object k.begins is (returns-then-old-eq1-clause-heap
+    g c)
     (some-said c.args.heap.now.objects c.args.base k c.requires.some)
 
 pub returns-clause-rest : goal.returns-clause-rest

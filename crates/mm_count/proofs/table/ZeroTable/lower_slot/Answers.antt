@@ -1,4 +1,4 @@
-use Rattle.std.proofs.Common.{ℕ, [], ◌∷◌, sym, ap, ◌∙◌, subst}
+use Rattle.std.proofs.Common.{ℕ, [], ◌∷◌, sym, ◌∙◌, subst}
 use Rattle.mm_count.specs.Table.{IsCountedAt}
 use Rattle.mm_count.specs.Counts.{HasReference}
 use Rattle.mm_count.specs.Kept.{AreLowered}

@@ -1,13 +1,12 @@
-use Rattle.std.proofs.Common.{◌≡◌, ◌≤◌, ◌+◌, ◌<◌, [], ◌∷◌, ◌++◌, take, length, sym, ap, ◌∙◌, subst, arith}
+use Rattle.std.proofs.Common.{◌<◌, [], ◌∷◌, take, sym, ap, ◌∙◌, subst, arith}
 use Rattle.std.proofs.lemmas.List.{take_all}
-use Rattle.mm_model.specs.ByBase.{Begins}
 use Rattle.mm_model.specs.ObjectView.{counted_words_of}
-use Rattle.mm_model.proofs.View.Entries.{begins_same}
-use Rattle.mm_object.specs.Object.{StoredObject, view_of_stored, shape_of}
+use Rattle.mm_object.specs.Object.{view_of_stored}
 use Rattle.mm_model.specs.declared.object.Shape.{Shape}
 use Rattle.mm_count.specs.Counts.{NamesCounted, HasReference}
 use Rattle.mm_count.specs.Kept.{AreLowered}
-use Rattle.mm_count.proofs.Lowering.{lowered-none, lowered-then, length-words, words-more, word, slot-now, word-now, named-now, reference-now, apart-lowered}
+use Rattle.mm_count.proofs.Lowering.{lowered-none, lowered-then, length-words, words-more, word, slot-now, word-now}
+use Rattle.mm_count.proofs.Lowering.{named-now, reference-now, apart-lowered}
 use Rattle.mm_count.proofs.table.ZeroTable.lower_slots.Goals as goal
 
 pub loop-s-init : goal.loop-s-init

@@ -131,19 +131,22 @@ pub returns-then-composite-clause-views : goal.returns-then-composite-clause-vie
 returns-then-composite-clause-views g c =
     let k = c.requires.counted in
     let is = (c.requires.right.spelled c.args.base k.object k.begins).counted k.counted in
-    raised-views c.args.heap.now c.args.heap.now c.args.base k.object k.begins is (returns-then-composite-clause-heap g c) k.counted
+    raised-views c.args.heap.now c.args.heap.now c.args.base k.object k.begins is (returns-then-composite-clause-heap
+    g c) k.counted
 
 pub returns-then-composite-clause-unpinned : goal.returns-then-composite-clause-unpinned
 returns-then-composite-clause-unpinned g c =
     let k = c.requires.counted in
     let is = (c.requires.right.spelled c.args.base k.object k.begins).counted k.counted in
-    raised-unpinned c.args.heap.now c.args.heap.now c.args.base k.object k.begins is (returns-then-composite-clause-heap g c)
+    raised-unpinned c.args.heap.now c.args.heap.now c.args.base k.object k.begins is
+    (returns-then-composite-clause-heap g c)
 
 pub returns-then-composite-clause-listed : goal.returns-then-composite-clause-listed
 returns-then-composite-clause-listed g c =
     let k = c.requires.counted in
     let is = (c.requires.right.spelled c.args.base k.object k.begins).counted k.counted in
-    raised-listed c.args.heap.now c.args.heap.now c.args.base k.object k.begins is (returns-then-composite-clause-heap g c)
+    raised-listed c.args.heap.now c.args.heap.now c.args.base k.object k.begins is (returns-then-composite-clause-heap
+    g c)
 
 pub returns-then-composite-2-clause-rest : goal.returns-then-composite-2-clause-rest
 returns-then-composite-2-clause-rest g c =
@@ -153,19 +156,22 @@ pub returns-then-composite-2-clause-views : goal.returns-then-composite-2-clause
 returns-then-composite-2-clause-views g c =
     let k = c.requires.counted in
     let is = (c.requires.right.spelled c.args.base k.object k.begins).counted k.counted in
-    raised-views c.args.heap.now c.close_gap.new.heap c.args.base k.object k.begins is (returns-then-composite-2-clause-heap g c) k.counted
+    raised-views c.args.heap.now c.close_gap.new.heap c.args.base k.object k.begins is
+    (returns-then-composite-2-clause-heap g c) k.counted
 
 pub returns-then-composite-2-clause-unpinned : goal.returns-then-composite-2-clause-unpinned
 returns-then-composite-2-clause-unpinned g c =
     let k = c.requires.counted in
     let is = (c.requires.right.spelled c.args.base k.object k.begins).counted k.counted in
-    raised-unpinned c.args.heap.now c.close_gap.new.heap c.args.base k.object k.begins is (returns-then-composite-2-clause-heap g c)
+    raised-unpinned c.args.heap.now c.close_gap.new.heap c.args.base k.object k.begins is
+    (returns-then-composite-2-clause-heap g c)
 
 pub returns-then-composite-2-clause-listed : goal.returns-then-composite-2-clause-listed
 returns-then-composite-2-clause-listed g c =
     let k = c.requires.counted in
     let is = (c.requires.right.spelled c.args.base k.object k.begins).counted k.counted in
-    raised-listed c.args.heap.now c.close_gap.new.heap c.args.base k.object k.begins is (returns-then-composite-2-clause-heap g c)
+    raised-listed c.args.heap.now c.close_gap.new.heap c.args.base k.object k.begins is
+    (returns-then-composite-2-clause-heap g c)
 
 pub returns-else-composite-2-clause-rest : goal.returns-else-composite-2-clause-rest
 returns-else-composite-2-clause-rest g c =
@@ -175,16 +181,19 @@ pub returns-else-composite-2-clause-views : goal.returns-else-composite-2-clause
 returns-else-composite-2-clause-views g c =
     let k = c.requires.counted in
     let is = (c.requires.right.spelled c.args.base k.object k.begins).counted k.counted in
-    raised-views c.args.heap.now c.set_composite.new.heap c.args.base k.object k.begins is (returns-else-composite-2-clause-heap g c) k.counted
+    raised-views c.args.heap.now c.set_composite.new.heap c.args.base k.object k.begins is
+    (returns-else-composite-2-clause-heap g c) k.counted
 
 pub returns-else-composite-2-clause-unpinned : goal.returns-else-composite-2-clause-unpinned
 returns-else-composite-2-clause-unpinned g c =
     let k = c.requires.counted in
     let is = (c.requires.right.spelled c.args.base k.object k.begins).counted k.counted in
-    raised-unpinned c.args.heap.now c.set_composite.new.heap c.args.base k.object k.begins is (returns-else-composite-2-clause-heap g c)
+    raised-unpinned c.args.heap.now c.set_composite.new.heap c.args.base k.object k.begins is
+    (returns-else-composite-2-clause-heap g c)
 
 pub returns-else-composite-2-clause-listed : goal.returns-else-composite-2-clause-listed
 returns-else-composite-2-clause-listed g c =
     let k = c.requires.counted in
     let is = (c.requires.right.spelled c.args.base k.object k.begins).counted k.counted in
-    raised-listed c.args.heap.now c.set_composite.new.heap c.args.base k.object k.begins is (returns-else-composite-2-clause-heap g c)
+    raised-listed c.args.heap.now c.set_composite.new.heap c.args.base k.object k.begins is
+    (returns-else-composite-2-clause-heap g c)

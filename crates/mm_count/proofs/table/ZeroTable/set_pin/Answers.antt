@@ -56,4 +56,5 @@ pub returns-clause-views : goal.returns-clause-views
 returns-clause-views g c =
     let k = c.requires.counted in
     let is = (c.requires.right.spelled c.args.base k.object k.begins).counted k.counted in
-    pinned-views c.args.heap.now c.set_composite.new.heap c.args.base k.object k.begins is c.args.pinned (returns-clause-heap g c)
+    pinned-views c.args.heap.now c.set_composite.new.heap c.args.base k.object k.begins is c.args.pinned
+    (returns-clause-heap g c)
