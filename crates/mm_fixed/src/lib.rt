@@ -3,7 +3,6 @@
 
 mod block;
 mod fixed;
-mod uncounted;
 
 pub use block::FixedBlock;
 pub use fixed::{Fixed, fixed_words};
