@@ -1,12 +1,12 @@
 -- Counts are right for the objects that a release leaves.
-use Rattle.std.proofs.Common.{◌≡◌, ℕ, ◌+◌, ◌*◌, ◌/◌, ◌≤◌, Bool, true, false, List, [], ◌∷◌, ◌++◌, map, Option, Some, None, refl, sym, ap, subst, ◌∙◌, arith}
+use Rattle.std.proofs.Common.{◌≡◌, ℕ, ◌+◌, ◌/◌, ◌≤◌, Bool, true, false, List, [], ◌∷◌, ◌++◌, Option, Some, None, refl, sym, ap, subst, ◌∙◌, arith}
 use Rattle.std.specs.Prelude.{◌==◌, slice_get, if◌then◌else◌, IsTrue}
-use Rattle.std.specs.Option.{option_map, option_and_then}
+use Rattle.std.specs.Option.{option_and_then}
 use Rattle.std.specs.List.{flat_map, count_by}
 use Rattle.mm_model.specs.Object.{is_counted}
 use Rattle.mm_model.specs.Phase.{lists}
-use Rattle.mm_model.specs.ByBase.{Begins, Based, based_from, based, changed_from, changed}
-use Rattle.mm_model.specs.ObjectView.{ObjectView, ObjectsByBase, counted_words_of, references_in}
+use Rattle.mm_model.specs.ByBase.{Begins, Based, based_from, changed_from, changed}
+use Rattle.mm_model.specs.ObjectView.{ObjectView, counted_words_of, references_in}
 use Rattle.mm_model.specs.SetsByBase.{count_at}
 use Rattle.mm_object.specs.Object.{StoredObject, StoredObjects, view_of_stored, views_of}
 use Rattle.mm_weak.specs.Links.{unlinked}
@@ -14,7 +14,7 @@ use Rattle.mm_count.specs.declared.composite.Composite.{Composite}
 use Rattle.mm_count.specs.Composite.{composite_in}
 use Rattle.mm_count.specs.Table.{composite_of}
 use Rattle.mm_count.specs.Counts.{composite_told, counts_of, IsCountedBy}
-use Rattle.mm_count.specs.Listed.{IsListedAtZero, AllListed, NonePinned}
+use Rattle.mm_count.specs.Listed.{AllListed, NonePinned}
 use Rattle.mm_count.specs.Apart.{unless_dead, without_dead, AreCountsApart}
 use Rattle.mm_count.specs.DeadApart.{AreDeadApart}
 use Rattle.mm_sweep.specs.Release.{after_release}

@@ -1,5 +1,5 @@
 -- An object loses its partner, and then it is taken away.
-use Rattle.std.proofs.Common.{◌≡◌, ◌≢◌, ℕ, ◌+◌, ◌*◌, ◌/◌, ◌≤◌, Bool, true, false, List, [], ◌∷◌, Option, Some, None, inl, inr, refl, sym, ap, subst, ◌∙◌, arith}
+use Rattle.std.proofs.Common.{◌≡◌, ◌≢◌, ℕ, ◌*◌, ◌/◌, List, [], ◌∷◌, Option, Some, None, inl, inr, refl, sym, ap, ◌∙◌, arith}
 use Rattle.std.specs.Prelude.{slice_get, slice_set}
 use Rattle.std.specs.Option.{option_map, option_and_then}
 use Rattle.std.proofs.lemmas.Bool.{cases_eq}
@@ -12,7 +12,7 @@ use Rattle.mm_weak.specs.Links.{IsLinked, unlinked}
 use Rattle.mm_sweep.specs.Release.{after_release}
 use Rattle.mm_sweep.proofs.Changed.{changed-entries}
 use Rattle.mm_sweep.proofs.Released.{released-gone, released-cut, released-kept}
-use Rattle.mm_sweep.proofs.Partners.{partner-linked, named-linked}
+use Rattle.mm_sweep.proofs.Partners.{named-linked}
 
 -- an entry of a list by base at its grain
 pub grain_of : (base k : ℕ) → base ≡ 16 * k → base / 16 ≡ k

@@ -1,26 +1,25 @@
 -- What taking an object away makes of a heap whose runs are parked in a page heap.
-use Rattle.std.proofs.Common.{◌≡◌, ◌≢◌, ℕ, zero, suc, ◌+◌, ◌*◌, ◌/◌, ◌<◌, ◌≤◌, ◌⊎◌, Bool, true, false, nat_lt, List, [], ◌∷◌, ◌++◌, Option, Some, None, inl, inr, refl, sym, ap, subst, ◌∙◌, arith}
+use Rattle.std.proofs.Common.{◌≡◌, ◌≢◌, ℕ, zero, suc, ◌+◌, ◌*◌, ◌/◌, ◌<◌, ◌≤◌, ◌⊎◌, Bool, true, false, nat_lt, List, [], ◌∷◌, Option, Some, None, inl, inr, refl, sym, ap, subst, ◌∙◌, arith}
 use Rattle.std.specs.Prelude.{slice_get, slice_index, slice_set, IfSome, if◌then◌else◌}
 use Rattle.std.specs.Option.{option_map}
 use Rattle.std.proofs.lemmas.Bool.{cases_eq, eq-eqb}
 use Rattle.std.proofs.lemmas.Bool.Decides.{nat_tests}
 use Rattle.std.proofs.lemmas.List.{get_or-set_other}
 use Rattle.std.proofs.lemmas.Option.{slice_get-map}
-use Rattle.mm_model.specs.ByBase.{Begins, with_entry, changed}
-use Rattle.mm_model.specs.SizeClass.{object_bytes}
+use Rattle.mm_model.specs.ByBase.{Begins, with_entry}
 use Rattle.mm_model.specs.ObjectView.{ObjectView, ObjectsByBase}
 use Rattle.mm_model.specs.GoodView.{ArePaired, IsPairedAt}
 use Rattle.mm_model.proofs.Lists.Replaced.{get-set_same, get-set_other, map-set}
 use Rattle.mm_model.proofs.View.Entries.{begins_same}
 use Rattle.mm_pages.specs.Pages.{Pages, with_parked}
-use Rattle.mm_pages.specs.Parked.{AreParked}
+use Rattle.mm_pages.specs.Parked.{AreParked, HaveNoCommonRun, AreAllParked}
 use Rattle.mm_cells.specs.Cells as cells
 use Rattle.mm_cells.specs.Cells.{Cells}
 use Rattle.mm_cells.specs.Placing.{LeavesPage, Page_stays, Page_goes}
 use Rattle.mm_object.specs.Object.{StoredObject, StoredObjects, view_of_stored, views_of}
-use Rattle.mm_object.specs.Heap.{Heap, IsSound, FitsHeap, LeavesWords, Covers, cell_of, cells_in}
+use Rattle.mm_object.specs.Heap.{Heap, IsSound, LeavesWords, Covers, cell_of, cells_in}
 use Rattle.mm_weak.specs.Links.{IsLinked}
-use Rattle.mm_sweep.specs.Release.{after_release, KeepsRaw, Frees, HaveNoCommonRun, AreAllParked}
+use Rattle.mm_sweep.specs.Release.{KeepsRaw, Frees}
 use Rattle.mm_sweep.proofs.Changed.{begins_seen}
 use Rattle.mm_sweep.proofs.Parted.{IsUnlinked}
 use Rattle.mm_sweep.proofs.Cuts.{grain_of}
@@ -45,24 +44,20 @@ cases_lt a b = split (nat_lt a b) refl
 pub record KeepsRuns (runs runs_after : List ℕ) (heap after : Pages) : Type 0 where
   pub rest : after ≡ record heap { parked = after.parked }
   pub apart : (others : List ℕ) → HaveNoCommonRun runs others → HaveNoCommonRun runs_after others
-  pub all_parked : (others : List ℕ) → AreAllParked runs others heap → AreAllParked runs_after others after
 
 runs-stay : (runs runs_after : List ℕ) (heap : Pages) → runs_after ≡ runs → KeepsRuns runs runs_after heap heap
 runs-stay runs runs_after heap same =
     record {
       rest = refl;
       apart = λ others apart. subst (λ (rs : List ℕ). HaveNoCommonRun rs others) (sym same) apart;
-      all_parked = λ others all. subst (λ (rs : List ℕ). AreAllParked rs others heap) (sym same) all;
     }
 
 runs-go : (runs runs_after : List ℕ) (heap : Pages) (page : ℕ) → runs_after ≡ slice_set runs page 0
-    → AreParked runs heap → 0 < slice_index runs page → KeepsRuns runs runs_after heap (with_parked heap page 0)
-runs-go runs runs_after heap page same parked some =
+    → KeepsRuns runs runs_after heap (with_parked heap page 0)
+runs-go runs runs_after heap page same =
     record {
       rest = refl;
       apart = λ others apart. subst (λ (rs : List ℕ). HaveNoCommonRun rs others) (sym same) (λ q more. clear others apart q more);
-      all_parked = λ others all. subst (λ (rs : List ℕ). AreAllParked rs others (with_parked heap page 0)) (sym same)
-          (λ q. told others all q);
     }
   where
     clear : (others : List ℕ) → HaveNoCommonRun runs others → (q : ℕ) → 0 < slice_index (slice_set runs page 0) q
@@ -74,30 +69,11 @@ runs-go runs runs_after heap page same parked some =
           | inr other ↦ let was = index-set_other runs page q 0 other in apart q (omega arith)
         ]
 
-    told : (others : List ℕ) → AreAllParked runs others heap → (q : ℕ)
-        → slice_index (slice_set heap.parked page 0) q ≡ slice_index (slice_set runs page 0) q + slice_index others q
-    told others all q =
-        elim (cases_eq q page) [
-          | inl e ↦
-              let here = all page in
-              let own = parked.parked page some in
-              let of_heap = ap (slice_index (slice_set heap.parked page 0)) e ∙ index-set_zero heap.parked page in
-              let of_runs = ap (slice_index (slice_set runs page 0)) e ∙ index-set_zero runs page in
-              let of_others = ap (slice_index others) e in
-              omega arith
-          | inr other ↦
-              let there = all q in
-              let of_heap = index-set_other heap.parked page q 0 other in
-              let of_runs = index-set_other runs page q 0 other in
-              omega arith
-        ]
-
 runs-left : (before after : Cells) (heap heap_after : Pages) (page : ℕ) → LeavesPage before after heap page heap_after
-    → AreParked before.runs heap → 0 < slice_index before.runs page → KeepsRuns before.runs after.runs heap heap_after
-runs-left before after heap heap_after page (Page_stays base cell begins inside same) parked some =
+    → KeepsRuns before.runs after.runs heap heap_after
+runs-left before after heap heap_after page (Page_stays base cell begins inside same) =
     runs-stay before.runs after.runs heap same
-runs-left before after heap heap_after page (Page_goes none same) parked some =
-    runs-go before.runs after.runs heap page same parked some
+runs-left before after heap heap_after page (Page_goes none same) = runs-go before.runs after.runs heap page same
 
 -- an object lies in a run
 pub run-object : (h : Heap) (base : ℕ) (object : StoredObject) → IsSound h → Begins h.objects base object
@@ -223,24 +199,22 @@ linked-left h after base object begins alone linked e =
     no_partner o none = ap (λ (b : Bool). if b then None else Some o.link) (eq-eqb o.link 0 none)
 
 module _ (h m f : Heap) (base : ℕ) (heap heap_after : Pages) (unlinked : IsUnlinked h m base) (sound : IsSound m)
-    (fits : FitsHeap h heap) (page : LeavesPage (cells_in m) (cells_in f) heap (base / 4096) heap_after) where
+    (page : LeavesPage (cells_in m) (cells_in f) heap (base / 4096) heap_after) where
   runs_same : m.runs ≡ h.runs
   runs_same = ap (λ (x : Heap). x.runs) unlinked.rest
-
-  parked : AreParked m.runs heap
-  parked = subst (λ (rs : List ℕ). AreParked rs heap) (sym runs_same) fits.parked
 
   some_run : 0 < slice_index m.runs (base / 4096)
   some_run = run-object m base unlinked.object sound unlinked.begins
 
   runs_kept : KeepsRuns m.runs f.runs heap heap_after
-  runs_kept = runs-left (cells_in m) (cells_in f) heap heap_after (base / 4096) page parked some_run
+  runs_kept = runs-left (cells_in m) (cells_in f) heap heap_after (base / 4096) page
 
   pub erased-frees : f ≡ record m { objects = with_entry base None m.objects; runs = f.runs; raw = f.raw }
       → ((object : StoredObject) → Begins m.objects base object → LeavesWords m.raw f.raw base object.extent)
       → ((runs : List ℕ) → slice_index runs (base / 4096) ≡ 0 → AreParked runs heap → AreParked runs heap_after)
+      → ((others : List ℕ) → AreAllParked m.runs others heap → AreAllParked f.runs others heap_after)
       → Frees (base ∷ []) h f heap heap_after
-  erased-frees erased leaves others =
+  erased-frees erased leaves others all_parked =
       record {
         objects = ap (λ (x : Heap). x.objects) erased ∙ unlinked.objects;
         rest =
@@ -257,5 +231,5 @@ module _ (h m f : Heap) (base : ℕ) (heap heap_after : Pages) (unlinked : IsUnl
         others = λ runs apart are.
             others runs (apart (base / 4096) (subst (λ (rs : List ℕ). 0 < slice_index rs (base / 4096)) runs_same some_run)) are;
         all_parked = λ runs all.
-            runs_kept.all_parked runs (subst (λ (rs : List ℕ). AreAllParked rs runs heap) (sym runs_same) all);
+            all_parked runs (subst (λ (rs : List ℕ). AreAllParked rs runs heap) (sym runs_same) all);
       }

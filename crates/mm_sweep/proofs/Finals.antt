@@ -1,12 +1,10 @@
 -- Finalizers: which objects have one, what their lines are, and what they cost.
-use Rattle.std.proofs.Common.{◌≡◌, ℕ, zero, suc, ◌+◌, ◌*◌, ◌<◌, ◌≤◌, ◌%◌, ◌^◌, Bool, true, false, eqb-true, List, [], ◌∷◌, ◌++◌, map, length, take, sum, Option, Some, None, refl, sym, ap, subst, ◌∙◌, arith}
-use Rattle.std.specs.Prelude.{◌==◌, slice_get, slice_index, if◌then◌else◌}
+use Rattle.std.proofs.Common.{◌≡◌, ℕ, ◌%◌, ◌^◌, Bool, true, false, eqb-true, [], ◌∷◌, length, sum, Some, refl, sym, ap, subst, ◌∙◌}
+use Rattle.std.specs.Prelude.{◌==◌, if◌then◌else◌}
 use Rattle.std.specs.Int.RustNames.{bit_and}
 use Rattle.std.specs.Option.{option_map}
-use Rattle.std.specs.List.{find, AllByRecursion}
 use Rattle.std.proofs.lemmas.Bool.{eq-eqb}
 use Rattle.std.proofs.lemmas.Option.{slice_get-map}
-use Rattle.mm_model.specs.declared.line.Line.{Line}
 use Rattle.mm_model.specs.declared.line.Line.TheVariants as lines
 use Rattle.mm_model.specs.ByBase.{Begins, Based, based}
 use Rattle.mm_model.specs.ObjectView.{ObjectView, ObjectsByBase}

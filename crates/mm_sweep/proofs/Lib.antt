@@ -10,3 +10,6 @@ pub mod Freed
 pub mod Right
 pub mod CountsLeft
 pub mod Whites
+pub mod Leaving
+pub mod Dropping
+pub mod Whitened

@@ -1,23 +1,22 @@
 -- White objects that are found one after another.
-use Rattle.std.proofs.Common.{◌≡◌, ℕ, zero, suc, ◌+◌, ◌*◌, ◌-◌, ◌/◌, ◌<◌, ◌≤◌, ◌⊎◌, Bool, true, false, List, [], ◌∷◌, ◌++◌, length, take, Option, Some, None, inl, inr, refl, sym, ap, subst, ◌∙◌, arith}
-use Rattle.std.specs.Prelude.{◌==◌, ◌||◌, nat_lt, slice_get, slice_set, IsTrue}
+use Rattle.std.proofs.Common.{◌≡◌, ℕ, zero, suc, ◌+◌, ◌*◌, ◌<◌, ◌≤◌, ◌⊎◌, Bool, true, false, List, [], ◌∷◌, ◌++◌, length, Option, Some, None, inl, inr, refl, ap, ◌∙◌, arith}
+use Rattle.std.specs.Prelude.{◌||◌, nat_lt, slice_get}
 use Rattle.std.specs.List.{AllByRecursion}
-use Rattle.std.proofs.lemmas.Bool.{cases_eq}
 use Rattle.std.proofs.lemmas.Bool.Decides.{nat_tests}
 use Rattle.mm_model.specs.declared.object.Colour.TheVariants.{White}
 use Rattle.mm_model.specs.Phase.{lists, IsAscending}
-use Rattle.mm_model.specs.ByBase.{Begins, Based, based_from, based}
+use Rattle.mm_model.specs.ByBase.{Begins, based_from, based}
 use Rattle.mm_model.specs.ObjectView.{ObjectView, ObjectsByBase}
 use Rattle.mm_model.specs.SetsByBase.{AreBasesAt}
 use Rattle.mm_model.proofs.Lists.Growing.{each_push}
-use Rattle.mm_object.specs.Object.{StoredObject, view_of_stored, views_of}
+use Rattle.mm_object.specs.Object.{view_of_stored, views_of}
 use Rattle.mm_object.specs.Heap.{Heap}
 use Rattle.mm_object.specs.Colours.{IsNextOf, NoneOfFrom}
 use Rattle.mm_sweep.specs.Sweep.{IsWhiteAt, AreWhiteBelow}
 use Rattle.mm_sweep.proofs.Changed.{begins_seen, seen_begins}
 use Rattle.mm_sweep.proofs.Released.{lists-append, lists_one-same}
 
-each_weaken : {P Q : ℕ → Type 0} (xs : List ℕ) → ((x : ℕ) → P x → Q x) → AllByRecursion P xs → AllByRecursion Q xs
+pub each_weaken : {P Q : ℕ → Type 0} (xs : List ℕ) → ((x : ℕ) → P x → Q x) → AllByRecursion P xs → AllByRecursion Q xs
 each_weaken [] imply all = tt
 each_weaken (x ∷ xs) imply all = (imply x all.0, each_weaken xs imply all.1)
 

@@ -1,5 +1,5 @@
 -- What a phase leaves of a heap, and what its finalizers cost.
-use Rattle.std.specs.Prelude.{◌≡◌, ℕ, ◌+◌, ◌*◌, ◌^◌, ◌<◌, ◌≤◌, if◌then◌else◌, List, [], ◌∷◌, length, Option, Some, None, slice_get, slice_index}
+use Rattle.std.specs.Prelude.{◌≡◌, ℕ, ◌+◌, ◌*◌, ◌^◌, ◌<◌, ◌≤◌, if◌then◌else◌, List, length, Option, Some, None, slice_get}
 use Rattle.std.specs.List.{flat_map, sum_by, AllByRecursion}
 use Rattle.mm_model.specs.declared.line.Line.{Line}
 use Rattle.mm_model.specs.Phase.{lists}
@@ -8,7 +8,7 @@ use Rattle.mm_model.specs.ObjectView.{ObjectView, ObjectsByBase}
 use Rattle.mm_model.specs.ViewWords.{object_at}
 use Rattle.mm_model.specs.ViewPhase.{view_final_lines}
 use Rattle.mm_pages.specs.Pages.{Pages}
-use Rattle.mm_pages.specs.Parked.{AreParked}
+use Rattle.mm_pages.specs.Parked.{AreParked, HaveNoCommonRun, AreAllParked}
 use Rattle.mm_object.specs.Object.{StoredObject}
 use Rattle.mm_object.specs.Heap.{Heap, IsObject}
 use Rattle.mm_weak.specs.Links.{unlinked}
@@ -42,15 +42,6 @@ finalized_slots objects bases = sum_by (λ base. final_slots (object_at objects 
 abbrev pub IsReleaseCost : ℕ → ℕ → ℕ → ℕ → ℕ → Type 0
 IsReleaseCost pages freed slots before after =
     (digits : ℕ) → pages < 2 ^ digits → after ≤ before + 64 * (1 + digits) * freed + slots
-
--- No page is the first of a run of both families. So two families whose runs are parked in one page heap share no page.
-abbrev pub HaveNoCommonRun : List ℕ → List ℕ → Type 0
-HaveNoCommonRun runs others = (page : ℕ) → 0 < slice_index runs page → slice_index others page ≡ 0
-
--- What is parked in the page heap are the runs of one family, and those of all others.
-abbrev pub AreAllParked : List ℕ → List ℕ → Pages → Type 0
-AreAllParked runs others heap =
-    (page : ℕ) → slice_index heap.parked page ≡ slice_index runs page + slice_index others page
 
 -- What freeing the objects at these bases makes of a heap and its page heap.
 pub record Frees (bases : List ℕ) (before after : Heap) (pages_before pages_after : Pages) : Type 0 where

@@ -1,5 +1,5 @@
 -- Which objects a sweep finds, and what it leaves of all of them.
-use Rattle.std.specs.Prelude.{◌≡◌, ℕ, ◌+◌, ◌*◌, ◌<◌, ◌≤◌, false, IsTrue, List, ◌∷◌, [], ◌++◌, length, take, Option, Some, None}
+use Rattle.std.specs.Prelude.{◌≡◌, ℕ, ◌+◌, ◌*◌, ◌<◌, ◌≤◌, IsTrue, List, length, Option, Some, None}
 use Rattle.std.specs.List.{sum_by, AllByRecursion}
 use Rattle.mm_model.specs.declared.object.Colour.{Colour}
 use Rattle.mm_model.specs.declared.object.Colour.TheVariants.{White}
@@ -7,7 +7,6 @@ use Rattle.mm_model.specs.Phase.{IsAscending, lists}
 use Rattle.mm_model.specs.ByBase.{Begins, Based}
 use Rattle.mm_model.specs.ObjectView.{ObjectView, ObjectsByBase, counted_words_of}
 use Rattle.mm_model.specs.ViewWords.{object_at}
-use Rattle.mm_words.specs.Piece.{Piece}
 use Rattle.mm_object.specs.Object.{StoredObject, StoredObjects}
 
 -- a white object begins at a base

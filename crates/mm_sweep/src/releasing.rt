@@ -6,7 +6,7 @@ ghost use Rattle.mm_model.specs.Phase.{IsAscending, lists};
 ghost use Rattle.mm_model.specs.Spelling.{spelling_of};
 ghost use Rattle.mm_model.specs.View.{View};
 ghost use Rattle.mm_model.specs.ViewPhase.{view_phase_lines, view_after_release};
-ghost use Rattle.mm_pages.specs.Parked.{AreParked};
+ghost use Rattle.mm_pages.specs.Parked.{AreParked, HaveNoCommonRun, AreAllParked};
 ghost use Rattle.mm_object.specs.Object.{StoredObject, views_of};
 ghost use Rattle.mm_object.specs.Heap.{IsSound, FitsHeap};
 ghost use Rattle.mm_weak.specs.Links.{IsLinked};
@@ -16,7 +16,6 @@ ghost use Rattle.mm_count.specs.Listed.{AllListed, NonePinned};
 ghost use Rattle.mm_count.specs.Apart.{AreCountsApart};
 ghost use Rattle.mm_count.specs.DeadApart.{AreDeadApart};
 ghost use Rattle.mm_sweep.specs.Release.{after_release, finalized_slots, AreObjects, KeepsRaw, IsReleaseCost};
-ghost use Rattle.mm_sweep.specs.Release.{HaveNoCommonRun, AreAllParked};
 
 use crate::finalizing::run_finalizers;
 use crate::freeing::free_objects;

@@ -76,12 +76,7 @@ fn drop_counts<L: Ledger>(
 }
 
 /// Takes an object out of the zero-count table, if it's there.
-fn leave_table<L: Ledger>(
-    heap: &mut Heap,
-    count: &mut ZeroTable,
-    base: u32,
-    steps: &mut Steps<L>,
-)
+fn leave_table<L: Ledger>(heap: &mut Heap, count: &mut ZeroTable, base: u32, steps: &mut Steps<L>)
     requires object { IsObject heap.old base }
     requires right { IsRight count.old heap.old }
     ensures left { (bases : List ℕ) → AreDeadApart bases heap.old.objects

@@ -1,5 +1,4 @@
-use Rattle.std.proofs.Common.{◌≡◌, ℕ, ◌<◌, ◌^◌, ◌%◌, List, [], ◌∷◌, length, sum, Option, sym, ap, subst, ◌∙◌, append-nil, arith}
-use Rattle.mm_model.specs.declared.line.Line.{Line}
+use Rattle.std.proofs.Common.{ℕ, ◌^◌, ◌%◌, List, length, sum, sym, ap, subst, ◌∙◌, append-nil, arith}
 use Rattle.mm_model.specs.declared.line.Line.TheVariants as lines
 use Rattle.mm_model.specs.Journal.{Writes}
 use Rattle.mm_model.specs.Spelling.{spelling, spelling_of}

@@ -1,4 +1,4 @@
-use Rattle.std.proofs.Common.{ℕ, sym, ap, subst}
+use Rattle.std.proofs.Common.{ap}
 use Rattle.mm_object.specs.Heap.{Heap}
 use Rattle.mm_sweep.proofs.Erased.{erased-frees, linked-left}
 use Rattle.mm_sweep.proofs.freeing.free_object.Goals as goal
@@ -14,8 +14,8 @@ returns-clause-frees g c =
       alone = c.unlink.ensures.alone o.0 o.1;
       rest = c.unlink.ensures.rest;
     })
-    c.unlink.ensures.sound c.requires.fits c.erase.ensures.page c.erase.ensures.erased c.erase.ensures.raw
-    c.erase.ensures.others
+    c.unlink.ensures.sound c.erase.ensures.page c.erase.ensures.erased c.erase.ensures.raw
+    c.erase.ensures.others c.erase.ensures.all_parked
 
 pub returns-clause-linked : goal.returns-clause-linked
 returns-clause-linked g c =

@@ -1,4 +1,4 @@
-use Rattle.std.proofs.Common.{◌≡◌, ◌+◌, ◌*◌, ◌^◌, ◌<◌, ◌≤◌, ℕ, take, map}
+use Rattle.std.proofs.Common.{◌+◌, ◌*◌, ◌^◌, ◌<◌, ◌≤◌, ℕ, take, map}
 use Rattle.mm_model.specs.declared.line.Line.TheVariants as lines
 use Rattle.mm_model.specs.Journal.{Writes}
 use Rattle.mm_model.specs.Spelling.{spelling_of}

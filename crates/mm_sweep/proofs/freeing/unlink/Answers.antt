@@ -1,12 +1,12 @@
-use Rattle.std.proofs.Common.{◌≡◌, ◌≢◌, ℕ, Bool, true, false, inl, inr, refl, sym, ap, subst, ◌∙◌, rules, arith}
+use Rattle.std.proofs.Common.{◌≡◌, ◌≢◌, ℕ, Bool, true, false, inl, inr, refl, sym, ap, ◌∙◌, arith}
 use Rattle.mm_model.specs.declared.object.Kind.{Kind}
 use Rattle.mm_model.specs.declared.object.Kind.TheVariants.{Traced, Leaf, Counted, Weak}
 use Rattle.mm_model.specs.Object.{is_weak}
 use Rattle.mm_model.specs.ByBase.{Begins}
 use Rattle.mm_model.proofs.View.Entries.{begins_same}
 use Rattle.mm_object.specs.Object.{StoredObject}
-use Rattle.mm_object.specs.Heap.{Heap, IsObject, IsSound}
-use Rattle.mm_weak.specs.Links.{IsLinked, IsWeakAt, IsParted}
+use Rattle.mm_object.specs.Heap.{Heap, IsSound}
+use Rattle.mm_weak.specs.Links.{IsLinked, IsParted}
 use Rattle.mm_sweep.proofs.Partners.{link-unflagged}
 use Rattle.mm_sweep.proofs.Parted.{IsUnlinked, cut-weak, cut-target, unlinked-cut, unlinked-alone, base_some}
 use Rattle.std.proofs.lemmas.Bool.{cases_eq}

@@ -1,5 +1,5 @@
-use Rattle.std.proofs.Common.{ℕ, List, take, ap, ◌∙◌}
-use Rattle.mm_object.specs.Object.{StoredObjects, views_of}
+use Rattle.std.proofs.Common.{take, ap, ◌∙◌}
+use Rattle.mm_object.specs.Object.{views_of}
 use Rattle.mm_sweep.proofs.CountsLeft.{counted-released, listed-released, unpinned-released}
 use Rattle.mm_sweep.proofs.Released.{views-released}
 use Rattle.mm_sweep.proofs.Right.{right-released}

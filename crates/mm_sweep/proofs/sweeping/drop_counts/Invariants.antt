@@ -1,4 +1,4 @@
-use Rattle.std.proofs.Common.{◌≡◌, ◌+◌, ◌*◌, ◌≤◌, ℕ, take}
+use Rattle.std.proofs.Common.{◌+◌, ◌*◌, ◌≤◌, ℕ, take}
 use Rattle.mm_object.specs.Object.{views_of}
 use Rattle.mm_object.specs.Heap.{IsSound}
 use Rattle.mm_count.specs.Table.{IsRight}

@@ -1,4 +1,4 @@
-use Rattle.std.proofs.Common.{◌≡◌, ◌+◌, ◌*◌, ◌≤◌, ℕ, List, [], take}
+use Rattle.std.proofs.Common.{◌+◌, ◌*◌, ◌≤◌, ℕ, List, [], take}
 use Rattle.mm_object.specs.Heap.{IsSound}
 use Rattle.mm_count.specs.Table.{IsRight}
 use Rattle.mm_count.specs.Listed.{NonePinned}
