@@ -1,5 +1,6 @@
 -- The first bases of a list, one after another.
-use Rattle.std.proofs.Common.{◌≡◌, ℕ, zero, suc, ◌+◌, ◌<◌, Bool, false, List, [], ◌∷◌, ◌++◌, map, length, take, refl, sym, ap, ◌∙◌, append-nil, arith}
+use Rattle.std.proofs.Common.{◌≡◌, ℕ, zero, suc, ◌+◌, ◌<◌, Bool, false, List, [], ◌∷◌, ◌++◌, map, length, take, refl}
+use Rattle.std.proofs.Common.{sym, ap, ◌∙◌, append-nil, arith}
 use Rattle.std.specs.Prelude.{◌==◌, ◌||◌, slice_index}
 use Rattle.std.specs.List.{AllByRecursion, flat_map, sum_by}
 use Rattle.std.proofs.lemmas.Bool.Decides.{nat_tests}
@@ -52,7 +53,8 @@ pub final_lines-next : (objects : ObjectsByBase) (xs : List ℕ) (i : ℕ) → i
 final_lines-next objects xs i within =
     let line : ℕ → List Line = λ base. view_final_lines (object_at objects base) in
     sym (spelling_of-append (flat_map line (take i xs)) (line (slice_index xs i)))
-    ∙ ap (λ (ls : List Line). spelling_of (flat_map line (take i xs) ++ ls)) (sym (append-nil (line (slice_index xs i))))
+    ∙ ap (λ (ls : List Line). spelling_of (flat_map line (take i xs) ++ ls))
+    (sym (append-nil (line (slice_index xs i))))
     ∙ ap spelling_of (sym (flat_map-append line (take i xs) (slice_index xs i ∷ [])))
     ∙ ap (λ (bases : List ℕ). spelling_of (flat_map line bases)) (sym (take-next xs i within))
 

@@ -64,14 +64,28 @@ module _ {X Y : Type 0} (v : X → Y) (f : ℕ → X → Option X) (g : ℕ → 
       → map (option_map v) (changed f entries) ≡ changed g (map (option_map v) entries)
   map-changed entries = map-changed_from 0 entries
 
+-- a change of a list that was changed alike everywhere
+module _ {X : Type 0} (v : X → X) (g : ℕ → X → Option X) where
+  changed_from-map : (low : ℕ) (entries : List (Option X))
+      → changed_from g low (map (option_map v) entries) ≡ changed_from (λ base x. g base (v x)) low entries
+  changed_from-map low [] = refl
+  changed_from-map low (None ∷ entries) = ap (λ es. None ∷ es) (changed_from-map (low + 16) entries)
+  changed_from-map low (Some x ∷ entries) = ap (λ es. g low (v x) ∷ es) (changed_from-map (low + 16) entries)
+
+  pub changed-map : (entries : List (Option X))
+      → changed g (map (option_map v) entries) ≡ changed (λ base x. g base (v x)) entries
+  changed-map entries = changed_from-map 0 entries
+
 -- a list with the entries that a change makes is the changed list
 pub changed-entries : {X : Type 0} (f : ℕ → X → Option X) (entries after : List (Option X))
     → ((k : ℕ) → slice_get after k ≡ option_map (option_and_then (f (16 * k))) (slice_get entries k))
     → after ≡ changed f entries
-changed-entries f entries after each = same_entries after (changed f entries) (λ k. each k ∙ sym (get-changed f entries k))
+changed-entries f entries after each = same_entries after (changed f entries)
+    (λ k. each k ∙ sym (get-changed f entries k))
 
 -- what begins in a changed list began there before
-pub record IsChangedFrom {X : Type 0} (f : ℕ → X → Option X) (entries : List (Option X)) (base : ℕ) (x : X) : Type 0 where
+pub record IsChangedFrom {X : Type 0} (f : ℕ → X → Option X) (entries : List (Option X)) (base : ℕ)
+    (x : X) : Type 0 where
   pub value : X
   pub begins : Begins entries base value
   pub is : f base value ≡ Some x

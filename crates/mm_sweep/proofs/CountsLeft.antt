@@ -1,5 +1,6 @@
 -- Counts are right for the objects that a release leaves.
-use Rattle.std.proofs.Common.{◌≡◌, ℕ, ◌+◌, ◌/◌, ◌≤◌, Bool, true, false, List, [], ◌∷◌, ◌++◌, Option, Some, None, refl, sym, ap, subst, ◌∙◌, arith}
+use Rattle.std.proofs.Common.{◌≡◌, ℕ, ◌+◌, ◌/◌, ◌≤◌, Bool, true, false, List, [], ◌∷◌, ◌++◌, Option, Some, None, refl}
+use Rattle.std.proofs.Common.{sym, ap, subst, ◌∙◌, arith}
 use Rattle.std.specs.Prelude.{◌==◌, slice_get, if◌then◌else◌, IsTrue}
 use Rattle.std.specs.Option.{option_and_then}
 use Rattle.std.specs.List.{flat_map, count_by}
@@ -19,45 +20,22 @@ use Rattle.mm_count.specs.Apart.{unless_dead, without_dead, AreCountsApart}
 use Rattle.mm_count.specs.DeadApart.{AreDeadApart}
 use Rattle.mm_sweep.specs.Release.{after_release}
 use Rattle.mm_sweep.proofs.Changed.{seen_begins}
+use Rattle.mm_sweep.proofs.CountedWords.{words_told, references-alike}
 use Rattle.mm_sweep.proofs.Right.{IsKeptAs, kept-begins, kept-composite, kept-kind}
 
--- the words of counted slots
-abbrev counted_words : List (Based ObjectView) → List ℕ
-counted_words os = flat_map (λ (o : Based ObjectView). counted_words_of o.value) os
-
-abbrev told : Option StoredObject → List ℕ
-told None = []
-told (Some object) = counted_words_of (view_of_stored object)
-
-head : (low : ℕ) (e : Option StoredObject) (es : StoredObjects)
-    → counted_words (based_from low (views_of (e ∷ es))) ≡ told e ++ counted_words (based_from (low + 16) (views_of es))
-head low None es = refl
-head low (Some object) es = refl
-
 told-alike : (gone cut : Bool) (object : StoredObject)
-    → told (if gone then None else Some (if cut then unlinked object else object))
-    ≡ told (if gone then None else Some object)
+    → words_told (if gone then None else Some (if cut then unlinked object else object))
+    ≡ words_told (if gone then None else Some object)
 told-alike true cut object = refl
 told-alike false true object = refl
 told-alike false false object = refl
-
-words_from-released : (bases : List ℕ) (low : ℕ) (objects : StoredObjects)
-    → counted_words (based_from low (views_of (changed_from (after_release bases) low objects)))
-    ≡ counted_words (based_from low (views_of (changed_from (unless_dead bases) low objects)))
-words_from-released bases low [] = refl
-words_from-released bases low (None ∷ objects) = words_from-released bases (low + 16) objects
-words_from-released bases low (Some object ∷ objects) =
-    head low (after_release bases low object) (changed_from (after_release bases) (low + 16) objects)
-    ∙ ap (λ (ws : List ℕ). ws ++ counted_words (based_from (low + 16) (views_of (changed_from (after_release bases) (low + 16) objects))))
-    (told-alike (lists bases low) (lists bases object.link) object)
-    ∙ ap (λ (ws : List ℕ). told (unless_dead bases low object) ++ ws) (words_from-released bases (low + 16) objects)
-    ∙ sym (head low (unless_dead bases low object) (changed_from (unless_dead bases) (low + 16) objects))
 
 references-released : (bases : List ℕ) (objects : StoredObjects) (base : ℕ)
     → references_in (views_of (changed (after_release bases) objects)) base
     ≡ references_in (views_of (without_dead bases objects)) base
 references-released bases objects base =
-    ap (λ (ws : List ℕ). count_by (λ word. word == base) ws) (words_from-released bases 0 objects)
+    references-alike (after_release bases) (unless_dead bases)
+    (λ at object. told-alike (lists bases at) (lists bases object.link) object) objects base
 
 pub counts_of-object : (objects : StoredObjects) (base : ℕ) (object : StoredObject) → Begins objects base object
     → counts_of objects base ≡ (composite_of object).count

@@ -1,5 +1,6 @@
 -- Counts of which those of more slots are dropped.
-use Rattle.std.proofs.Common.{◌≡◌, ⊎_elim, ℕ, ◌+◌, ◌<◌, Bool, true, false, List, [], ◌∷◌, ◌++◌, length, take, refl, sym, ap, subst, ◌∙◌, arith}
+use Rattle.std.proofs.Common.{◌≡◌, ⊎_elim, ℕ, ◌+◌, ◌<◌, Bool, true, false, List, [], ◌∷◌, ◌++◌, length, take, refl, sym}
+use Rattle.std.proofs.Common.{ap, subst, ◌∙◌, arith}
 use Rattle.std.specs.Prelude.{◌==◌, ◌||◌, slice_index, if◌then◌else◌, None, Some}
 use Rattle.std.specs.List.{sum_by}
 use Rattle.std.proofs.lemmas.List.Sums.{sum_by-append, sum_by-cons}
@@ -61,7 +62,8 @@ all_listed-named before after words views keeps named all =
           let was = record now { composite = k.0 } in
           ⊎_elim
           (λ (none : (composite_of was).count ≡ 0).
-          named.still base was now k.1 begins (all.listed base was k.1 counted (same base was now k.1 begins ∙ exact) none))
+          named.still base was now k.1 begins (all.listed base was k.1 counted
+          (same base was now k.1 begins ∙ exact) none))
           (λ (is : (composite_of now).listed ≡ true). is)
           (named.zeros base was now k.1 begins zero);
     }

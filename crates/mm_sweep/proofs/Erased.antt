@@ -1,8 +1,9 @@
 -- What taking an object away makes of a heap whose runs are parked in a page heap.
-use Rattle.std.proofs.Common.{◌≡◌, ◌≢◌, ℕ, zero, suc, ◌+◌, ◌*◌, ◌/◌, ◌<◌, ◌≤◌, ◌⊎◌, Bool, true, false, nat_lt, List, [], ◌∷◌, Option, Some, None, inl, inr, refl, sym, ap, subst, ◌∙◌, arith}
+use Rattle.std.proofs.Common.{◌≡◌, ◌≢◌, ℕ, zero, suc, ◌+◌, ◌*◌, ◌/◌, ◌<◌, ◌≤◌, ◌⊎◌, Bool, true, false, nat_lt, List, []}
+use Rattle.std.proofs.Common.{◌∷◌, Option, Some, None, inl, inr, refl, sym, ap, subst, ◌∙◌, arith}
 use Rattle.std.specs.Prelude.{slice_get, slice_index, slice_set, IfSome, if◌then◌else◌}
 use Rattle.std.specs.Option.{option_map}
-use Rattle.std.proofs.lemmas.Bool.{cases_eq, eq-eqb}
+use Rattle.std.proofs.lemmas.Bool.{cases_eq, eq-eqb, cases_lt}
 use Rattle.std.proofs.lemmas.Bool.Decides.{nat_tests}
 use Rattle.std.proofs.lemmas.List.{get_or-set_other}
 use Rattle.std.proofs.lemmas.Option.{slice_get-map}
@@ -32,13 +33,6 @@ index-set_zero (x ∷ xs) (suc i) = index-set_zero xs i
 
 index-set_other : (xs : List ℕ) (i j x : ℕ) → j ≢ i → slice_index (slice_set xs i x) j ≡ slice_index xs j
 index-set_other xs i j x other = get_or-set_other xs i j x 0 other
-
-cases_lt : (a b : ℕ) → (a < b) ⊎ (b ≤ a)
-cases_lt a b = split (nat_lt a b) refl
-  where
-    split : (t : Bool) → nat_lt a b ≡ t → (a < b) ⊎ (b ≤ a)
-    split true e = inl (grind (arith, nat_tests))
-    split false e = inr (grind (arith, nat_tests))
 
 -- the run of a page goes, or it stays
 pub record KeepsRuns (runs runs_after : List ℕ) (heap after : Pages) : Type 0 where

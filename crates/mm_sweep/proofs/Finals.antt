@@ -1,5 +1,6 @@
 -- Finalizers: which objects have one, what their lines are, and what they cost.
-use Rattle.std.proofs.Common.{◌≡◌, ℕ, ◌%◌, ◌^◌, Bool, true, false, eqb-true, [], ◌∷◌, length, sum, Some, refl, sym, ap, subst, ◌∙◌}
+use Rattle.std.proofs.Common.{◌≡◌, ℕ, ◌%◌, ◌^◌, Bool, true, false, eqb-true, [], ◌∷◌, length, sum, Some, refl, sym, ap}
+use Rattle.std.proofs.Common.{subst, ◌∙◌}
 use Rattle.std.specs.Prelude.{◌==◌, if◌then◌else◌}
 use Rattle.std.specs.Int.RustNames.{bit_and}
 use Rattle.std.specs.Option.{option_map}

@@ -1,5 +1,6 @@
 -- All objects become white.
-use Rattle.std.proofs.Common.{◌≡◌, ℕ, ◌+◌, ◌≤◌, Bool, true, false, List, [], ◌∷◌, ◌++◌, map, Option, Some, None, refl, sym, ap, subst, ◌∙◌}
+use Rattle.std.proofs.Common.{◌≡◌, ℕ, ◌+◌, ◌≤◌, Bool, true, false, List, [], ◌∷◌, ◌++◌, map, Option, Some, None, refl}
+use Rattle.std.proofs.Common.{sym, ap, subst, ◌∙◌}
 use Rattle.std.specs.Prelude.{◌==◌, slice_get, if◌then◌else◌, IsTrue}
 use Rattle.std.specs.Option.{option_map}
 use Rattle.std.specs.List.{flat_map, count_by}
@@ -20,7 +21,8 @@ use Rattle.mm_count.specs.Listed.{NonePinned}
 use Rattle.mm_count.specs.Apart.{unless_dead, without_dead, AreCountsApart}
 use Rattle.mm_count.specs.DeadApart.{AreDeadApart, IsRecounted}
 use Rattle.mm_sweep.specs.Sweep.{KeepsWhitened}
-use Rattle.mm_sweep.proofs.Changed.{begins_seen, seen_begins}
+use Rattle.mm_sweep.proofs.Changed.{changed-map, begins_seen, seen_begins}
+use Rattle.mm_sweep.proofs.CountedWords.{words_told, references-alike}
 
 abbrev pub whitened : StoredObjects → StoredObjects
 whitened objects = map (option_map white_object) objects
@@ -38,41 +40,19 @@ pub views-whitened : (objects : StoredObjects)
 views-whitened objects = views_from-whitened 0 objects
 
 -- references don't look at colours
-abbrev counted_words : List (Based ObjectView) → List ℕ
-counted_words os = flat_map (λ (o : Based ObjectView). counted_words_of o.value) os
-
-abbrev told : Option StoredObject → List ℕ
-told None = []
-told (Some object) = counted_words_of (view_of_stored object)
-
-head : (low : ℕ) (e : Option StoredObject) (es : StoredObjects)
-    → counted_words (based_from low (views_of (e ∷ es))) ≡ told e ++ counted_words (based_from (low + 16) (views_of es))
-head low None es = refl
-head low (Some object) es = refl
-
 told-white : (dead : Bool) (object : StoredObject)
-    → told (if dead then None else Some (white_object object)) ≡ told (if dead then None else Some object)
+    → words_told (if dead then None else Some (white_object object)) ≡ words_told (if dead then None else Some object)
 told-white true object = refl
 told-white false object = refl
-
-words_from-whitened : (bases : List ℕ) (low : ℕ) (objects : StoredObjects)
-    → counted_words (based_from low (views_of (changed_from (unless_dead bases) low (whitened objects))))
-    ≡ counted_words (based_from low (views_of (changed_from (unless_dead bases) low objects)))
-words_from-whitened bases low [] = refl
-words_from-whitened bases low (None ∷ objects) = words_from-whitened bases (low + 16) objects
-words_from-whitened bases low (Some object ∷ objects) =
-    head low (unless_dead bases low (white_object object)) (changed_from (unless_dead bases) (low + 16) (whitened objects))
-    ∙ ap (λ (ws : List ℕ). ws
-    ++ counted_words (based_from (low + 16) (views_of (changed_from (unless_dead bases) (low + 16) (whitened objects)))))
-    (told-white (lists bases low) object)
-    ∙ ap (λ (ws : List ℕ). told (unless_dead bases low object) ++ ws) (words_from-whitened bases (low + 16) objects)
-    ∙ sym (head low (unless_dead bases low object) (changed_from (unless_dead bases) (low + 16) objects))
 
 counts_at-whitened : (bases : List ℕ) (objects : StoredObjects) (outside : ℕ → ℕ) (base : ℕ)
     → count_at (views_of (without_dead bases (whitened objects))) outside base
     ≡ count_at (views_of (without_dead bases objects)) outside base
 counts_at-whitened bases objects outside base =
-    ap (λ (ws : List ℕ). count_by (λ word. word == base) ws + outside base) (words_from-whitened bases 0 objects)
+    let white : ℕ → StoredObject → Option StoredObject = λ at object. unless_dead bases at (white_object object) in
+    ap (λ (os : StoredObjects). count_at (views_of os) outside base) (changed-map white_object (unless_dead bases) objects)
+    ∙ ap (λ (n : ℕ). n + outside base)
+    (references-alike white (unless_dead bases) (λ at object. told-white (lists bases at) object) objects base)
 
 -- what begins in it, and what began before
 pub record IsWhitened (objects : StoredObjects) (base : ℕ) (now : StoredObject) : Type 0 where

@@ -1,5 +1,6 @@
 -- What a phase leaves of a heap, and what its finalizers cost.
-use Rattle.std.specs.Prelude.{◌≡◌, ℕ, ◌+◌, ◌*◌, ◌^◌, ◌<◌, ◌≤◌, if◌then◌else◌, List, length, Option, Some, None, slice_get}
+use Rattle.std.specs.Prelude.{◌≡◌, ℕ, ◌+◌, ◌*◌, ◌^◌, ◌<◌, ◌≤◌, if◌then◌else◌, List, length, Option, Some, None}
+use Rattle.std.specs.Prelude.{slice_get}
 use Rattle.std.specs.List.{flat_map, sum_by, AllByRecursion}
 use Rattle.mm_model.specs.declared.line.Line.{Line}
 use Rattle.mm_model.specs.Phase.{lists}
@@ -38,7 +39,8 @@ final_slots (Some o) = if o.value.finalize then length o.value.words else 0
 abbrev pub finalized_slots : ObjectsByBase → List ℕ → ℕ
 finalized_slots objects bases = sum_by (λ base. final_slots (object_at objects base)) bases
 
--- some steps for each freed object and binary digit of the number of pages, and one for each slot that a finalizer is told
+-- some steps for each freed object and binary digit of the number of pages, and one for each slot that a finalizer is
+-- told
 abbrev pub IsReleaseCost : ℕ → ℕ → ℕ → ℕ → ℕ → Type 0
 IsReleaseCost pages freed slots before after =
     (digits : ℕ) → pages < 2 ^ digits → after ≤ before + 64 * (1 + digits) * freed + slots

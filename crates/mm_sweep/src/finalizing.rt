@@ -37,7 +37,8 @@ fn run_finalizer<J: Journal, L: Ledger>(
 )
     requires object { IsObject heap.now base }
     requires cells { cells.now ≡ cells_in heap.now }
-    ensures written { Writes (J.kept journal.old) (J.is_broken journal.old) (J.kept journal.new) (J.is_broken journal.new)
+    ensures written { Writes (J.kept journal.old) (J.is_broken journal.old)
+        (J.kept journal.new) (J.is_broken journal.new)
         (spelling_of (view_final_lines (object_at (views_of heap.now.objects) base))) }
     ensures kept { J.keeps journal.old journal.new }
     ensures cost { steps.new ≤ steps.old + 1 + final_slots (object_at (views_of heap.now.objects) base) }
@@ -57,7 +58,8 @@ pub(crate) fn run_finalizers<J: Journal, L: Ledger>(
 )
     requires within { k ≤ length dead.now.words }
     requires objects { AreObjects heap.now (take k dead.now.words) }
-    ensures written { Writes (J.kept journal.old) (J.is_broken journal.old) (J.kept journal.new) (J.is_broken journal.new)
+    ensures written { Writes (J.kept journal.old) (J.is_broken journal.old)
+        (J.kept journal.new) (J.is_broken journal.new)
         (spelling_of (final_lines_at (views_of heap.now.objects) (take k dead.now.words))) }
     ensures kept { J.keeps journal.old journal.new }
     ensures sound { IsSound heap.now }

@@ -49,7 +49,8 @@ fn free_object<J: Journal, L: Ledger>(
     requires object { IsObject heap.old base }
     requires linked { IsLinked heap.old }
     requires fits { FitsHeap heap.old pages.old }
-    ensures written { Writes (J.kept journal.old) (J.is_broken journal.old) (J.kept journal.new) (J.is_broken journal.new)
+    ensures written { Writes (J.kept journal.old) (J.is_broken journal.old)
+        (J.kept journal.new) (J.is_broken journal.new)
         (spelling_of (lines.Free base ∷ [])) }
     ensures kept { J.keeps journal.old journal.new }
     ensures frees { Frees (base ∷ []) heap.old heap.new pages.old pages.new }
@@ -78,7 +79,8 @@ pub(crate) fn free_objects<J: Journal, L: Ledger>(
     requires linked { IsLinked heap.old }
     requires fits { FitsHeap heap.old pages.old }
     requires sound { IsSound heap.old }
-    ensures written { Writes (J.kept journal.old) (J.is_broken journal.old) (J.kept journal.new) (J.is_broken journal.new)
+    ensures written { Writes (J.kept journal.old) (J.is_broken journal.old)
+        (J.kept journal.new) (J.is_broken journal.new)
         (spelling_of (map lines.Free (take k dead.now.words))) }
     ensures kept { J.keeps journal.old journal.new }
     ensures frees { Frees (take k dead.now.words) heap.old heap.new pages.old pages.new }

@@ -28,8 +28,8 @@ use mm_words::Words;
 use std::sync::ledger::Ledger;
 
 /// Writes one phase and frees the objects whose bases are the first `k` of `dead`: first all finalizers by ascending
-/// base, then the phase line, then a free line for each. The weak object of a freed target gives 0 from then on, and the
-/// target of a freed weak object has none.
+/// base, then the phase line, then a free line for each. The weak object of a freed target gives 0 from then on, and
+/// the target of a freed weak object has none.
 pub fn release<J: Journal, L: Ledger>(
     heap: &mut Heap,
     pages: &mut PageHeap,

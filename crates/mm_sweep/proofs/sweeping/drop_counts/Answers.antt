@@ -11,7 +11,8 @@ use Rattle.mm_count.proofs.Apart.{apart-none}
 use Rattle.mm_sweep.specs.Sweep.{counted_slots}
 use Rattle.mm_sweep.proofs.Bases.{each_at, take-next, lists-before}
 use Rattle.mm_sweep.proofs.Leaving.{recounted-same, recounted-then}
-use Rattle.mm_sweep.proofs.Dropping.{apart-last, kept-object, all_listed-named, unpinned-kept, counted_slots-next, counted_slots-object}
+use Rattle.mm_sweep.proofs.Dropping.{apart-last, kept-object, all_listed-named, unpinned-kept, counted_slots-next}
+use Rattle.mm_sweep.proofs.Dropping.{counted_slots-object}
 use Rattle.mm_sweep.proofs.sweeping.drop_counts.Goals as goal
 
 pub loop-i-init : goal.loop-i-init
