@@ -51,7 +51,8 @@ runs-go : (runs runs_after : List ℕ) (heap : Pages) (page : ℕ) → runs_afte
 runs-go runs runs_after heap page same =
     record {
       rest = refl;
-      apart = λ others apart. subst (λ (rs : List ℕ). HaveNoCommonRun rs others) (sym same) (λ q more. clear others apart q more);
+      apart = λ others apart. subst (λ (rs : List ℕ). HaveNoCommonRun rs others) (sym same)
+          (λ q more. clear others apart q more);
     }
   where
     clear : (others : List ℕ) → HaveNoCommonRun runs others → (q : ℕ) → 0 < slice_index (slice_set runs page 0) q
@@ -83,7 +84,8 @@ run-object h base object sound begins =
         record {
           grain = begins.grain;
           aligned = begins.aligned;
-          is = slice_get-map (option_map cell_of) h.objects begins.grain ∙ ap (option_map (option_map cell_of)) begins.is;
+          is = slice_get-map (option_map cell_of) h.objects begins.grain
+              ∙ ap (option_map (option_map cell_of)) begins.is;
         }
 
 -- the words of an object's extent were told as the object's
@@ -136,7 +138,8 @@ module _ {X : Type 0} (entries : List (Option X)) (base : ℕ) (x : X) (begins :
       clash : ◌≡◌ {A = Option (Option X)} (Some None) (Some (Some y)) → ⊥
       clash e = cc
 
-  pub begins-left : (at : ℕ) (y : X) → Begins entries at y → (at ≡ base → ⊥) → Begins (with_entry base None entries) at y
+  pub begins-left : (at : ℕ) (y : X) → Begins entries at y → (at ≡ base → ⊥)
+      → Begins (with_entry base None entries) at y
   begins-left at y h apart =
       let aligned = begins.aligned in
       let there = h.aligned in
@@ -170,7 +173,8 @@ paired-left views base x begins alone paired at o h = split o.partner refl
       where
         named : IsPairedAt views at o other → other ≡ base → ⊥
         named p same =
-            let one = begins_same views base p.partner x (subst (λ (n : ℕ). Begins views n p.partner) same p.begins) begins in
+            let one = begins_same views base p.partner x
+            (subst (λ (n : ℕ). Begins views n p.partner) same p.begins) begins in
             clash (sym alone ∙ ap (λ (v : ObjectView). v.partner) (sym one) ∙ p.back)
           where
             clash : ◌≡◌ {A = Option ℕ} None (Some at) → ⊥
@@ -213,7 +217,8 @@ module _ (h m f : Heap) (base : ℕ) (heap heap_after : Pages) (unlinked : IsUnl
         objects = ap (λ (x : Heap). x.objects) erased ∙ unlinked.objects;
         rest =
             erased
-            ∙ ap (λ (x : Heap). record x { objects = with_entry base None m.objects; runs = f.runs; raw = f.raw }) unlinked.rest
+            ∙ ap (λ (x : Heap). record x { objects = with_entry base None m.objects; runs = f.runs; raw = f.raw })
+            unlinked.rest
             ∙ ap (λ (os : StoredObjects). record h { objects = os; runs = f.runs; raw = f.raw })
             (sym (ap (λ (x : Heap). x.objects) erased));
         raw =
@@ -223,7 +228,8 @@ module _ (h m f : Heap) (base : ℕ) (heap heap_after : Pages) (unlinked : IsUnl
         apart = λ runs apart.
             runs_kept.apart runs (subst (λ (rs : List ℕ). HaveNoCommonRun rs runs) (sym runs_same) apart);
         others = λ runs apart are.
-            others runs (apart (base / 4096) (subst (λ (rs : List ℕ). 0 < slice_index rs (base / 4096)) runs_same some_run)) are;
+            others runs (apart (base / 4096) (subst (λ (rs : List ℕ). 0 < slice_index rs
+            (base / 4096)) runs_same some_run)) are;
         all_parked = λ runs all.
             all_parked runs (subst (λ (rs : List ℕ). AreAllParked rs runs heap) (sym runs_same) all);
       }

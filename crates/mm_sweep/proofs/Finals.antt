@@ -54,7 +54,8 @@ pub object_at-begins : (objects : ObjectsByBase) (base : ℕ) (object : ObjectVi
     → object_at objects base ≡ Some (record { base = base; value = object })
 object_at-begins objects base object begins =
     let at = based_at objects base object begins in
-    find-only (λ (o : Based ObjectView). o.base == base) (based objects) at.0 (record { base = base; value = object }) at.1
+    find-only (λ (o : Based ObjectView). o.base == base) (based objects) at.0
+    (record { base = base; value = object }) at.1
     (eq-eqb base base refl)
     (λ i other is there.
     let same = eqb-true other.base base there in

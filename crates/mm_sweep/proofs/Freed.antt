@@ -40,7 +40,8 @@ frees-more bases more h m f p q r first next =
     }
 
 -- an object that isn't freed begins where it began
-pub stays-object : (bases : List ℕ) (base : ℕ) (h after : Heap) → after.objects ≡ changed (after_release bases) h.objects
+pub stays-object : (bases : List ℕ) (base : ℕ) (h after : Heap) → after.objects
+    ≡ changed (after_release bases) h.objects
     → lists bases base ≡ false → IsObject h base → IsObject after base
 stays-object bases base h after same out object = (
   left,

@@ -98,7 +98,8 @@ apart-partner : (h : Heap) (base : ℕ) (object : StoredObject) → IsLinked h �
     → object.link ≢ 0 → object.link ≡ base → ⊥
 apart-partner h base object linked begins some same =
     let p = partner-linked h base object linked begins some in
-    let one = begins_same h.objects base p.partner object (subst (λ (n : ℕ). Begins h.objects n p.partner) same p.begins) begins in
+    let one = begins_same h.objects base p.partner object
+    (subst (λ (n : ℕ). Begins h.objects n p.partner) same p.begins) begins in
     p.one_weak (ap (λ (o : StoredObject). is_weak o.kind) one)
 
 -- what goes has lost its partner, and all but the objects is as it was

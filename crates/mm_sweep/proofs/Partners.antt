@@ -63,7 +63,8 @@ pub named-linked : (h : Heap) (base : ℕ) (object : StoredObject) (at : ℕ) (o
     → Begins h.objects base object → base ≢ 0 → Begins h.objects at other → other.link ≡ base → IsLinkTo object at
 named-linked h base object at other linked begins some there e =
     let p = partner-linked h at other linked there (λ zero. some (sym e ∙ zero)) in
-    let one = begins_same h.objects base p.partner object (subst (λ (n : ℕ). Begins h.objects n p.partner) e p.begins) begins in
+    let one = begins_same h.objects base p.partner object
+    (subst (λ (n : ℕ). Begins h.objects n p.partner) e p.begins) begins in
     subst (λ (o : StoredObject). IsLinkTo o at) one p.back
 
 -- a weak object has no weak object, nor has an object without a link

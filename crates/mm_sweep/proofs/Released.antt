@@ -45,7 +45,8 @@ after_release-twice bases more base object =
 
 -- one release after another
 pub released-twice : (bases more : List ℕ) (objects : StoredObjects)
-    → changed (after_release more) (changed (after_release bases) objects) ≡ changed (after_release (bases ++ more)) objects
+    → changed (after_release more) (changed (after_release bases) objects)
+    ≡ changed (after_release (bases ++ more)) objects
 released-twice bases more objects =
     changed-changed (after_release more) (after_release bases) objects
     ∙ changed-alike _ (after_release (bases ++ more)) (after_release-twice bases more) objects
@@ -55,7 +56,8 @@ released-none objects = changed-same (after_release []) (λ base object. refl) o
 
 -- what is seen of it
 partner-released : (bases : List ℕ) (link : ℕ) (none cut : Bool) → lists bases link ≡ cut
-    → (if cut then None else (if none then None else Some link)) ≡ unless_listed bases (if none then None else Some link)
+    → (if cut then None else (if none then None else Some link))
+    ≡ unless_listed bases (if none then None else Some link)
 partner-released bases link true true e = refl
 partner-released bases link true false e = refl
 partner-released bases link false cut e = ap (λ (b : Bool). if b then None else Some link) (sym e)
@@ -66,10 +68,12 @@ view-cut true object = refl
 view-cut false object = refl
 
 seen-released : (bases : List ℕ) (base : ℕ) (object : StoredObject)
-    → option_map view_of_stored (after_release bases base object) ≡ view_after_release bases base (view_of_stored object)
+    → option_map view_of_stored (after_release bases base object) ≡ view_after_release bases base
+    (view_of_stored object)
 seen-released bases base object =
     gone (lists bases base)
-    ∙ ap (λ (partner : Option ℕ). if lists bases base then None else Some (record (view_of_stored object) { partner = partner }))
+    ∙ ap (λ (partner : Option ℕ). if lists bases base then None else Some
+    (record (view_of_stored object) { partner = partner }))
     (partner-released bases object.link (object.link == 0) (lists bases object.link) refl)
   where
     gone : (b : Bool) → option_map view_of_stored (after_with b (lists bases object.link) object)

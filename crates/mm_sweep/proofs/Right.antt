@@ -30,13 +30,15 @@ module _ (bases : List ℕ) (objects after : StoredObjects) (same : after ≡ ch
           → IsKeptAs bases objects base now
       split from true e =
           let gone : ◌≡◌ {A = Option StoredObject} None (Some now) =
-          sym (ap (λ (b : Bool). if b then None else Some (if lists bases from.value.link then unlinked from.value else from.value)) e)
+          sym (ap (λ (b : Bool). if b then None else Some
+          (if lists bases from.value.link then unlinked from.value else from.value)) e)
           ∙ from.is in
           absurd (cc)
       split from false e =
           let both : ◌≡◌ {A = Option StoredObject}
           (Some (if lists bases from.value.link then unlinked from.value else from.value)) (Some now) =
-          sym (ap (λ (b : Bool). if b then None else Some (if lists bases from.value.link then unlinked from.value else from.value)) e)
+          sym (ap (λ (b : Bool). if b then None else Some
+          (if lists bases from.value.link then unlinked from.value else from.value)) e)
           ∙ from.is in
           record { was = from.value; begins = from.begins; out = e; is = own both }
         where
@@ -56,7 +58,8 @@ pub either-kept : (P : StoredObject → Type 0) (cut : Bool) (object : StoredObj
 either-kept P true object own other = other
 either-kept P false object own other = own
 
-pub kept-composite : (cut : Bool) (object : StoredObject) → (if cut then unlinked object else object).composite ≡ object.composite
+pub kept-composite : (cut : Bool) (object : StoredObject) → (if cut then unlinked object else object).composite
+    ≡ object.composite
 kept-composite true object = refl
 kept-composite false object = refl
 

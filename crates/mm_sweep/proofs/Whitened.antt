@@ -33,7 +33,8 @@ views_from-whitened low [] = refl
 views_from-whitened low (None ∷ objects) =
     ap (λ (vs : ObjectsByBase). None ∷ vs) (views_from-whitened (low + 16) objects)
 views_from-whitened low (Some object ∷ objects) =
-    ap (λ (vs : ObjectsByBase). Some (view_of_stored (white_object object)) ∷ vs) (views_from-whitened (low + 16) objects)
+    ap (λ (vs : ObjectsByBase). Some (view_of_stored (white_object object)) ∷ vs)
+    (views_from-whitened (low + 16) objects)
 
 pub views-whitened : (objects : StoredObjects)
     → views_of (whitened objects) ≡ changed (with_colour White) (views_of objects)
@@ -50,7 +51,8 @@ counts_at-whitened : (bases : List ℕ) (objects : StoredObjects) (outside : ℕ
     ≡ count_at (views_of (without_dead bases objects)) outside base
 counts_at-whitened bases objects outside base =
     let white : ℕ → StoredObject → Option StoredObject = λ at object. unless_dead bases at (white_object object) in
-    ap (λ (os : StoredObjects). count_at (views_of os) outside base) (changed-map white_object (unless_dead bases) objects)
+    ap (λ (os : StoredObjects). count_at (views_of os) outside base)
+    (changed-map white_object (unless_dead bases) objects)
     ∙ ap (λ (n : ℕ). n + outside base)
     (references-alike white (unless_dead bases) (λ at object. told-white (lists bases at) object) objects base)
 
@@ -125,7 +127,8 @@ right-whitened table h right =
       entered = λ base now begins listed.
           let w = whitened-begins h.objects base now begins in
           ap (λ (word : ℕ). slice_get table.entries (composite_in word).place) w.composite
-          ∙ right.entered base w.was w.begins (sym (ap (λ (word : ℕ). (composite_in word).listed) w.composite) ∙ listed);
+          ∙ right.entered base w.was w.begins (sym (ap (λ (word : ℕ). (composite_in word).listed) w.composite)
+          ∙ listed);
       entries = λ place base is.
           let e = right.entries place base is in
           record {
@@ -150,7 +153,8 @@ keeps-whitened before middle keeps =
           let k = keeps.back base w.was w.begins in (
             k.0,
             w.was.colour,
-            subst (λ (o : StoredObject). Begins before base (record o { composite = k.0; colour = w.was.colour })) (sym w.is) k.1,
+            subst (λ (o : StoredObject). Begins before base (record o { composite = k.0; colour = w.was.colour }))
+                (sym w.is) k.1,
           );
     }
 

@@ -49,8 +49,10 @@ white-more h from base bases are next =
       ascending = ascending-push bases from base are.ascending are.below next.reached;
       only =
           each_push
-          (λ b. (object : ObjectView) × Begins (views_of h.objects) b object × IsWhiteAt (views_of h.objects) b) bases base
-          are.only (view_of_stored next.object, begins, record { object = view_of_stored next.object; begins = begins; white = next.is });
+          (λ b. (object : ObjectView) × Begins (views_of h.objects) b object × IsWhiteAt (views_of h.objects) b)
+          bases base
+          are.only
+          (view_of_stored next.object, begins, white);
       below =
           each_push (λ b. b < base + 1) bases base
           (each_weaken bases (λ b under. let reached = next.reached in omega arith) are.below) (omega arith);
@@ -60,13 +62,17 @@ white-more h from base bases are next =
             | inl before ↦ or-left (lists bases b) (lists (base ∷ []) b) (are.all b object there white before)
             | inr after ↦
                 let s = seen_begins view_of_stored h.objects b white.object white.begins in
-                let least = next.least b s.value s.begins (ap (λ (v : ObjectView). v.colour) s.is ∙ white.white) after in
+                let least = next.least b s.value s.begins
+                (ap (λ (v : ObjectView). v.colour) s.is ∙ white.white) after in
                 or-right (lists bases b) (lists (base ∷ []) b) (lists_one-same base b (omega arith))
           ];
     }
   where
     begins : Begins (views_of h.objects) base (view_of_stored next.object)
     begins = begins_seen view_of_stored h.objects base next.object next.begins
+
+    white : IsWhiteAt (views_of h.objects) base
+    white = record { object = view_of_stored next.object; begins = begins; white = next.is }
 
 pub white-all : (h : Heap) (from : ℕ) (bases : List ℕ) → AreWhiteBelow (views_of h.objects) from bases
     → NoneOfFrom h White from → AreBasesAt (views_of h.objects) (IsWhiteAt (views_of h.objects)) bases

@@ -25,7 +25,8 @@ after_release bases base object =
 
 -- the words that lay in no object are as they were
 abbrev pub KeepsRaw : List (Option ℕ) → List (Option ℕ) → Type 0
-KeepsRaw before after = (place word : ℕ) → slice_get before place ≡ Some (Some word) → slice_get after place ≡ Some (Some word)
+KeepsRaw before after = (place word : ℕ) → slice_get before place ≡ Some (Some word) → slice_get after place
+    ≡ Some (Some word)
 
 -- the lines of the finalizers of the objects at these bases
 abbrev pub final_lines_at : ObjectsByBase → List ℕ → List Line
@@ -53,6 +54,7 @@ pub record Frees (bases : List ℕ) (before after : Heap) (pages_before pages_af
   pub pages_rest : pages_after ≡ record pages_before { parked = pages_after.parked }
   pub apart : (runs : List ℕ) → HaveNoCommonRun before.runs runs → HaveNoCommonRun after.runs runs
   -- runs that another family has parked stay parked
-  pub others : (runs : List ℕ) → HaveNoCommonRun before.runs runs → AreParked runs pages_before → AreParked runs pages_after
+  pub others : (runs : List ℕ) → HaveNoCommonRun before.runs runs → AreParked runs pages_before
+      → AreParked runs pages_after
   pub all_parked : (others : List ℕ) → AreAllParked before.runs others pages_before
       → AreAllParked after.runs others pages_after

@@ -22,7 +22,8 @@ loop-i-init g c =
 pub run_finalizer-requires-clause-object : goal.run_finalizer-requires-clause-object
 run_finalizer-requires-clause-object g c =
     subst (IsObject c.args.heap.now) (sym c.get.ensures)
-    (each_at (IsObject c.args.heap.now) c.args.dead.now.words c.args.k c.loop-i.i c.requires.objects (omega arith) (omega arith))
+    (each_at (IsObject c.args.heap.now) c.args.dead.now.words c.args.k c.loop-i.i c.requires.objects (omega arith)
+    (omega arith))
 
 pub loop-i-preserved : goal.loop-i-preserved
 loop-i-preserved g c =
@@ -35,7 +36,8 @@ loop-i-preserved g c =
     record {
       written =
           subst
-          (λ (bytes : List ℕ). Writes (g.J.Finalizer.kept c.args.journal.now) (g.J.Finalizer.is_broken c.args.journal.now)
+          (λ (bytes : List ℕ). Writes (g.J.Finalizer.kept c.args.journal.now)
+          (g.J.Finalizer.is_broken c.args.journal.now)
           (g.J.Finalizer.kept c.run_finalizer.new.journal) (g.J.Finalizer.is_broken c.run_finalizer.new.journal) bytes)
           (final_lines-next objects words i within)
           (writes-append (spelling_of (final_lines_at objects (take i words)))

@@ -50,10 +50,12 @@ loop-i-preserved g c =
     record {
       written =
           subst
-          (λ (bytes : List ℕ). Writes (g.J.Finalizer.kept c.args.journal.now) (g.J.Finalizer.is_broken c.args.journal.now)
+          (λ (bytes : List ℕ). Writes (g.J.Finalizer.kept c.args.journal.now)
+          (g.J.Finalizer.is_broken c.args.journal.now)
           (g.J.Finalizer.kept c.free_object.new.journal) (g.J.Finalizer.is_broken c.free_object.new.journal) bytes)
           (free_lines-next words i within)
-          (writes-append (spelling_of (map lines.Free (take i words))) (spelling_of (lines.Free (slice_index words i) ∷ []))
+          (writes-append (spelling_of (map lines.Free (take i words)))
+          (spelling_of (lines.Free (slice_index words i) ∷ []))
           c.loop-i.invariant.written
           (subst
           (λ (base : ℕ). Writes (g.J.Finalizer.kept c.loop-i.journal) (g.J.Finalizer.is_broken c.loop-i.journal)
@@ -64,7 +66,8 @@ loop-i-preserved g c =
           c.loop-i.invariant.kept c.free_object.ensures.kept;
       frees =
           subst
-          (λ (bases : List ℕ). Frees bases c.args.heap.now c.free_object.new.heap c.args.pages.now c.free_object.new.pages)
+          (λ (bases : List ℕ). Frees bases c.args.heap.now c.free_object.new.heap c.args.pages.now
+          c.free_object.new.pages)
           (sym (take-next words i within))
           (frees-more (take i words) (slice_index words i ∷ []) c.args.heap.now c.loop-i.heap c.free_object.new.heap
           c.args.pages.now c.loop-i.pages c.free_object.new.pages c.loop-i.invariant.frees
@@ -78,5 +81,6 @@ loop-i-preserved g c =
           let same = ap (λ (p : Pages). p.pages) c.loop-i.invariant.frees.pages_rest in
           one_more c.args.steps.now c.loop-i.steps c.free_object.new.steps (9 + 7 * digits) i
           (c.loop-i.invariant.cost digits few)
-          (let one = c.free_object.ensures.cost digits (subst (λ (n : ℕ). n < 2 ^ digits) (sym same) few) in omega arith);
+          (let one = c.free_object.ensures.cost digits (subst (λ (n : ℕ). n < 2 ^ digits)
+          (sym same) few) in omega arith);
     }

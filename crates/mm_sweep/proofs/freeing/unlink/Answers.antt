@@ -95,7 +95,8 @@ returns-in_default g c =
     let o = c.requires.object in
     let told = ap (λ s. s.kind) (c.shape.ensures.shape o.0 o.1) in
     let kind = ap is_weak (sym told) ∙ other_kind c.shape.result.kind c.in_default.not-Weak in
-    let is = cleared c.args.heap.now c.clear_for.new.heap c.args.base o.0 c.requires.linked c.shape.ensures.sound o.1 kind
+    let is = cleared c.args.heap.now c.clear_for.new.heap c.args.base o.0 c.requires.linked c.shape.ensures.sound o.1
+    kind
     c.clear_for.ensures.cleared c.clear_for.ensures.alone in
     record {
       objects = is.objects;

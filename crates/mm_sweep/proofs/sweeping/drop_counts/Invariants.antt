@@ -19,5 +19,6 @@ invariant-loop-i g l =
       unpinned : NonePinned l.fn.heap.objects → NonePinned l.heap.objects;
       right : IsRight l.count l.heap;
       sound : IsSound l.heap;
-      cost : l.steps ≤ l.fn.steps + 2 * l.i + 10 * counted_slots_of (views_of l.fn.heap.objects) (take l.i l.dead.words);
+      cost : l.steps ≤ l.fn.steps + 2 * l.i + 10 * counted_slots_of (views_of l.fn.heap.objects)
+          (take l.i l.dead.words);
     }

@@ -41,7 +41,8 @@ pub returns-in_default : goal.returns-in_default
 returns-in_default g c =
     let o = c.requires.object in
     let told = ap (λ s. s.kind) (c.shape.ensures.shape o.0 o.1) in
-    let kind = subst (λ k. IsTrue (not (is_counted k))) told (other_kind c.shape.result.kind c.in_default.not-Counted) in
+    let kind = subst (λ k. IsTrue (not (is_counted k))) told
+    (other_kind c.shape.result.kind c.in_default.not-Counted) in
     let none = (c.requires.right.spelled c.args.base o.0 o.1).other kind in
     let leaves = leaves-other c.args.heap.now.objects c.args.base o.0 o.1 none in
     record {
