@@ -1,0 +1,16 @@
+pub mod Bases
+pub mod Changed
+pub mod CountedWords
+pub mod CountsLeft
+pub mod Cuts
+pub mod Dropping
+pub mod Erased
+pub mod Finals
+pub mod Freed
+pub mod Leaving
+pub mod Parted
+pub mod Partners
+pub mod Released
+pub mod Right
+pub mod Whitened
+pub mod Whites
