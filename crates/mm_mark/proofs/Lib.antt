@@ -1,0 +1,4 @@
+pub mod Barred
+pub mod Grayed
+pub mod Shaded
+pub mod Told
