@@ -1,4 +1,10 @@
+pub mod Advancing
 pub mod Barred
+pub mod Chosen
+pub mod Drained
 pub mod Grayed
+pub mod PartsDone
+pub mod Potential
+pub mod Reading
 pub mod Shaded
 pub mod Told

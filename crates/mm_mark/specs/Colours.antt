@@ -1,6 +1,7 @@
 -- What marking changes of a heap.
-use Rattle.std.specs.Prelude.{◌≡◌, ℕ, List, [], ◌∷◌}
+use Rattle.std.specs.Prelude.{◌≡◌, ◌≢◌, ℕ, List, [], ◌∷◌}
 use Rattle.mm_model.specs.declared.object.Colour.{Colour}
+use Rattle.mm_model.specs.declared.object.Colour.TheVariants.{Gray}
 use Rattle.mm_model.specs.ByBase.{Begins}
 use Rattle.mm_model.specs.SetsByBase.{with_grayed_objects}
 use Rattle.mm_object.specs.Object.{StoredObject, views_of}
@@ -24,3 +25,7 @@ pub record HasColour (h : Heap) (base : ℕ) (colour : Colour) : Type 0 where
 
 abbrev pub BeginsNone : Heap → ℕ → Type 0
 BeginsNone h base = (object : StoredObject) → Begins h.objects base object → ⊥
+
+-- no gray object begins there
+abbrev pub IsNoneGrayAt : Heap → ℕ → Type 0
+IsNoneGrayAt h base = (object : StoredObject) → Begins h.objects base object → object.colour ≢ Gray

@@ -1,2 +1,4 @@
 pub mod Colours
+pub mod Draining
 pub mod Marker
+pub mod Parts

@@ -1,11 +1,13 @@
 // A marker: its queue, and how far its cycle has come.
-ghost use Rattle.std.specs.Prelude.{◌≡◌, ◌≤◌, length, true, false, [], None};
+ghost use Rattle.std.specs.Prelude.{◌≡◌, ◌+◌, ◌≤◌, ◌<◌, length, true, false, [], None, slice_index, drop};
 ghost use Rattle.mm_words.specs.Location.{Location, location_of};
 ghost use Rattle.mm_mark.specs.Marker.{idle};
 
 use mm_roots::Stack;
+use mm_steps::Steps;
 use mm_words::Words;
 use std::marker::Model;
+use std::sync::ledger::Ledger;
 
 /// An object that is scanned up to a slot, and not to its end.
 #[derive(Clone, Copy, Debug, PartialEq, Eq)]
@@ -71,5 +73,17 @@ impl Marker {
         ensures { result ≡ self.now.running }
     {
         self.running
+    }
+
+    /// Takes the newest entry off the queue, which isn't empty.
+    pub(crate) fn take<L: Ledger>(&mut self, steps: &mut Steps<L>) -> u32
+        requires { 0 < length self.old.queue }
+        ensures entry { result ≡ slice_index self.old.queue 0 }
+        ensures rest { self.new ≡ record self.old { queue = drop 1 self.old.queue } }
+        ensures cost { steps.new ≡ steps.old + 1 }
+    {
+        let base = self.queue.cell(0, steps);
+        self.queue.pop(1);
+        base
     }
 }

@@ -1,0 +1,8 @@
+use Rattle.mm_mark.specs.Marker.{marking}
+use Rattle.mm_mark.proofs.PartsDone.{part-in_views}
+use Rattle.mm_mark.proofs.marker.Marker.scan_part.Goals as goal
+
+pub returns-clause-part : goal.returns-clause-part
+returns-clause-part g c =
+    part-in_views _ _ (marking c.args.self.now c.args.heap.now) (marking c.scan_next.new.self c.scan_next.new.heap)
+    c.scan_next.result c.scan_next.ensures.part
