@@ -2,9 +2,11 @@ pub mod Advancing
 pub mod Barred
 pub mod Chosen
 pub mod Drained
+pub mod Forgotten
 pub mod Grayed
 pub mod PartsDone
 pub mod Potential
 pub mod Reading
 pub mod Shaded
+pub mod Tidy
 pub mod Told

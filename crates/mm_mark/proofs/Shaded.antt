@@ -149,10 +149,10 @@ module _ (before after : Heap) (word base : ℕ) (s : Shades before after word b
           subst (λ (m : Marker). IsKnown m b) (sym e) (IsKnown.Is_partly_scanned p f at)
       still b (IsNoted.Is_newest e) (IsKnown.Is_left_out f) =
           subst (λ (m : Marker). IsKnown m b) (sym e) (IsKnown.Is_left_out f)
-      still b (IsNoted.Is_left_out e) k = subst (λ (m : Marker). IsKnown m b) (sym e) (IsKnown.Is_left_out refl)
+      still b (IsNoted.Is_left_out full e) k = subst (λ (m : Marker). IsKnown m b) (sym e) (IsKnown.Is_left_out refl)
       now : (b : ℕ) → b ≡ base → IsNoted old new base → IsKnown new b
       now b e (IsNoted.Is_newest f) = subst (λ (m : Marker). IsKnown m b) (sym f) (IsKnown.Is_queued (first b (eq-eqb base b (sym e))))
-      now b e (IsNoted.Is_left_out f) = subst (λ (m : Marker). IsKnown m b) (sym f) (IsKnown.Is_left_out refl)
+      now b e (IsNoted.Is_left_out full f) = subst (λ (m : Marker). IsKnown m b) (sym f) (IsKnown.Is_left_out refl)
       known : (b : ℕ) (view : ObjectView) → Begins (views_of after.objects) b view → view.colour ≡ Gray → IsKnown new b
       known b view begins is =
           let stored = viewed-stored after.objects b view begins in

@@ -2,3 +2,4 @@ pub mod Colours
 pub mod Draining
 pub mod Marker
 pub mod Parts
+pub mod Stale

@@ -117,10 +117,11 @@ idle location =
       partly = None;
     }
 
--- a base is the newest entry of the queue now, or an overflow is noted
+-- a base is the newest entry of the queue now, or the queue is full and an overflow is noted
 pub data IsNoted (before after : Marker) (base : ℕ) : Type 0 where
   Is_newest : after ≡ record before { queue = base ∷ before.queue } → IsNoted before after base
-  Is_left_out : after ≡ record before { overflowed = true } → IsNoted before after base
+  Is_left_out : length before.queue ≡ before.room → after ≡ record before { overflowed = true }
+      → IsNoted before after base
 
 -- a cycle runs from now on, and nothing is scanned in part
 abbrev pub HasBegun : Marker → Marker → Type 0

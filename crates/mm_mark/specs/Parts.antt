@@ -1,5 +1,5 @@
 -- One part of the scan of a gray object: which object's turn it is, and what the part does.
-use Rattle.std.specs.Prelude.{◌≡◌, ◌≢◌, ◌+◌, ◌≤◌, ◌<◌, ℕ, IsTrue, List, length, take, drop, Option, Some, None}
+use Rattle.std.specs.Prelude.{◌≡◌, ◌≢◌, ◌+◌, ◌≤◌, ◌<◌, ℕ, IsTrue, List, length, take, drop, Option, Some, None, IfSome}
 use Rattle.mm_model.specs.declared.object.Colour.TheVariants.{Gray, Black}
 use Rattle.mm_model.specs.declared.object.Part.{Part}
 use Rattle.mm_model.specs.ByBase.{Begins, with_entry}
@@ -9,7 +9,7 @@ use Rattle.mm_model.specs.View.{PartlyScannedView}
 use Rattle.mm_model.specs.ViewStep.{slots_done_of, may_go_on}
 use Rattle.mm_object.specs.Object.{views_of}
 use Rattle.mm_object.specs.Heap.{Heap}
-use Rattle.mm_mark.specs.Marker.{Marker, Marking, IsKnown}
+use Rattle.mm_mark.specs.Marker.{Marker, Marking, IsKnown, IsUnderScan}
 use Rattle.mm_mark.specs.Colours.{HasColour}
 
 -- no object is gray
@@ -76,3 +76,19 @@ pub data IsEnded (before : Marking) (to : PartlyScannedView) (count : ℕ) (afte
       → after.marker.partly ≡ None → IsEnded before to count after
   Is_under_scan : to.slots_done ≢ count → after.objects ≡ before.objects → after.marker.partly ≡ Some to
       → IsEnded before to count after
+
+-- an object is under scan still, or none begins at its base any more
+pub data IsUnderScanOrGone (objects : ObjectsByBase) (partly : PartlyScannedView) : Type 0 where
+  Is_there : IsUnderScan objects partly → IsUnderScanOrGone objects partly
+  Is_gone : ((object : ObjectView) → Begins objects partly.base object → ⊥) → IsUnderScanOrGone objects partly
+
+-- what was scanned in part is gone
+pub record IsFreed (marker : Marker) (objects : ObjectsByBase) : Type 0 where
+  pub partly : PartlyScannedView
+  pub is : marker.partly ≡ Some partly
+  pub gone : (object : ObjectView) → Begins objects partly.base object → ⊥
+
+-- nothing is scanned in part any more if that object is gone, and else the marker is as it was
+pub data HasForgotten (before after : Marker) (objects : ObjectsByBase) : Type 0 where
+  Forgets : IsFreed before objects → after ≡ record before { partly = None } → HasForgotten before after objects
+  Keeps : IfSome before.partly (IsUnderScan objects) → after ≡ before → HasForgotten before after objects

@@ -31,6 +31,17 @@ pub(crate) fn colour_at<L: Ledger>(heap: &Heap, base: u32, steps: &mut Steps<L>)
     }
 }
 
+/// Whether no object begins there.
+pub(crate) fn is_free_at<L: Ledger>(heap: &Heap, base: u32, steps: &mut Steps<L>) -> bool
+    ensures free { MatchBool result (BeginsNone heap.now base) (IsObject heap.now base) }
+    ensures cost { steps.new ≡ steps.old + 1 }
+{
+    match colour_at(heap, base, steps) {
+        Some(_) => false,
+        None => true,
+    }
+}
+
 /// Whether the object that begins there is black.
 pub(crate) fn is_black_at<L: Ledger>(heap: &Heap, base: u32, steps: &mut Steps<L>) -> bool
     requires { IsObject heap.now base }

@@ -1,11 +1,14 @@
 // The beginning and the end of a cycle.
-ghost use Rattle.std.specs.Prelude.{◌≡◌, ◌+◌, ◌*◌, ◌≤◌, ◌++◌, length, true, false};
+ghost use Rattle.std.specs.Prelude.{◌≡◌, ◌+◌, ◌*◌, ◌≤◌, ◌++◌, length, true, false, IfSome, MatchBool, None};
 ghost use Rattle.mm_model.specs.GoodView.{AreWhite};
 ghost use Rattle.mm_object.specs.Object.{views_of};
+ghost use Rattle.mm_object.specs.Heap.{IsSound};
 ghost use Rattle.mm_object.specs.Colours.{all_whitened};
-ghost use Rattle.mm_mark.specs.Marker.{IsSameButQueue, HasBegun, IsIdle, AreKnown, KeepsGray, HasStarted};
+ghost use Rattle.mm_mark.specs.Marker.{IsSameButQueue, HasBegun, IsIdle, AreKnown, KeepsGray, HasStarted, IsUnderScan};
+ghost use Rattle.mm_mark.specs.Parts.{IsUnderScanOrGone, IsFreed, HasForgotten};
 ghost use Rattle.mm_mark.specs.Colours.{IsGrayed};
 
+use crate::colours::is_free_at;
 use crate::marker::Marker;
 use mm_object::Heap;
 use mm_roots::Stack;
@@ -20,6 +23,7 @@ impl Marker {
         ensures grayed { IsGrayed heap.old heap.new (stack.now.words ++ area_words.now) }
         ensures runs { HasBegun self.old self.new }
         ensures keeps { KeepsGray self.new (views_of heap.new.objects) }
+        ensures sound { IsSound heap.old → IsSound heap.new }
         ensures cost { steps.new ≤ steps.old + 16 * (1 + length stack.now.words + length area_words.now) }
     {
         self.start();
@@ -33,6 +37,7 @@ impl Marker {
         ensures grayed { IsGrayed heap.old heap.new (stack.now.words ++ area_words.now) }
         ensures cycle { IsSameButQueue self.old self.new }
         ensures keeps { KeepsGray self.new (views_of heap.new.objects) }
+        ensures sound { IsSound heap.old → IsSound heap.new }
         ensures cost { steps.new ≤ steps.old + 16 * (1 + length stack.now.words + length area_words.now) }
     {
         self.shade_roots(heap, stack, area_words, steps);
@@ -43,6 +48,7 @@ impl Marker {
         requires runs { self.old.running ≡ true }
         ensures white { heap.new ≡ all_whitened heap.old }
         ensures idle { IsIdle self.old self.new }
+        ensures sound { IsSound heap.new }
         ensures cost { steps.new ≡ steps.old + heap.old.pages }
     {
         heap.whiten(steps);
@@ -74,9 +80,37 @@ impl Marker {
         ensures grayed { IsGrayed heap.old heap.new (stack.now.words ++ area_words.now) }
         ensures cycle { IsSameButQueue self.old self.new }
         ensures known { AreKnown self.new (views_of heap.new.objects) }
+        ensures sound { IsSound heap.old → IsSound heap.new }
         ensures cost { steps.new ≡ steps.old + 2 * length stack.now.words + length area_words.now }
     {
         self.shade_words(heap, stack.words(steps), steps);
         self.shade_words(heap, area_words, steps);
+    }
+
+    /// Forgets the object that is scanned in part if it isn't there any more, after a phase freed objects.
+    pub fn forget_freed<L: Ledger>(&mut self, heap: &Heap, steps: &mut Steps<L>)
+        requires runs { self.old.running ≡ true }
+        requires known { AreKnown self.old (views_of heap.now.objects) }
+        requires partly { IfSome self.old.partly (IsUnderScanOrGone (views_of heap.now.objects)) }
+        ensures forgotten { HasForgotten self.old self.new (views_of heap.now.objects) }
+        ensures keeps { KeepsGray self.new (views_of heap.now.objects) }
+        ensures cost { steps.new ≤ steps.old + 1 }
+    {
+        if self.is_freed(heap, steps) {
+            self.partly = None;
+        }
+    }
+
+    /// Whether the object that was scanned in part is gone.
+    fn is_freed<L: Ledger>(&self, heap: &Heap, steps: &mut Steps<L>) -> bool
+        requires { IfSome self.now.partly (IsUnderScanOrGone (views_of heap.now.objects)) }
+        ensures freed { MatchBool result (IsFreed self.now (views_of heap.now.objects))
+            (IfSome self.now.partly (IsUnderScan (views_of heap.now.objects))) }
+        ensures cost { steps.new ≤ steps.old + 1 }
+    {
+        match self.partly {
+            Some(partly) => is_free_at(heap, partly.base, steps),
+            None => false,
+        }
     }
 }

@@ -1,6 +1,7 @@
 // Scanning to the end.
 ghost use Rattle.std.specs.Prelude.{◌≡◌, ◌+◌, ◌*◌, ◌≤◌, length, true, IfSome, None};
 ghost use Rattle.mm_object.specs.Object.{views_of};
+ghost use Rattle.mm_object.specs.Heap.{IsSound};
 ghost use Rattle.mm_mark.specs.Marker.{KeepsGray};
 ghost use Rattle.mm_mark.specs.Colours.{IsSameButColours};
 ghost use Rattle.mm_mark.specs.Parts.{IsSameCycle, NoneIsGray};
@@ -22,6 +23,8 @@ impl Marker {
         ensures rest { IsSameButColours heap.old heap.new }
         ensures cycle { IsSameCycle self.old self.new }
         ensures partly { self.new.partly ≡ None }
+        ensures keeps { KeepsGray self.new (views_of heap.new.objects) }
+        ensures sound { IsSound heap.old → IsSound heap.new }
     {
         'parts: while self.scan_next(heap, steps).is_some() {}
     }

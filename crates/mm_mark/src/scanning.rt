@@ -36,6 +36,7 @@ impl Marker {
         ensures rest { IsSameButColours heap.old heap.new }
         ensures cycle { IsSameCycle self.old self.new }
         ensures keeps { KeepsGray self.new (views_of heap.new.objects) }
+        ensures sound { IsSound heap.old → IsSound heap.new }
     {
         self.scan_next(heap, steps)
     }
@@ -49,6 +50,7 @@ impl Marker {
         ensures rest { IsSameButColours heap.old heap.new }
         ensures cycle { IsSameCycle self.old self.new }
         ensures keeps { KeepsGray self.new (views_of heap.new.objects) }
+        ensures sound { IsSound heap.old → IsSound heap.new }
     {
         match self.choose(heap, steps) {
             Some(next) => Some(self.scan_from(heap, next, steps)),
@@ -71,6 +73,7 @@ impl Marker {
         ensures rest { IsSameButColours heap.old heap.new }
         ensures cycle { IsSameCycle self.old self.new }
         ensures known { AreKnown self.new (views_of heap.new.objects) }
+        ensures sound { IsSound heap.old → IsSound heap.new }
         ensures cost { steps.new ≤ steps.old + 2 + 2 * result.slots }
     {
         let count = scanned_count(heap, from.base, steps);
@@ -103,6 +106,7 @@ impl Marker {
             → IsGrayed heap.old heap.new (take (end - from.slots_done) (drop from.slots_done (scanned_words_of object))) }
         ensures cycle { IsSameButQueue self.old self.new }
         ensures known { AreKnown self.new (views_of heap.new.objects) }
+        ensures sound { IsSound heap.old → IsSound heap.new }
         ensures cost { steps.new ≡ steps.old + 2 * (end - from.slots_done) }
     {
         for s in from.slots_done..end {
@@ -120,6 +124,7 @@ impl Marker {
         ensures rest { IsSameButColours heap.old heap.new }
         ensures cycle { IsSameCycle self.old self.new }
         ensures known { AreKnown self.new (views_of heap.new.objects) }
+        ensures sound { IsSound heap.old → IsSound heap.new }
         ensures cost { steps.new ≤ steps.old + 1 }
     {
         if to.slots_done == count {

@@ -37,6 +37,7 @@ impl Marker {
         ensures grayed { IsGrayed heap.old heap.new words.now }
         ensures cycle { IsSameButQueue self.old self.new }
         ensures known { AreKnown self.new (views_of heap.new.objects) }
+        ensures sound { IsSound heap.old → IsSound heap.new }
         ensures cost { steps.new ≡ steps.old + length words.now }
     {
         for i in 0..words.len() {
@@ -67,6 +68,7 @@ impl Marker {
         ensures rest { IsSameButColours heap.old heap.new }
         ensures cycle { IsSameButQueue self.old self.new }
         ensures keeps { KeepsGray self.new (views_of heap.new.objects) }
+        ensures sound { IsSound heap.old → IsSound heap.new }
         ensures cost { steps.new ≤ steps.old + 8 }
     {
         if self.has_passed(heap, holder, s, steps) {

@@ -13,6 +13,7 @@ parts-init g c = record {
   draining = draining-begins (marking c.args.self.now c.args.heap.now) c.requires.done;
   keeps = c.requires.keeps;
   rest = refl;
+  sound = λ sound. sound;
   cycle = refl;
 }
 
@@ -33,6 +34,7 @@ parts-preserved g c =
           draining-goes_on (views_of c.args.heap.now.objects) now next part.0 part.1 c.parts.invariant.draining;
       keeps = c.scan_next.ensures.keeps;
       rest = c.scan_next.ensures.rest ∙ c.parts.invariant.rest;
+      sound = λ sound. c.scan_next.ensures.sound (c.parts.invariant.sound sound);
       cycle =
           cycle-then c.args.self.now c.parts.self c.scan_next.new.self c.parts.invariant.cycle c.scan_next.ensures.cycle;
     }
@@ -51,3 +53,9 @@ returns-clause-none g c =
     let next = marking c.scan_next.new.self c.scan_next.new.heap in
     let left = none-scanned _ now next c.scan_next.result (sym c.is_some.ensures ∙ c.parts-test.false) c.scan_next.ensures.part in
     subst (λ (h : Heap). NoneIsGray (views_of h.objects)) (sym left.1) left.0
+
+pub returns-clause-sound : goal.returns-clause-sound
+returns-clause-sound g c = λ sound. c.scan_next.ensures.sound (c.parts.invariant.sound sound)
+
+pub returns-clause-rest : goal.returns-clause-rest
+returns-clause-rest g c = c.scan_next.ensures.rest ∙ c.parts.invariant.rest

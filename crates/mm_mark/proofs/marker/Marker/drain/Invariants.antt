@@ -1,5 +1,6 @@
 use Rattle.std.proofs.Common.{◌-◌}
 use Rattle.mm_object.specs.Object.{views_of}
+use Rattle.mm_object.specs.Heap.{IsSound}
 use Rattle.mm_mark.specs.Marker.{marking, KeepsGray}
 use Rattle.mm_mark.specs.Colours.{IsSameButColours}
 use Rattle.mm_mark.specs.Parts.{IsSameCycle}
@@ -12,6 +13,7 @@ invariant-parts g l = record {
   draining : IsDraining (views_of l.fn.heap.objects) (marking l.self l.heap);
   keeps : KeepsGray l.self (views_of l.heap.objects);
   rest : IsSameButColours l.fn.heap l.heap;
+  sound : IsSound l.fn.heap → IsSound l.heap;
   cycle : IsSameCycle l.fn.self l.self;
 }
 

@@ -17,6 +17,7 @@ loop-s-init g c =
           (sym none) (nothing-grayed c.args.heap.now);
       cycle = refl;
       known = c.requires.known;
+      sound = λ sound. sound;
       ticked = omega arith;
     }
 
@@ -47,6 +48,7 @@ loop-s-preserved g c = record {
       c.shade.ensures.grayed);
   cycle = queue-then c.args.self.now c.loop-s.self c.shade.new.self c.loop-s.invariant.cycle c.shade.ensures.cycle;
   known = c.shade.ensures.known;
+  sound = λ sound. c.shade.ensures.sound;
   ticked = omega (arith, c.shade.ensures.cost, c.slot_word-word.ensures.cost, c.loop-s.invariant.ticked);
 }
 

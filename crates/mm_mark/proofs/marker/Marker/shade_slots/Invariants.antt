@@ -2,6 +2,7 @@ use Rattle.std.proofs.Common.{◌≡◌, ◌+◌, ◌-◌, ◌*◌, take, drop, 
 use Rattle.mm_model.specs.ByBase.{Begins}
 use Rattle.mm_model.specs.ObjectView.{ObjectView, scanned_words_of}
 use Rattle.mm_object.specs.Object.{views_of}
+use Rattle.mm_object.specs.Heap.{IsSound}
 use Rattle.mm_mark.specs.Marker.{IsSameButQueue, AreKnown}
 use Rattle.mm_mark.specs.Colours.{IsGrayed}
 use Rattle.mm_mark.proofs.marker.Marker.shade_slots.Given as goal
@@ -12,5 +13,6 @@ invariant-loop-s g l = record {
       → IsGrayed l.fn.heap l.heap (take (l.s - l.from.slots_done) (drop l.from.slots_done (scanned_words_of object)));
   cycle : IsSameButQueue l.fn.self l.self;
   known : AreKnown l.self (views_of l.heap.objects);
+  sound : IsSound l.fn.heap → IsSound l.heap;
   ticked : l.steps ≡ l.fn.steps + 2 * (l.s - l.from.slots_done);
 }

@@ -10,6 +10,7 @@ loop-i-init g c = record {
   grayed = nothing-grayed c.args.heap.now;
   cycle = refl;
   known = c.requires;
+  sound = λ sound. sound;
   ticked = omega arith;
 }
 
@@ -25,6 +26,7 @@ loop-i-preserved g c = record {
       c.loop-i.invariant.grayed c.shade.ensures.grayed);
   cycle = queue-then c.args.self.now c.loop-i.self c.shade.new.self c.loop-i.invariant.cycle c.shade.ensures.cycle;
   known = c.shade.ensures.known;
+  sound = λ sound. c.shade.ensures.sound;
   ticked = omega (arith, c.shade.ensures.cost, c.loop-i.invariant.ticked);
 }
 

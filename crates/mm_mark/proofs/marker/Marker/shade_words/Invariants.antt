@@ -1,5 +1,6 @@
 use Rattle.std.proofs.Common.{◌≡◌, ◌+◌, take, length}
 use Rattle.mm_object.specs.Object.{views_of}
+use Rattle.mm_object.specs.Heap.{IsSound}
 use Rattle.mm_mark.specs.Marker.{IsSameButQueue, AreKnown}
 use Rattle.mm_mark.specs.Colours.{IsGrayed}
 use Rattle.mm_mark.proofs.marker.Marker.shade_words.Given as goal
@@ -9,5 +10,6 @@ invariant-loop-i g l = record {
   grayed : IsGrayed l.fn.heap l.heap (take l.i l.words);
   cycle : IsSameButQueue l.fn.self l.self;
   known : AreKnown l.self (views_of l.heap.objects);
+  sound : IsSound l.fn.heap → IsSound l.heap;
   ticked : l.steps ≡ l.fn.steps + l.i;
 }
