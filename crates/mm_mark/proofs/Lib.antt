@@ -8,5 +8,6 @@ pub mod PartsDone
 pub mod Potential
 pub mod Reading
 pub mod Shaded
+pub mod Tidied
 pub mod Tidy
 pub mod Told

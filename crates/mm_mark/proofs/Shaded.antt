@@ -62,7 +62,7 @@ none-grayed h word none = record { grayed = same_entries _ _ at; rest = refl }
         ∙ sym (get-changed (grayed_at (word ∷ [])) (views_of h.objects) k)
 
 module _ (before after : Heap) (word base : ℕ) (s : Shades before after word base) where
-  abbrev gray : StoredObject
+  abbrev pub gray : StoredObject
   gray = record s.object { colour = Gray }
 
   abbrev grain : ℕ
@@ -82,7 +82,7 @@ module _ (before after : Heap) (word base : ℕ) (s : Shades before after word b
   other : (k : ℕ) → k ≢ grain → slice_get after.objects k ≡ slice_get before.objects k
   other k d = ap (λ os. slice_get os k) objects ∙ get-set_other before.objects grain k (Some gray) d
 
-  at_gray : Begins after.objects base gray
+  pub at_gray : Begins after.objects base gray
   at_gray = record { grain = grain; aligned = s.covers.begins.aligned; is = here }
 
   pub shaded-grayed : IsSound after → IsGrayed before after (word ∷ [])

@@ -295,8 +295,8 @@ module _ (old new : Marker) (objects : ObjectsByBase) (entry : ℕ) (none : old.
   -- and any other was
   pub dropped-stale : ((object : ObjectView) → Begins objects entry object → object.colour ≢ Gray)
       → stale_in objects new.queue + 1 ≡ stale_in objects old.queue
-  dropped-stale no =
-      let e = stale-first false (none-entry objects (length objects) entry distinct-queue.0 no) in omega (arith, e)
+  dropped-stale dark =
+      let e = stale-first false (none-entry objects (length objects) entry distinct-queue.0 dark) in omega (arith, e)
 
 -- What was scanned in part is black now.
 module _ (old : Marker) (objects : ObjectsByBase) (p : PartlyScannedView) (object : ObjectView)
@@ -308,12 +308,12 @@ module _ (old : Marker) (objects : ObjectsByBase) (p : PartlyScannedView) (objec
   abbrev blackened : ObjectsByBase
   blackened = with_entry p.base (Some black) objects
 
-  places : AreDistinctPlaces (length objects) (p.base ∷ old.queue)
-  places =
+  places-own : AreDistinctPlaces (length objects) (p.base ∷ old.queue)
+  places-own =
       subst (λ (o : Option PartlyScannedView). AreDistinctPlaces (length objects) (known_bases o old.queue)) is t.distinct
 
-  whites : (x : ℕ) (o : ObjectView) → Begins blackened x o → o.colour ≡ White → holds_base old.queue x ≡ false
-  whites x o there white =
+  whites-left : (x : ℕ) (o : ObjectView) → Begins blackened x o → o.colour ≡ White → holds_base old.queue x ≡ false
+  whites-left x o there white =
       let apart : x ≢ p.base = λ e.
       black_not_white (ap (λ (v : ObjectView). v.colour)
       (begins_same blackened p.base black o (entry-here objects p.base object black begins)
@@ -328,13 +328,13 @@ module _ (old : Marker) (objects : ObjectsByBase) (p : PartlyScannedView) (objec
       record {
         room = let room = t.room in omega arith;
         whole = t.whole;
-        distinct = subst (λ (n : ℕ). AreDistinctPlaces n old.queue) (sym size) places.2;
-        unwhite = whites;
+        distinct = subst (λ (n : ℕ). AreDistinctPlaces n old.queue) (sym size) places-own.2;
+        unwhite = whites-left;
       }
 
   pub blackened-stale : stale_in blackened old.queue ≡ stale_in objects old.queue
   blackened-stale =
-      stale-elsewhere objects (length objects) p.base (Some black) old.queue places.0 places.2 places.1
+      stale-elsewhere objects (length objects) p.base (Some black) old.queue places-own.0 places-own.2 places-own.1
 
 -- Another number of slots is done.
 pub moved-tidy : (old : Marker) (objects : ObjectsByBase) (base done slots : ℕ)

@@ -92,3 +92,8 @@ pub record IsFreed (marker : Marker) (objects : ObjectsByBase) : Type 0 where
 pub data HasForgotten (before after : Marker) (objects : ObjectsByBase) : Type 0 where
   Forgets : IsFreed before objects → after ≡ record before { partly = None } → HasForgotten before after objects
   Keeps : IfSome before.partly (IsUnderScan objects) → after ≡ before → HasForgotten before after objects
+
+-- the object at this base is the one that is scanned in part
+pub record IsOfPartly (partly : Option PartlyScannedView) (base : ℕ) : Type 0 where
+  pub done : ℕ
+  pub is : partly ≡ Some (record { base = base; slots_done = done })

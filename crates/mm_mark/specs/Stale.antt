@@ -70,3 +70,7 @@ pub record IsPaid (after : Marking) (steps bound : ℕ) : Type 0 where
 abbrev pub slots_of : Option Part → ℕ
 slots_of None = 0
 slots_of (Some part) = part.slots
+
+-- this object is the one that is scanned in part, and none of its slots is done
+abbrev pub with_partly_at : Marker → ℕ → Marker
+with_partly_at marker base = record marker { partly = Some (record { base = base; slots_done = 0 }) }

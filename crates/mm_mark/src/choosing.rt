@@ -3,7 +3,8 @@ ghost use Rattle.std.specs.Prelude.{◌≡◌, ◌+◌, ◌*◌, ◌≤◌, leng
 ghost use Rattle.std.specs.Option.{option_map};
 ghost use Rattle.mm_model.specs.declared.object.Colour.TheVariants.{Gray};
 ghost use Rattle.mm_object.specs.Object.{views_of};
-ghost use Rattle.mm_mark.specs.Marker.{view_of_partly, IsSameButQueue, AreKnown, KeepsGray};
+ghost use Rattle.mm_mark.specs.Marker.{view_of_partly, IsSameButQueue, AreKnown, KeepsGray, marking};
+ghost use Rattle.mm_mark.specs.Stale.{IsTidy, stale_of, with_partly_at};
 ghost use Rattle.mm_mark.specs.Colours.{HasColour};
 ghost use Rattle.mm_mark.specs.Parts.{NoneIsGray, IsTaken, IsChosen, IsSameCycle};
 
@@ -23,6 +24,10 @@ impl Marker {
         ensures partly { self.new.partly ≡ option_map view_of_partly result }
         ensures cycle { IsSameCycle self.old self.new }
         ensures known { AreKnown self.new (views_of heap.now.objects) }
+        ensures tidy { IsTidy (marking self.old heap.now) → IsTidy (marking self.new heap.now) }
+        ensures paid { IsTidy (marking self.old heap.now)
+            → steps.new + 8 * stale_of (marking self.new heap.now)
+            ≤ steps.old + 2 + 8 * stale_of (marking self.old heap.now) }
     {
         match self.partly {
             Some(partly) => Some(partly),
@@ -39,6 +44,10 @@ impl Marker {
         ensures partly { self.new.partly ≡ option_map view_of_partly result }
         ensures cycle { IsSameCycle self.old self.new }
         ensures known { AreKnown self.new (views_of heap.now.objects) }
+        ensures tidy { IsTidy (marking self.old heap.now) → IsTidy (marking self.new heap.now) }
+        ensures paid { IsTidy (marking self.old heap.now)
+            → steps.new + 8 * stale_of (marking self.new heap.now)
+            ≤ steps.old + 2 + 8 * stale_of (marking self.old heap.now) }
     {
         match self.next_base(heap, steps) {
             Some(base) => {
@@ -60,6 +69,11 @@ impl Marker {
         ensures base { MatchOption result (NoneIsGray (views_of heap.now.objects))
             (λ base. IsTaken heap.now self.new base) }
         ensures cycle { IsSameButQueue self.old self.new }
+        ensures tidy { IsTidy (marking self.old heap.now) → MatchOption result (IsTidy (marking self.new heap.now))
+            (λ base. IsTidy (marking (with_partly_at self.new base) heap.now)) }
+        ensures paid { IsTidy (marking self.old heap.now)
+            → steps.new + 8 * stale_of (marking self.new heap.now)
+            ≤ steps.old + 2 + 8 * stale_of (marking self.old heap.now) }
     {
         match self.next_queued(heap, steps) {
             Some(base) => Some(base),
@@ -69,10 +83,16 @@ impl Marker {
 
     /// Takes entries until a gray object begins at one.
     fn next_queued<L: Ledger>(&mut self, heap: &Heap, steps: &mut Steps<L>) -> Option<u32>
-        requires { AreKnown self.old (views_of heap.now.objects) }
+        requires none { self.old.partly ≡ None }
+        requires known { AreKnown self.old (views_of heap.now.objects) }
         ensures base { MatchOption result (AreKnown self.new (views_of heap.now.objects) × (self.new.queue ≡ []))
             (λ base. IsTaken heap.now self.new base) }
         ensures cycle { IsSameButQueue self.old self.new }
+        ensures tidy { IsTidy (marking self.old heap.now) → MatchOption result (IsTidy (marking self.new heap.now))
+            (λ base. IsTidy (marking (with_partly_at self.new base) heap.now)) }
+        ensures paid { IsTidy (marking self.old heap.now)
+            → steps.new + 8 * stale_of (marking self.new heap.now)
+            ≤ steps.old + 2 + 8 * stale_of (marking self.old heap.now) }
     {
         'entries: while self.queue.depth() > 0 {
             let base = self.take(steps);
@@ -91,6 +111,8 @@ impl Marker {
         ensures base { MatchOption result (NoneIsGray (views_of heap.now.objects))
             (λ base. IsTaken heap.now self.new base) }
         ensures cycle { IsSameButQueue self.old self.new }
+        ensures tidy { IsTidy (marking self.old heap.now)
+            → (result ≡ None) × (self.new ≡ self.old) × (steps.new ≡ steps.old) }
     {
         if !self.overflowed {
             return None;

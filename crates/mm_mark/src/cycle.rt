@@ -4,7 +4,8 @@ ghost use Rattle.mm_model.specs.GoodView.{AreWhite};
 ghost use Rattle.mm_object.specs.Object.{views_of};
 ghost use Rattle.mm_object.specs.Heap.{IsSound};
 ghost use Rattle.mm_object.specs.Colours.{all_whitened};
-ghost use Rattle.mm_mark.specs.Marker.{IsSameButQueue, HasBegun, IsIdle, AreKnown, KeepsGray, HasStarted, IsUnderScan};
+ghost use Rattle.mm_mark.specs.Marker.{IsSameButQueue, HasBegun, IsIdle, AreKnown, KeepsGray, HasStarted, IsUnderScan, marking};
+ghost use Rattle.mm_mark.specs.Stale.{HasFewStale, KeepsFewStale};
 ghost use Rattle.mm_mark.specs.Parts.{IsUnderScanOrGone, IsFreed, HasForgotten};
 ghost use Rattle.mm_mark.specs.Colours.{IsGrayed};
 
@@ -24,6 +25,7 @@ impl Marker {
         ensures runs { HasBegun self.old self.new }
         ensures keeps { KeepsGray self.new (views_of heap.new.objects) }
         ensures sound { IsSound heap.old → IsSound heap.new }
+        ensures few { length heap.old.objects ≤ self.old.room + 256 → HasFewStale (marking self.new heap.new) 0 }
         ensures cost { steps.new ≤ steps.old + 16 * (1 + length stack.now.words + length area_words.now) }
     {
         self.start();
@@ -38,6 +40,7 @@ impl Marker {
         ensures cycle { IsSameButQueue self.old self.new }
         ensures keeps { KeepsGray self.new (views_of heap.new.objects) }
         ensures sound { IsSound heap.old → IsSound heap.new }
+        ensures few { KeepsFewStale (marking self.old heap.old) (marking self.new heap.new) }
         ensures cost { steps.new ≤ steps.old + 16 * (1 + length stack.now.words + length area_words.now) }
     {
         self.shade_roots(heap, stack, area_words, steps);
@@ -81,6 +84,7 @@ impl Marker {
         ensures cycle { IsSameButQueue self.old self.new }
         ensures known { AreKnown self.new (views_of heap.new.objects) }
         ensures sound { IsSound heap.old → IsSound heap.new }
+        ensures few { KeepsFewStale (marking self.old heap.old) (marking self.new heap.new) }
         ensures cost { steps.new ≡ steps.old + 2 * length stack.now.words + length area_words.now }
     {
         self.shade_words(heap, stack.words(steps), steps);
@@ -94,6 +98,7 @@ impl Marker {
         requires partly { IfSome self.old.partly (IsUnderScanOrGone (views_of heap.now.objects)) }
         ensures forgotten { HasForgotten self.old self.new (views_of heap.now.objects) }
         ensures keeps { KeepsGray self.new (views_of heap.now.objects) }
+        ensures few { KeepsFewStale (marking self.old heap.now) (marking self.new heap.now) }
         ensures cost { steps.new ≤ steps.old + 1 }
     {
         if self.is_freed(heap, steps) {

@@ -1,5 +1,5 @@
 // Scanning a part of one object.
-ghost use Rattle.std.specs.Prelude.{◌≡◌, ◌+◌, ◌-◌, ◌*◌, ◌≤◌, length, true, Some, None, MatchOption, IfSome, min, take, drop};
+ghost use Rattle.std.specs.Prelude.{◌≡◌, ℕ, ◌+◌, ◌-◌, ◌*◌, ◌≤◌, length, true, Some, None, MatchOption, min, take, drop};
 ghost use Rattle.mm_model.specs.ByBase.{Begins};
 ghost use Rattle.mm_model.specs.declared.object.Colour.TheVariants.{Gray};
 ghost use Rattle.mm_model.specs.ObjectView.{ObjectView, scanned_words_of};
@@ -7,7 +7,8 @@ ghost use Rattle.mm_object.specs.Object.{StoredObject, view_of_stored, views_of}
 ghost use Rattle.mm_object.specs.Heap.{IsObject, IsSound};
 ghost use Rattle.mm_mark.specs.Marker.{view_of_partly, IsSameButQueue, AreKnown, KeepsGray, marking, IsPartDone, HasNoGray};
 ghost use Rattle.mm_mark.specs.Colours.{IsGrayed, IsSameButColours, HasColour};
-ghost use Rattle.mm_mark.specs.Parts.{NoneIsGray, IsScanned, IsAdvanced, part_words, part_end, IsSameCycle, IsEnded};
+ghost use Rattle.mm_mark.specs.Parts.{NoneIsGray, IsScanned, IsAdvanced, part_words, part_end, IsSameCycle, IsEnded, IsOfPartly};
+ghost use Rattle.mm_mark.specs.Stale.{IsTidy, HasFewStale, KeepsFewStale, IsPaid, stale_of, slots_of};
 
 use crate::colours::{scanned_count, slot_word};
 use crate::marker::{Marker, PartlyScanned};
@@ -37,6 +38,8 @@ impl Marker {
         ensures cycle { IsSameCycle self.old self.new }
         ensures keeps { KeepsGray self.new (views_of heap.new.objects) }
         ensures sound { IsSound heap.old → IsSound heap.new }
+        ensures few { (stale : ℕ) → HasFewStale (marking self.old heap.old) stale
+            → IsPaid (marking self.new heap.new) steps.new (steps.old + 16 * (1 + slots_of result) + 8 * stale) }
     {
         self.scan_next(heap, steps)
     }
@@ -51,6 +54,10 @@ impl Marker {
         ensures cycle { IsSameCycle self.old self.new }
         ensures keeps { KeepsGray self.new (views_of heap.new.objects) }
         ensures sound { IsSound heap.old → IsSound heap.new }
+        ensures tidy { IsTidy (marking self.old heap.old) → IsTidy (marking self.new heap.new) }
+        ensures paid { IsTidy (marking self.old heap.old)
+            → steps.new + 8 * stale_of (marking self.new heap.new)
+            ≤ steps.old + 4 + 2 * slots_of result + 8 * stale_of (marking self.old heap.old) }
     {
         match self.choose(heap, steps) {
             Some(next) => Some(self.scan_from(heap, next, steps)),
@@ -74,6 +81,7 @@ impl Marker {
         ensures cycle { IsSameCycle self.old self.new }
         ensures known { AreKnown self.new (views_of heap.new.objects) }
         ensures sound { IsSound heap.old → IsSound heap.new }
+        ensures few { KeepsFewStale (marking self.old heap.old) (marking self.new heap.new) }
         ensures cost { steps.new ≤ steps.old + 2 + 2 * result.slots }
     {
         let count = scanned_count(heap, from.base, steps);
@@ -107,6 +115,7 @@ impl Marker {
         ensures cycle { IsSameButQueue self.old self.new }
         ensures known { AreKnown self.new (views_of heap.new.objects) }
         ensures sound { IsSound heap.old → IsSound heap.new }
+        ensures few { KeepsFewStale (marking self.old heap.old) (marking self.new heap.new) }
         ensures cost { steps.new ≡ steps.old + 2 * (end - from.slots_done) }
     {
         for s in from.slots_done..end {
@@ -119,12 +128,13 @@ impl Marker {
     fn advance<L: Ledger>(&mut self, heap: &mut Heap, to: PartlyScanned, count: u32, steps: &mut Steps<L>)
         requires object { IsObject heap.old to.base }
         requires known { AreKnown self.old (views_of heap.old.objects) }
-        requires own { IfSome self.old.partly (λ partly. partly.base ≡ to.base) }
+        requires own { IsOfPartly self.old.partly to.base }
         ensures ended { IsEnded (marking self.old heap.old) (view_of_partly to) count (marking self.new heap.new) }
         ensures rest { IsSameButColours heap.old heap.new }
         ensures cycle { IsSameCycle self.old self.new }
         ensures known { AreKnown self.new (views_of heap.new.objects) }
         ensures sound { IsSound heap.old → IsSound heap.new }
+        ensures few { KeepsFewStale (marking self.old heap.old) (marking self.new heap.new) }
         ensures cost { steps.new ≤ steps.old + 1 }
     {
         if to.slots_done == count {

@@ -8,6 +8,7 @@ ghost use Rattle.mm_model.specs.ViewStore.{is_slot_done, view_barrier};
 ghost use Rattle.mm_object.specs.Object.{StoredObject, view_of_stored, views_of};
 ghost use Rattle.mm_object.specs.Heap.{HasSlot, IsSound};
 ghost use Rattle.mm_mark.specs.Marker.{IsSameButQueue, AreKnown, KeepsGray, marking, IsNoted, ShowsMarking, is_passed};
+ghost use Rattle.mm_mark.specs.Stale.{KeepsFewStale};
 ghost use Rattle.mm_mark.specs.Colours.{IsGrayed, IsSameButColours};
 
 use crate::colours::is_black_at;
@@ -24,6 +25,7 @@ impl Marker {
         ensures cycle { IsSameButQueue self.old self.new }
         ensures known { AreKnown self.new (views_of heap.new.objects) }
         ensures sound { IsSound heap.new }
+        ensures few { KeepsFewStale (marking self.old heap.old) (marking self.new heap.new) }
         ensures cost { steps.new ≡ steps.old + 1 }
     {
         if let Some(base) = heap.shade(word, steps) {
@@ -38,6 +40,7 @@ impl Marker {
         ensures cycle { IsSameButQueue self.old self.new }
         ensures known { AreKnown self.new (views_of heap.new.objects) }
         ensures sound { IsSound heap.old → IsSound heap.new }
+        ensures few { KeepsFewStale (marking self.old heap.old) (marking self.new heap.new) }
         ensures cost { steps.new ≡ steps.old + length words.now }
     {
         for i in 0..words.len() {
@@ -69,6 +72,7 @@ impl Marker {
         ensures cycle { IsSameButQueue self.old self.new }
         ensures keeps { KeepsGray self.new (views_of heap.new.objects) }
         ensures sound { IsSound heap.old → IsSound heap.new }
+        ensures few { KeepsFewStale (marking self.old heap.old) (marking self.new heap.new) }
         ensures cost { steps.new ≤ steps.old + 8 }
     {
         if self.has_passed(heap, holder, s, steps) {

@@ -2,7 +2,7 @@ use Rattle.std.proofs.Common.{◌≡◌, ℕ, ◌+◌, ◌-◌, ◌<◌, ◌≤�
 use Rattle.mm_model.specs.ByBase.{Begins}
 use Rattle.mm_model.specs.ObjectView.{ObjectView, ObjectsByBase, scanned_words_of}
 use Rattle.mm_object.specs.Object.{view_of_stored, views_of}
-use Rattle.mm_mark.specs.Marker.{marking, view_of_partly}
+use Rattle.mm_mark.specs.Marker.{Marker, marking, view_of_partly}
 use Rattle.mm_mark.specs.Colours.{IsGrayed}
 use Rattle.mm_mark.specs.Parts.{part_words, part_end}
 use Rattle.mm_mark.proofs.Told.{stored-viewed, viewed-stored}
@@ -61,3 +61,12 @@ returns-clause-rest g c =
     let object = view_of_stored c.requires.gray.object in
     let begins = stored-viewed c.args.heap.now.objects c.args.from.base c.requires.gray.object c.requires.gray.begins in
     c.advance.ensures.rest ∙ (c.shade_slots.ensures.grayed object begins).rest
+
+pub advance-requires-clause-own : goal.advance-requires-clause-own
+advance-requires-clause-own g c = record {
+  done = c.args.from.slots_done;
+  is = ap (λ (m : Marker). m.partly) c.shade_slots.ensures.cycle ∙ c.requires.partly;
+}
+
+pub returns-clause-few : goal.returns-clause-few
+returns-clause-few g c = λ stale h. c.advance.ensures.few stale (c.shade_slots.ensures.few stale h)

@@ -1,8 +1,9 @@
-use Rattle.std.proofs.Common.{◌≡◌, refl, sym, ap, subst, ◌∙◌}
+use Rattle.std.proofs.Common.{◌≡◌, ◌+◌, ◌*◌, ◌≤◌, arith, refl, sym, ap, subst, ◌∙◌}
 use Rattle.std.specs.Option.{option_map}
 use Rattle.mm_model.specs.declared.object.Colour.{Colour}
 use Rattle.mm_object.specs.Object.{views_of}
 use Rattle.mm_mark.specs.Marker.{marking, view_of_partly}
+use Rattle.mm_mark.specs.Stale.{IsTidy, HasFewStale, stale_of}
 use Rattle.mm_mark.specs.Colours.{HasColour}
 use Rattle.mm_mark.proofs.Reading.{seen-coloured}
 use Rattle.mm_mark.proofs.Advancing.{advanced-under}
@@ -39,3 +40,17 @@ returns-in-Some-clause-keeps g c =
 pub returns-in-None-clause-part : goal.returns-in-None-clause-part
 returns-in-None-clause-part g c =
     (c.in-None.ensures.next, refl, c.choose.ensures.partly ∙ ap (option_map view_of_partly) c.in-None.is)
+
+pub returns-in-Some-clause-tidy : goal.returns-in-Some-clause-tidy
+returns-in-Some-clause-tidy g c = λ tidy.
+    let mid = marking c.choose.new.self c.args.heap.now in
+    let chosen : HasFewStale mid (stale_of mid) = record { tidy = c.choose.ensures.tidy tidy; few = omega arith } in
+    (c.scan_from.ensures.few (stale_of mid) chosen).tidy
+
+pub returns-in-Some-clause-paid : goal.returns-in-Some-clause-paid
+returns-in-Some-clause-paid g c = λ tidy.
+    let mid = marking c.choose.new.self c.args.heap.now in
+    let chosen : HasFewStale mid (stale_of mid) = record { tidy = c.choose.ensures.tidy tidy; few = omega arith } in
+    let few = (c.scan_from.ensures.few (stale_of mid) chosen).few in
+    let paid = c.choose.ensures.paid tidy in
+    omega (arith, few, paid, c.scan_from.ensures.cost)

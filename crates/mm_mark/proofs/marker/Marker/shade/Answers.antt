@@ -6,6 +6,9 @@ use Rattle.mm_object.specs.Colours.{NoWhite, Shades}
 use Rattle.mm_mark.specs.Marker.{AreKnown}
 use Rattle.mm_mark.specs.Colours.{IsGrayed}
 use Rattle.mm_mark.proofs.Shaded.{none-grayed, shaded-grayed, shaded-known}
+use Rattle.mm_mark.specs.Stale.{HasFewStale}
+use Rattle.mm_mark.specs.Marker.{marking}
+use Rattle.mm_mark.proofs.Tidied.{shaded-few}
 use Rattle.mm_mark.proofs.marker.Marker.shade.Goals as goal
 
 pub returns-in-Some-clause-grayed : goal.returns-in-Some-clause-grayed
@@ -26,3 +29,12 @@ returns-in_default-clause-grayed g c =
 pub returns-in_default-clause-known : goal.returns-in_default-clause-known
 returns-in_default-clause-known g c =
     subst (λ (h : Heap). AreKnown c.args.self.now (views_of h.objects)) (sym c.in_default.ensures.shaded.1) c.requires
+
+pub returns-in-Some-clause-few : goal.returns-in-Some-clause-few
+returns-in-Some-clause-few g c =
+    shaded-few c.args.heap.now c.shade.new.self c.args.word c.in-Some.base c.in-Some.ensures.shaded c.shade.ensures.sound
+    c.args.self.now c.note.new.self c.note.ensures
+
+pub returns-in_default-clause-few : goal.returns-in_default-clause-few
+returns-in_default-clause-few g c = λ stale h.
+    subst (λ (heap : Heap). HasFewStale (marking c.args.self.now heap) stale) (sym c.in_default.ensures.shaded.1) h

@@ -11,3 +11,6 @@ returns-clause-grayed g c =
     c.shade_words.ensures.grayed) in
     grayed-then c.args.heap.now c.shade_words.new.heap c.shade_words-2.new.heap c.args.stack.now.words _ stack
     c.shade_words-2.ensures.grayed
+
+pub returns-clause-few : goal.returns-clause-few
+returns-clause-few g c = λ stale h. c.shade_words-2.ensures.few stale (c.shade_words.ensures.few stale h)

@@ -18,6 +18,7 @@ loop-s-init g c =
       cycle = refl;
       known = c.requires.known;
       sound = λ sound. sound;
+      few = λ stale h. h;
       ticked = omega arith;
     }
 
@@ -49,6 +50,7 @@ loop-s-preserved g c = record {
   cycle = queue-then c.args.self.now c.loop-s.self c.shade.new.self c.loop-s.invariant.cycle c.shade.ensures.cycle;
   known = c.shade.ensures.known;
   sound = λ sound. c.shade.ensures.sound;
+  few = λ stale h. c.shade.ensures.few stale (c.loop-s.invariant.few stale h);
   ticked = omega (arith, c.shade.ensures.cost, c.slot_word-word.ensures.cost, c.loop-s.invariant.ticked);
 }
 

@@ -11,6 +11,7 @@ loop-i-init g c = record {
   cycle = refl;
   known = c.requires;
   sound = λ sound. sound;
+  few = λ stale h. h;
   ticked = omega arith;
 }
 
@@ -27,6 +28,7 @@ loop-i-preserved g c = record {
   cycle = queue-then c.args.self.now c.loop-i.self c.shade.new.self c.loop-i.invariant.cycle c.shade.ensures.cycle;
   known = c.shade.ensures.known;
   sound = λ sound. c.shade.ensures.sound;
+  few = λ stale h. c.shade.ensures.few stale (c.loop-i.invariant.few stale h);
   ticked = omega (arith, c.shade.ensures.cost, c.loop-i.invariant.ticked);
 }
 
