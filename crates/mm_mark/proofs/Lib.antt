@@ -4,6 +4,7 @@ pub mod Chosen
 pub mod Drained
 pub mod Forgotten
 pub mod Grayed
+pub mod Keeping
 pub mod PartsDone
 pub mod Potential
 pub mod Reading

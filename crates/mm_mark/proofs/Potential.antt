@@ -16,6 +16,7 @@ use Rattle.mm_model.proofs.Good.CountedWords.{sum-set}
 use Rattle.mm_model.proofs.Lists.Truth.{no_other}
 use Rattle.mm_mark.specs.Marker.{Marker, Marking, IsUnderScan}
 use Rattle.mm_mark.specs.Parts.{IsSameCycle, IsScanned, IsAdvanced, IsChosen, part_words, part_end}
+use Rattle.mm_mark.specs.Stale.{slots_of}
 use Rattle.mm_mark.specs.Draining.{unscanned_of, unscanned}
 use Rattle.mm_mark.proofs.Advancing.{gray-stays, length-part_words}
 
@@ -141,9 +142,10 @@ less-left before after slots less = split less.by
 
 -- what a call answers where it answers something, and where it doesn't
 pub some-scanned : (A : Type 0) (before after : Marking) (r : Option Part) → is_some r ≡ true
-    → MatchOption r A (IsScanned before after) → (part : Part) × IsScanned before after part
+    → MatchOption r A (IsScanned before after)
+    → (part : Part) × IsScanned before after part × (r ≡ Some part)
 some-scanned A before after None e h = absurd (no_other refl e)
-some-scanned A before after (Some part) e h = (part, h)
+some-scanned A before after (Some part) e h = (part, h, refl)
 
 pub none-scanned : (A : Type 0) (before after : Marking) (r : Option Part) → is_some r ≡ false
     → MatchOption r A (IsScanned before after) → A
@@ -156,3 +158,20 @@ pub cycle-then : (first second third : Marker) → IsSameCycle first second → 
 cycle-then first second third one two =
     two ∙ ap (λ (m : Marker).
     record m { queue = third.queue; overflowed = third.overflowed; partly = third.partly }) one
+
+pub none-slots : (r : Option Part) → is_some r ≡ false → slots_of r ≡ 0
+none-slots None e = refl
+none-slots (Some part) e = absurd (no_other e refl)
+
+-- what a part costs is paid by what is left to scan
+pub part-paid : (before after : Marking) (slots start spent cost stale left : ℕ) → IsLess before after slots
+    → spent + 8 * stale + 16 * unscanned before.objects ≤ start + 16 * slots_done before.marker.partly
+    → cost + 8 * left ≤ spent + 4 + 2 * slots + 8 * stale
+    → cost + 8 * left + 16 * unscanned after.objects ≤ start + 16 * slots_done after.marker.partly
+part-paid before after slots start spent cost stale left less so_far paid = split less.by
+  where
+    split : ((slots ≡ 64) ⊎ (unscanned after.objects + slots_done before.marker.partly + slots + 1
+        ≤ unscanned before.objects + slots_done after.marker.partly))
+        → cost + 8 * left + 16 * unscanned after.objects ≤ start + 16 * slots_done after.marker.partly
+    split (inl e) = let falls = less.falls in let a = so_far in let b = paid in omega arith
+    split (inr e) = let a = so_far in let b = paid in omega arith

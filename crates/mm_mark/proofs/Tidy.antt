@@ -22,11 +22,11 @@ use Rattle.mm_mark.proofs.Reading.{white_not_gray, black_not_white}
 use Rattle.mm_mark.proofs.Advancing.{entry-here, entry-apart}
 
 -- a base that isn't held isn't the first, and isn't held by the rest
-not_first : (b : ℕ) (bs : List ℕ) (x : ℕ) → holds_base (b ∷ bs) x ≡ false → x ≢ b
+pub not_first : (b : ℕ) (bs : List ℕ) (x : ℕ) → holds_base (b ∷ bs) x ≡ false → x ≢ b
 not_first b bs x e same =
     no_other e (ap (λ (t : Bool). t || holds_base bs x) (eq-eqb b x (sym same)))
 
-not_rest : (b : ℕ) (bs : List ℕ) (x : ℕ) → holds_base (b ∷ bs) x ≡ false → holds_base bs x ≡ false
+pub not_rest : (b : ℕ) (bs : List ℕ) (x : ℕ) → holds_base (b ∷ bs) x ≡ false → holds_base bs x ≡ false
 not_rest b bs x e = split (b == x) e
   where
     split : (t : Bool) → (t || holds_base bs x) ≡ false → holds_base bs x ≡ false

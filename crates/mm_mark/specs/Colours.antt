@@ -1,8 +1,9 @@
 -- What marking changes of a heap.
 use Rattle.std.specs.Prelude.{◌≡◌, ◌≢◌, ℕ, List, [], ◌∷◌}
 use Rattle.mm_model.specs.declared.object.Colour.{Colour}
-use Rattle.mm_model.specs.declared.object.Colour.TheVariants.{Gray}
+use Rattle.mm_model.specs.declared.object.Colour.TheVariants.{White, Gray}
 use Rattle.mm_model.specs.ByBase.{Begins}
+use Rattle.mm_model.specs.ObjectView.{ObjectView, ObjectsByBase}
 use Rattle.mm_model.specs.SetsByBase.{with_grayed_objects}
 use Rattle.mm_object.specs.Object.{StoredObject, views_of}
 use Rattle.mm_object.specs.Heap.{Heap}
@@ -25,6 +26,17 @@ pub record HasColour (h : Heap) (base : ℕ) (colour : Colour) : Type 0 where
 
 abbrev pub BeginsNone : Heap → ℕ → Type 0
 BeginsNone h base = (object : StoredObject) → Begins h.objects base object → ⊥
+
+-- a gray object is seen at a base, and a white one
+pub record IsGrayAt (objects : ObjectsByBase) (base : ℕ) : Type 0 where
+  pub object : ObjectView
+  pub begins : Begins objects base object
+  pub is : object.colour ≡ Gray
+
+pub record IsWhiteAt (objects : ObjectsByBase) (base : ℕ) : Type 0 where
+  pub object : ObjectView
+  pub begins : Begins objects base object
+  pub is : object.colour ≡ White
 
 -- no gray object begins there
 abbrev pub IsNoneGrayAt : Heap → ℕ → Type 0

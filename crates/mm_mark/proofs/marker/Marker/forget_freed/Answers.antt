@@ -1,8 +1,11 @@
-use Rattle.std.proofs.Common.{◌≡◌, Bool, None, ap, subst}
+use Rattle.std.proofs.Common.{◌≡◌, Bool, None, ap, sym, subst}
 use Rattle.std.specs.Prelude.{IfSome, MatchBool}
 use Rattle.mm_object.specs.Object.{views_of}
 use Rattle.mm_mark.specs.Marker.{Marker, marker_of, IsUnderScan}
 use Rattle.mm_mark.specs.Parts.{IsFreed}
+use Rattle.mm_mark.specs.Marker.{marking}
+use Rattle.mm_mark.specs.Stale.{HasFewStale}
+use Rattle.mm_mark.proofs.Tidy.{forgotten-tidy}
 use Rattle.mm_mark.proofs.Forgotten.{forgotten-known}
 use Rattle.mm_mark.proofs.marker.Marker.forget_freed.Goals as goal
 
@@ -19,3 +22,9 @@ returns-then-is_freed-clause-keeps g c =
           c.requires.known;
       partly = tt;
     }
+
+pub returns-then-is_freed-clause-few : goal.returns-then-is_freed-clause-few
+returns-then-is_freed-clause-few g c = λ stale h.
+    subst (λ (m : Marker). HasFewStale (marking m c.args.heap.now) stale)
+    (sym (ap (λ (m : Marker). record m { partly = None }) c.self.view_is))
+    (record { tidy = forgotten-tidy c.args.self.now (views_of c.args.heap.now.objects) h.tidy; few = h.few })
