@@ -1,11 +1,11 @@
 -- A part that is done: the colours, and what the marker knows afterwards.
-use Rattle.std.proofs.Common.{◌≡◌, ◌≢◌, ℕ, ◌+◌, ◌-◌, ◌*◌, ◌/◌, ◌<◌, ◌≤◌, ◌⊎◌, min, Bool, true, false, List, [], ◌∷◌, ◌++◌, map, length, take, drop, Option, Some, None, inl, inr, refl, sym, ap, subst, ◌∙◌, arith}
-use Rattle.std.specs.Prelude.{IfSome, IsTrue, slice_get, slice_set, slice_index, ◌==◌, ◌&&◌, if◌then◌else◌}
+use Rattle.std.proofs.Common.{◌≡◌, ◌≢◌, ℕ, ◌+◌, ◌-◌, ◌*◌, ◌/◌, ◌<◌, ◌≤◌, min, Bool, true, false, List, [], ◌∷◌, ◌++◌, length, take, drop, Option, Some, inl, inr, refl, sym, ap, subst, ◌∙◌, arith}
+use Rattle.std.specs.Prelude.{IfSome, slice_get, slice_set, slice_index, ◌&&◌, if◌then◌else◌}
 use Rattle.std.specs.Option.{option_map, option_and_then}
 use Rattle.std.proofs.lemmas.Bool.{cases_eq}
 use Rattle.std.proofs.lemmas.List.{length-take, length-drop, get_or-drop, take_min}
 use Rattle.mm_model.specs.declared.object.Colour.{Colour}
-use Rattle.mm_model.specs.declared.object.Colour.TheVariants.{White, Gray, Black}
+use Rattle.mm_model.specs.declared.object.Colour.TheVariants.{Gray, Black}
 use Rattle.mm_model.specs.Object.{is_scanned}
 use Rattle.mm_model.specs.Marking.{is_white}
 use Rattle.mm_model.specs.ByBase.{Begins, with_entry}
@@ -15,8 +15,8 @@ use Rattle.mm_model.specs.View.{PartlyScannedView}
 use Rattle.mm_model.proofs.Lists.Replaced.{get-set_same, get-set_other, map-set, map-set_alike}
 use Rattle.mm_model.proofs.View.Entries.{get-changed, begins_same}
 use Rattle.mm_object.specs.Object.{StoredObject, view_of_stored, views_of}
-use Rattle.mm_object.specs.Heap.{Heap, HasSlot, IsObject, with_object}
-use Rattle.mm_object.specs.Colours.{white_object, all_whitened}
+use Rattle.mm_object.specs.Heap.{Heap, HasSlot, with_object}
+use Rattle.mm_object.specs.Colours.{white_object}
 use Rattle.mm_mark.specs.Marker.{Marker, Marking, IsUnderScan, IsKnown, AreKnown}
 use Rattle.mm_mark.specs.Colours.{IsSameButColours, IsGrayed, HasColour}
 use Rattle.mm_mark.specs.Parts.{IsAdvanced, IsEnded, part_words, part_end}

@@ -1,5 +1,5 @@
 -- The write barrier: what it does to a marking it does to each view that shows it.
-use Rattle.std.proofs.Common.{◌≡◌, ℕ, Bool, true, false, List, [], ◌∷◌, Option, Some, None, refl, sym, ap, subst, ◌∙◌}
+use Rattle.std.proofs.Common.{◌≡◌, ℕ, Bool, true, false, [], ◌∷◌, Option, sym, ap, subst, ◌∙◌}
 use Rattle.std.specs.Prelude.{◌&&◌, ◌||◌, not, if◌then◌else◌}
 use Rattle.mm_model.specs.ByBase.{Begins, Based}
 use Rattle.mm_model.specs.ObjectView.{ObjectView, ObjectsByBase, slot_kind_of}

@@ -1,20 +1,20 @@
 -- Which gray object is taken, and that the others stay known.
-use Rattle.std.proofs.Common.{◌≡◌, ◌≢◌, ℕ, zero, suc, ◌+◌, ◌<◌, ◌≤◌, ◌⊎◌, Bool, true, false, List, [], ◌∷◌, length, drop, Option, Some, None, inl, inr, refl, sym, ap, subst, ◌∙◌, arith, eqb-true}
-use Rattle.std.specs.Prelude.{IfSome, IsTrue, MatchOption, MatchBool, ◌||◌, ◌==◌, if◌then◌else◌, slice_index}
+use Rattle.std.proofs.Common.{◌≡◌, ◌≢◌, ℕ, ◌<◌, Bool, true, false, List, [], ◌∷◌, length, drop, Option, Some, None, inl, inr, refl, sym, ap, subst, ◌∙◌, arith, eqb-true}
+use Rattle.std.specs.Prelude.{IfSome, IsTrue, MatchOption, ◌||◌, ◌==◌, if◌then◌else◌, slice_index}
 use Rattle.std.specs.List.{list_any}
 use Rattle.std.proofs.lemmas.Bool.{cases_eq, eq-eqb}
 use Rattle.mm_model.specs.declared.object.Colour.TheVariants.{Gray}
 use Rattle.mm_model.specs.ByBase.{Begins}
-use Rattle.mm_model.specs.ObjectView.{ObjectView, ObjectsByBase, scanned_words_of}
+use Rattle.mm_model.specs.ObjectView.{ObjectsByBase}
 use Rattle.mm_model.specs.View.{PartlyScannedView}
 use Rattle.mm_model.specs.ViewStep.{slots_done_of, may_go_on}
-use Rattle.mm_object.specs.Object.{StoredObject, view_of_stored, views_of}
+use Rattle.mm_object.specs.Object.{view_of_stored, views_of}
 use Rattle.mm_object.specs.Heap.{Heap}
 use Rattle.mm_object.specs.Colours.{IsNextOf, NoneOfFrom}
 use Rattle.mm_mark.specs.Marker.{Marker, IsUnderScan, IsKnown, AreKnown}
 use Rattle.mm_mark.specs.Colours.{HasColour, IsNoneGrayAt}
 use Rattle.mm_mark.specs.Parts.{NoneIsGray, AreOthersKnown, IsTaken, IsChosen}
-use Rattle.mm_mark.proofs.Told.{viewed-stored, stored-viewed}
+use Rattle.mm_mark.proofs.Told.{stored-viewed}
 use Rattle.mm_mark.proofs.Reading.{seen-coloured}
 
 -- no gray object is stored where none is seen
@@ -67,6 +67,7 @@ module _ (old new : Marker) (entry : ℕ) (some : 0 < length old.queue) (first :
           → IsTrue (list_any (λ e. e == base) xs)
       later true xs apart t = absurd (apart refl)
       later false xs apart t = t
+
       split : (queue : List ℕ) → 0 < length queue → entry ≡ slice_index queue 0
           → IsTrue (list_any (λ e. e == base) queue) → IsTrue (list_any (λ e. e == base) (drop 1 queue))
       split [] h f t = absurd (omega arith)
@@ -106,6 +107,7 @@ partly-chosen before objects p is scan = record {
   where
     own : (p.base == p.base) ≡ true
     own = eq-eqb p.base p.base refl
+
     under : IsUnderScan objects p
     under = subst (λ (o : Option PartlyScannedView). IfSome o (IsUnderScan objects)) is scan
 

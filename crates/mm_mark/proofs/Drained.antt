@@ -1,7 +1,6 @@
 -- Scanning to the end: what each part keeps, and what holds once nothing is gray.
-use Rattle.std.proofs.Common.{◌≡◌, ◌≢◌, ℕ, ◌+◌, ◌-◌, ◌*◌, ◌/◌, ◌<◌, ◌≤◌, ◌⊎◌, Bool, true, false, List, [], ◌∷◌, ◌++◌, length, take, drop, Option, Some, None, inl, inr, refl, sym, ap, subst, ◌∙◌, arith, eqb-true}
-use Rattle.std.specs.Prelude.{IfSome, IsTrue, slice_get, ◌==◌, ◌&&◌, ◌||◌, if◌then◌else◌}
-use Rattle.std.specs.List.{list_any}
+use Rattle.std.proofs.Common.{◌≡◌, ◌≢◌, ℕ, ◌+◌, ◌*◌, ◌⊎◌, Bool, true, false, List, ◌++◌, length, take, drop, Option, Some, None, inl, inr, refl, sym, ap, subst, ◌∙◌, arith, eqb-true}
+use Rattle.std.specs.Prelude.{IfSome, IsTrue, slice_get, ◌&&◌, ◌||◌, if◌then◌else◌}
 use Rattle.std.specs.Option.{option_map, option_and_then}
 use Rattle.std.proofs.Math.Seq.{take-add}
 use Rattle.std.proofs.lemmas.Bool.{cases_eq}
@@ -21,8 +20,8 @@ use Rattle.mm_model.specs.ViewStep.{slots_done_of, may_go_on}
 use Rattle.mm_model.proofs.Lists.Passing.{any-take, any-drop}
 use Rattle.mm_model.proofs.Lists.Truth.{no_other}
 use Rattle.mm_model.proofs.View.Entries.{get-changed, begins_same}
-use Rattle.mm_mark.specs.Marker.{Marker, Marking}
-use Rattle.mm_mark.specs.Parts.{NoneIsGray, IsScanned, IsAdvanced, IsChosen, part_words, part_end}
+use Rattle.mm_mark.specs.Marker.{Marking}
+use Rattle.mm_mark.specs.Parts.{NoneIsGray, IsScanned, IsAdvanced, part_words, part_end}
 use Rattle.mm_mark.specs.Draining.{IsDrained, NamesNoWhiteDone, IsMove, IsMoved, WasThere, IsPassedOver, IsDraining}
 use Rattle.mm_mark.proofs.Reading.{white_not_gray, black_not_gray, black_not_white}
 use Rattle.mm_mark.proofs.Grayed.{grayed_at-marks, grayed_at-spares}
@@ -52,6 +51,7 @@ shade-told words base old = split old.colour refl (names_at words base old) refl
         → (old.colour ≡ White → names_at words base old ≡ false)
         → (new : ObjectView) × (grayed_at words base old ≡ Some new) × IsShaded words base old new
     spared e none = (old, grayed_at-spares words base old e, IsShaded.Is_spared none refl)
+
     split : (c : Colour) → old.colour ≡ c → (b : Bool) → names_at words base old ≡ b
         → (new : ObjectView) × (grayed_at words base old ≡ Some new) × IsShaded words base old new
     split White e true f =
@@ -117,6 +117,7 @@ white-was words objects base object begins white = split from.shaded
   where
     from : ShadedFrom words objects base object
     from = shaded-from words objects base object begins
+
     split : IsShaded words base from.old object → WasWhite words objects base object
     split (IsShaded.Is_grayed w named is) =
         absurd (white_not_gray (sym white ∙ ap (λ (v : ObjectView). v.colour) is))
@@ -134,6 +135,7 @@ dark-stays words objects base object begins dark = split to.shaded
   where
     to : ShadedTo words objects base object
     to = shaded-to words objects base object begins
+
     split : IsShaded words base object to.new → Begins (with_grayed_objects words objects) base object
     split (IsShaded.Is_grayed w named is) = absurd (dark w)
     split (IsShaded.Is_spared none is) = subst (λ (v : ObjectView). Begins (with_grayed_objects words objects) base v) is to.begins
@@ -145,6 +147,7 @@ black-was words objects base object begins black = split from.shaded
   where
     from : ShadedFrom words objects base object
     from = shaded-from words objects base object begins
+
     split : IsShaded words base from.old object → Begins objects base object
     split (IsShaded.Is_grayed w named is) =
         absurd (black_not_gray (sym black ∙ ap (λ (v : ObjectView). v.colour) is))
@@ -207,11 +210,13 @@ module _ (before : ObjectsByBase) (now next : Marking) (part : Part) (s : IsScan
     where
       moved : IsMoved before now.objects base (record object { colour = was.colour })
       moved = d.forth base (record object { colour = was.colour }) was.begins
+
       gray : moved.colour ≡ Gray
       gray =
           ap (λ (v : ObjectView). v.colour)
           (begins_same now.objects base (record object { colour = moved.colour }) object moved.begins s.chosen.begins)
           ∙ s.chosen.gray
+
       split : IsMove before base was.colour moved.colour → IsKeptAtFinishAt before base
       split (IsMove.Stays e) = IsKeptAtFinishAt.Already base (record object { colour = was.colour }) was.begins (sym e ∙ gray)
       split (IsMove.Is_marked kept dark) = kept
@@ -230,11 +235,14 @@ module _ (before : ObjectsByBase) (now next : Marking) (part : Part) (s : IsScan
     where
       moved : IsMoved before now.objects b o
       moved = d.forth b o begins
+
       to : ShadedTo words now.objects b (record o { colour = moved.colour })
       to = shaded-to words now.objects b (record o { colour = moved.colour }) moved.begins
+
       white : moved.colour ≡ White → IsMove before b o.colour moved.colour → o.colour ≡ White
       white w (IsMove.Stays e) = sym e ∙ w
       white w (IsMove.Is_marked kept dark) = absurd (dark w)
+
       split : IsShaded words b (record o { colour = moved.colour }) to.new → IsMoved before mid b o
       split (IsShaded.Is_grayed w named is) = record {
         colour = Gray;
@@ -252,8 +260,10 @@ module _ (before : ObjectsByBase) (now next : Marking) (part : Part) (s : IsScan
     where
       from : ShadedFrom words now.objects b o
       from = shaded-from words now.objects b o begins
+
       there : WasThere before b from.old
       there = d.back b from.old from.begins
+
       split : IsShaded words b from.old o → WasThere before b o
       split (IsShaded.Is_grayed w named is) = record {
         colour = there.colour;
@@ -271,6 +281,7 @@ module _ (before : ObjectsByBase) (now next : Marking) (part : Part) (s : IsScan
     where
       moved : IsMoved before mid b o
       moved = forth-mid b o begins
+
       split : (b ≡ base) ⊎ (b ≢ base) → IsMoved before (with_entry base (Some black) mid) b o
       split (inl e) =
           let here : Begins mid b object = subst (λ (x : ℕ). Begins mid x object) (sym e) stays in
@@ -364,6 +375,7 @@ module _ (before : ObjectsByBase) (now next : Marking) (part : Part) (s : IsScan
     where
       there : Begins (with_entry base (Some black) mid) b o
       there = subst (λ (os : ObjectsByBase). Begins os b o) is begins
+
       split : (b ≡ base) ⊎ (b ≢ base) → IsPassedOver before next.objects b o
       split (inl e) =
           let at = subst (λ (x : ℕ). Begins (with_entry base (Some black) mid) x o) e there in
@@ -437,6 +449,7 @@ module _ (before : ObjectsByBase) (now : Marking) (d : IsDraining before now) (n
       passed : IsPassedOver before now.objects by (record holder { colour = (d.forth by holder held).colour })
       passed =
           d.black by (record holder { colour = (d.forth by holder held).colour }) (d.forth by holder held).begins black
+
       split : IsPassedOver before now.objects by (record holder { colour = (d.forth by holder held).colour })
           → moved.colour ≢ White
       split (IsPassedOver.Was_black was) = λ w.
@@ -452,6 +465,7 @@ module _ (before : ObjectsByBase) (now : Marking) (d : IsDraining before now) (n
     where
       is : object.colour ≡ Gray
       is = ap (λ (v : ObjectView). v.colour) (begins_same before base object own begins there) ∙ gray
+
       split : IsMove before base object.colour moved.colour → moved.colour ≢ White
       split (IsMove.Stays e) = λ white. white_not_gray (sym white ∙ e ∙ is)
       split (IsMove.Is_marked kept dark) = dark
@@ -478,10 +492,12 @@ module _ (before : ObjectsByBase) (now : Marking) (d : IsDraining before now) (n
           split (IsMove.Stays e) =
               subst (λ (c : Colour). Begins now.objects base (record object { colour = c })) e moved.begins
           split (IsMove.Is_marked kept dark) = absurd (kept-not_black before base object kept begins is)
+
       now-black : (base : ℕ) (object : ObjectView) (moved : IsMoved before now.objects base object)
           → moved.colour ≡ Black → Begins now.objects base (record object { colour = Black })
       now-black base object moved black =
           subst (λ (c : Colour). Begins now.objects base (record object { colour = c })) black moved.begins
+
       white-stays : (base : ℕ) (object : ObjectView) → Begins before base object → object.colour ≡ White
           → (IsKeptAtFinishAt before base → ⊥) → IsMoved before now.objects base object
           → Begins now.objects base object

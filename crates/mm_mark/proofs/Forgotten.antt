@@ -1,15 +1,14 @@
 -- What is left of a marker's knowledge once objects are freed.
-use Rattle.std.proofs.Common.{◌≡◌, ℕ, Bool, true, false, Option, Some, None, refl, sym, ap, subst, ◌∙◌}
+use Rattle.std.proofs.Common.{◌≡◌, ℕ, Bool, true, false, Option, Some, None, sym, ap, subst, ◌∙◌}
 use Rattle.std.specs.Prelude.{IfSome, MatchBool}
-use Rattle.mm_model.specs.declared.object.Colour.TheVariants.{Gray}
 use Rattle.mm_model.specs.ByBase.{Begins}
-use Rattle.mm_model.specs.ObjectView.{ObjectView, ObjectsByBase}
+use Rattle.mm_model.specs.ObjectView.{ObjectsByBase}
 use Rattle.mm_model.specs.View.{PartlyScannedView}
 use Rattle.mm_object.specs.Object.{view_of_stored, views_of}
 use Rattle.mm_object.specs.Heap.{Heap, IsObject}
-use Rattle.mm_mark.specs.Marker.{Marker, IsUnderScan, IsKnown, AreKnown, KeepsGray}
+use Rattle.mm_mark.specs.Marker.{Marker, IsUnderScan, IsKnown, AreKnown}
 use Rattle.mm_mark.specs.Colours.{BeginsNone}
-use Rattle.mm_mark.specs.Parts.{IsUnderScanOrGone, IsFreed, HasForgotten}
+use Rattle.mm_mark.specs.Parts.{IsUnderScanOrGone, IsFreed}
 use Rattle.mm_mark.proofs.Told.{viewed-stored, stored-viewed}
 
 -- whether the object that is scanned in part is there tells which of the two it is

@@ -1,17 +1,15 @@
 -- The white objects in which words fall become gray: one word after another, and by a heap that shades one.
-use Rattle.std.proofs.Common.{◌≡◌, ◌≢◌, ℕ, zero, suc, ◌+◌, ◌*◌, ◌/◌, ◌<◌, ◌≤◌, ◌⊎◌, Bool, true, false, cond, List, [], ◌∷◌, ◌++◌, map, reverse, take, length, Option, Some, None, inl, inr, refl, sym, ap, subst, ◌∙◌, arith}
-use Rattle.std.specs.Prelude.{slice_get, slice_set, slice_index, IfSome, ◌&&◌, ◌||◌, if◌then◌else◌}
+use Rattle.std.proofs.Common.{◌≡◌, ℕ, suc, ◌+◌, ◌*◌, ◌<◌, Bool, true, false, List, [], ◌∷◌, ◌++◌, reverse, take, length, Option, Some, None, refl, sym, ap, subst, ◌∙◌, arith}
+use Rattle.std.specs.Prelude.{slice_get, slice_index, IfSome, ◌&&◌, ◌||◌, if◌then◌else◌}
 use Rattle.std.specs.List.{list_any}
 use Rattle.std.specs.Option.{option_map, option_and_then}
 use Rattle.std.proofs.Math.Seq.{take-suc}
 use Rattle.std.proofs.lemmas.List.Folds.{list_any-append}
 use Rattle.std.proofs.lemmas.List.Sorted.{IsPermutation-reverse, list_any-IsPermutation}
-use Rattle.std.proofs.lemmas.Option.{slice_get-map}
 use Rattle.mm_model.specs.declared.object.Colour.{Colour}
 use Rattle.mm_model.specs.declared.object.Colour.TheVariants.{White, Gray, Black}
 use Rattle.mm_model.specs.Marking.{is_white}
 use Rattle.mm_model.specs.Words.{falls}
-use Rattle.mm_model.specs.ByBase.{changed}
 use Rattle.mm_model.specs.ObjectView.{ObjectView, ObjectsByBase, names_at}
 use Rattle.mm_model.specs.SetsByBase.{grayed_at, with_grayed_objects}
 use Rattle.mm_model.specs.GoodView.{AreWhite}
@@ -33,6 +31,7 @@ grayed_at-twice words more base object =
     one c e m n f g =
         ap (λ (x : Colour). Some (if is_white x && m then record object { colour = Gray } else object)) e
         ∙ ap (λ (x : Bool). Some (if is_white object.colour && x then record object { colour = Gray } else object)) f
+
     both : (c : Colour) → c ≡ object.colour → (m n : Bool) → m ≡ names_at words base object → n ≡ names_at more base object
         → Some (if is_white c && (m || n) then record object { colour = Gray } else object)
         ≡ grayed_at (words ++ more) base object
@@ -41,6 +40,7 @@ grayed_at-twice words more base object =
         ∙ ap (λ (x : Bool). Some (if is_white object.colour && x then record object { colour = Gray } else object))
         (ap (λ x. x || n) f ∙ ap (λ x. names_at words base object || x) g
         ∙ sym (list_any-append (λ word. falls word base object.extent) words more))
+
     split : (c : Colour) → c ≡ object.colour → (m : Bool) → m ≡ names_at words base object → (n : Bool)
         → n ≡ names_at more base object
         → option_and_then (grayed_at more base) (grayed_at words base object) ≡ grayed_at (words ++ more) base object
@@ -75,6 +75,7 @@ grayed-twice words more objects = same_entries _ _ at
     entry k None = refl
     entry k (Some None) = refl
     entry k (Some (Some object)) = ap Some (grayed_at-twice words more (16 * k) object)
+
     at : (k : ℕ) → slice_get (with_grayed_objects more (with_grayed_objects words objects)) k
         ≡ slice_get (with_grayed_objects (words ++ more) objects) k
     at k =
@@ -90,10 +91,12 @@ grayed-none objects = same_entries _ _ at
     one base object White e = ap (λ (x : Colour). Some (if is_white x && false then record object { colour = Gray } else object)) (sym e)
     one base object Gray e = ap (λ (x : Colour). Some (if is_white x && false then record object { colour = Gray } else object)) (sym e)
     one base object Black e = ap (λ (x : Colour). Some (if is_white x && false then record object { colour = Gray } else object)) (sym e)
+
     entry : (k : ℕ) (e : Option (Option ObjectView)) → option_map (option_and_then (grayed_at [] (16 * k))) e ≡ e
     entry k None = refl
     entry k (Some None) = refl
     entry k (Some (Some object)) = ap Some (one (16 * k) object object.colour refl)
+
     at : (k : ℕ) → slice_get (with_grayed_objects [] objects) k ≡ slice_get objects k
     at k = get-changed (grayed_at []) objects k ∙ entry k (slice_get objects k)
 
@@ -113,6 +116,7 @@ grayed-reverse words objects = same_entries _ _ at
     entry k (Some (Some object)) =
         ap (λ (x : Bool). Some (Some (if is_white object.colour && x then record object { colour = Gray } else object)))
         (list_any-reverse (λ word. falls word (16 * k) object.extent) words)
+
     at : (k : ℕ) → slice_get (with_grayed_objects (reverse words) objects) k
         ≡ slice_get (with_grayed_objects words objects) k
     at k =

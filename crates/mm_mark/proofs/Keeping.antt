@@ -1,18 +1,16 @@
 -- What callers need: which changes of the objects a marker's knowledge outlasts, and how many entries they make stale.
-use Rattle.std.proofs.Common.{◌≡◌, ◌≢◌, ℕ, zero, suc, ◌+◌, ◌-◌, ◌*◌, ◌/◌, ◌<◌, ◌≤◌, ◌⊎◌, Bool, true, false, List, [], ◌∷◌, length, Option, Some, None, inl, inr, refl, sym, ap, subst, ◌∙◌, arith, eqb-true}
-use Rattle.std.specs.Prelude.{IfSome, slice_get, ◌==◌, ◌||◌, if◌then◌else◌}
-use Rattle.std.proofs.lemmas.Bool.{cases_eq, eq-eqb}
+use Rattle.std.proofs.Common.{◌≡◌, ℕ, ◌+◌, ◌*◌, ◌/◌, ◌≤◌, Bool, true, false, List, [], ◌∷◌, length, Option, Some, None, refl, sym, ap, subst, ◌∙◌, arith, eqb-true}
+use Rattle.std.specs.Prelude.{slice_get, ◌==◌, ◌||◌, if◌then◌else◌}
 use Rattle.mm_model.specs.declared.object.Colour.{Colour}
 use Rattle.mm_model.specs.declared.object.Colour.TheVariants.{White, Gray, Black}
-use Rattle.mm_model.specs.ByBase.{Begins}
 use Rattle.mm_model.specs.ObjectView.{ObjectView, ObjectsByBase, holds_base}
 use Rattle.mm_model.specs.Marking.{is_gray}
 use Rattle.mm_model.specs.View.{PartlyScannedView}
 use Rattle.mm_model.proofs.Lists.Truth.{no_other}
 use Rattle.mm_model.proofs.Lists.Keyed.{refuted}
-use Rattle.mm_mark.specs.Marker.{Marker, Marking, AreKnown}
+use Rattle.mm_mark.specs.Marker.{Marker, AreKnown}
 use Rattle.mm_mark.specs.Colours.{IsGrayAt, IsWhiteAt}
-use Rattle.mm_mark.specs.Stale.{is_gray_entry, has_gray, stale_in, stale_of, IsPlace, AreDistinctPlaces, known_bases, IsTidy, HasFewStale}
+use Rattle.mm_mark.specs.Stale.{is_gray_entry, has_gray, stale_in, IsPlace, AreDistinctPlaces, known_bases, IsTidy, HasFewStale}
 use Rattle.mm_mark.proofs.Tidy.{gray-entry, not_rest, not_first}
 
 -- gray objects stay known where each was gray before
@@ -105,6 +103,7 @@ entry-freed before after entries dead entry place kept =
     at_most_one : (b : Bool) → (if b then 0 else 1) ≤ 1
     at_most_one true = omega arith
     at_most_one false = omega arith
+
     gray_there : (e : Option (Option ObjectView)) → slice_get before (entry / 16) ≡ e → is_gray_entry e ≡ true
         → IsGrayAt before entry
     gray_there None f h = absurd (no_other refl h)
@@ -118,6 +117,7 @@ entry-freed before after entries dead entry place kept =
         colour White e t = absurd (no_other (ap is_gray e) t)
         colour Gray e t = e
         colour Black e t = absurd (no_other (ap is_gray e) t)
+
     split : (g : Bool) → has_gray before entry ≡ g → (d : Bool) → holds_base dead entry ≡ d
         → (if has_gray after entry then 0 else 1) ≤ (if has_gray before entry then 0 else 1) + (if holds_base dead entry then 1 else 0)
     split false e d f =

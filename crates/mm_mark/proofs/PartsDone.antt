@@ -1,5 +1,5 @@
 -- A part of one object is a part in each view that shows the marking.
-use Rattle.std.proofs.Common.{◌≡◌, ℕ, ◌+◌, ◌<◌, ◌≤◌, Bool, true, false, List, [], ◌∷◌, length, take, drop, Option, Some, None, refl, sym, ap, subst, ◌∙◌, arith, eqb-true}
+use Rattle.std.proofs.Common.{◌≡◌, ℕ, ◌+◌, ◌<◌, Bool, true, false, List, length, take, drop, Option, Some, None, refl, sym, ap, subst, ◌∙◌, arith, eqb-true}
 use Rattle.std.specs.Prelude.{IfSome, IsTrue, MatchOption, ◌==◌, if◌then◌else◌}
 use Rattle.std.specs.Option.{option_map}
 use Rattle.std.proofs.lemmas.Bool.{eq-eqb}
@@ -9,9 +9,9 @@ use Rattle.mm_model.specs.ByBase.{Begins, Based, with_entry}
 use Rattle.mm_model.specs.ObjectView.{ObjectView, ObjectsByBase, scanned_words_of}
 use Rattle.mm_model.specs.SetsByBase.{with_grayed_objects}
 use Rattle.mm_model.specs.View.{View, CycleView, PartlyScannedView}
-use Rattle.mm_model.specs.ViewStep.{view_part_slots, view_part_done, view_advanced, with_partly, slots_done_in, slots_done_of, may_go_on, NoGray}
-use Rattle.mm_mark.specs.Marker.{Marker, Marking, ShowsMarking, IsPartOf, IsPartDone, HasNoGray}
-use Rattle.mm_mark.specs.Parts.{NoneIsGray, IsScanned, IsAdvanced, IsChosen, part_words, part_end}
+use Rattle.mm_model.specs.ViewStep.{view_advanced, with_partly, slots_done_in, slots_done_of, may_go_on}
+use Rattle.mm_mark.specs.Marker.{Marking, ShowsMarking, IsPartOf, IsPartDone, HasNoGray}
+use Rattle.mm_mark.specs.Parts.{NoneIsGray, IsScanned, IsAdvanced, part_words, part_end}
 
 pub none-gray_in_views : (before : Marking) → NoneIsGray before.objects → HasNoGray before
 none-gray_in_views before none view shows base object begins gray =

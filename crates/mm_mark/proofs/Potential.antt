@@ -1,7 +1,6 @@
 -- How much is left to scan falls with each part.
-use Rattle.std.proofs.Common.{◌≡◌, ◌≢◌, ℕ, zero, suc, ◌+◌, ◌-◌, ◌*◌, ◌/◌, ◌<◌, ◌≤◌, ◌⊎◌, min, Bool, true, false, List, [], ◌∷◌, map, sum, length, Option, Some, None, inl, inr, refl, sym, ap, subst, ◌∙◌, arith, eqb-true}
-use Rattle.std.specs.Prelude.{IfSome, IsTrue, MatchOption, is_some, slice_get, slice_set, ◌==◌, ◌&&◌, if◌then◌else◌}
-use Rattle.std.specs.List.{sum_by}
+use Rattle.std.proofs.Common.{◌≡◌, ℕ, ◌+◌, ◌-◌, ◌*◌, ◌/◌, ◌<◌, ◌≤◌, ◌⊎◌, Bool, true, false, List, [], ◌∷◌, map, sum, length, Option, Some, None, inl, inr, refl, sym, ap, ◌∙◌, arith}
+use Rattle.std.specs.Prelude.{IsTrue, MatchOption, is_some, slice_get, ◌&&◌, if◌then◌else◌}
 use Rattle.std.proofs.lemmas.List.Sums.{sum-map}
 use Rattle.mm_model.specs.declared.object.Colour.{Colour}
 use Rattle.mm_model.specs.declared.object.Colour.TheVariants.{White, Gray, Black}
@@ -14,8 +13,8 @@ use Rattle.mm_model.specs.View.{PartlyScannedView}
 use Rattle.mm_model.specs.ViewStep.{slots_done_of, may_go_on}
 use Rattle.mm_model.proofs.Good.CountedWords.{sum-set}
 use Rattle.mm_model.proofs.Lists.Truth.{no_other}
-use Rattle.mm_mark.specs.Marker.{Marker, Marking, IsUnderScan}
-use Rattle.mm_mark.specs.Parts.{IsSameCycle, IsScanned, IsAdvanced, IsChosen, part_words, part_end}
+use Rattle.mm_mark.specs.Marker.{Marker, Marking}
+use Rattle.mm_mark.specs.Parts.{IsSameCycle, IsScanned, IsAdvanced, part_words}
 use Rattle.mm_mark.specs.Stale.{slots_of}
 use Rattle.mm_mark.specs.Draining.{unscanned_of, unscanned}
 use Rattle.mm_mark.proofs.Advancing.{gray-stays, length-part_words}
@@ -93,6 +92,7 @@ scanned-less before after part s = split s.advanced
   where
     done : s.from.slots_done ≡ slots_done before.marker.partly
     done = chosen-done before.marker.partly s.from.base s.from.slots_done s.chosen.done s.chosen.turn
+
     split : IsAdvanced before.objects s.from s.chosen.object after → IsLess before after part.slots
     split (IsAdvanced.Is_black whole now none) =
         let words = part_words s.from s.chosen.object in

@@ -1,9 +1,8 @@
 -- What is read of one object.
-use Rattle.std.proofs.Common.{◌≡◌, ◌≢◌, ℕ, ◌⊎◌, Bool, true, false, List, [], length, Option, Some, None, inl, inr, refl, sym, ap, subst, ◌∙◌}
-use Rattle.std.specs.Prelude.{MatchBool, if◌then◌else◌, slice_get}
+use Rattle.std.proofs.Common.{◌≡◌, ℕ, ◌⊎◌, Bool, true, [], length, inl, inr, sym, ap, ◌∙◌}
+use Rattle.std.specs.Prelude.{MatchBool, if◌then◌else◌}
 use Rattle.mm_model.specs.declared.object.Colour.{Colour}
 use Rattle.mm_model.specs.declared.object.Colour.TheVariants.{White, Gray, Black}
-use Rattle.mm_model.specs.declared.object.Kind.{Kind}
 use Rattle.mm_model.specs.declared.object.Kind.TheVariants.{Traced, Counted}
 use Rattle.mm_model.specs.declared.object.Shape.{Shape}
 use Rattle.mm_model.specs.Marking.{is_gray}
@@ -13,7 +12,7 @@ use Rattle.mm_model.specs.ObjectView.{ObjectView, scanned_words_of}
 use Rattle.mm_object.specs.Object.{StoredObject, view_of_stored, views_of, shape_of}
 use Rattle.mm_object.specs.Heap.{Heap}
 use Rattle.mm_mark.specs.Colours.{HasColour, IsNoneGrayAt}
-use Rattle.mm_mark.proofs.Told.{one_colour, IsStored, viewed-stored, stored-viewed}
+use Rattle.mm_mark.proofs.Told.{one_colour, viewed-stored}
 
 pub white_not_gray : ◌≡◌ {A = Colour} White Gray → ⊥
 white_not_gray e = cc
@@ -38,8 +37,10 @@ scanned-shape object shape is kind = slots ∙ sym (ap (λ (b : Bool). length (i
   where
     own : shape.kind ≡ object.kind
     own = ap (λ (s : Shape). s.kind) is
+
     slots : shape.slots ≡ length object.words
     slots = ap (λ (s : Shape). s.slots) is
+
     scanned : (shape.kind ≡ Traced) ⊎ (shape.kind ≡ Counted) → is_scanned object.kind ≡ true
     scanned (inl e) = ap is_scanned (sym own ∙ e)
     scanned (inr e) = ap is_scanned (sym own ∙ e)

@@ -1,28 +1,27 @@
 -- A heap that shades a word grays what the word falls in, and a marker that notes it keeps its gray objects.
-use Rattle.std.proofs.Common.{◌≡◌, ◌≢◌, ℕ, ◌+◌, ◌*◌, ◌/◌, ◌<◌, ◌≤◌, ◌⊎◌, Bool, true, false, List, [], ◌∷◌, map, length, Option, Some, None, inl, inr, refl, sym, ap, subst, ◌∙◌, arith}
-use Rattle.std.specs.Prelude.{slice_get, slice_set, IfSome, IsTrue, ◌&&◌, ◌||◌, ◌==◌}
+use Rattle.std.proofs.Common.{◌≡◌, ◌≢◌, ℕ, ◌+◌, ◌*◌, ◌/◌, ◌<◌, ◌≤◌, ◌⊎◌, Bool, true, false, [], ◌∷◌, Option, Some, None, inl, inr, refl, sym, ap, subst, ◌∙◌, arith}
+use Rattle.std.specs.Prelude.{slice_get, slice_set, IsTrue, ◌&&◌, ◌||◌, ◌==◌}
 use Rattle.std.specs.List.{list_any}
 use Rattle.std.specs.Option.{option_map, option_and_then}
 use Rattle.std.proofs.lemmas.Bool.{cases_eq, eq-eqb}
-use Rattle.std.proofs.lemmas.Option.{slice_get-map, slice_get_within}
+use Rattle.std.proofs.lemmas.Option.{slice_get-map}
 use Rattle.mm_model.specs.declared.object.Colour.{Colour}
 use Rattle.mm_model.specs.declared.object.Colour.TheVariants.{White, Gray, Black}
 use Rattle.mm_model.specs.Marking.{is_white}
 use Rattle.mm_model.specs.Words.{falls}
 use Rattle.mm_model.specs.ByBase.{Begins}
-use Rattle.mm_model.specs.ObjectView.{ObjectView, ObjectsByBase, names_at}
+use Rattle.mm_model.specs.ObjectView.{ObjectView}
 use Rattle.mm_model.specs.SetsByBase.{grayed_at, with_grayed_objects}
-use Rattle.mm_model.proofs.Lists.Replaced.{get-set_same, get-set_other, get-set_cases, map-set_alike}
-use Rattle.mm_model.proofs.Lists.Truth.{or_true}
+use Rattle.mm_model.proofs.Lists.Replaced.{get-set_same, get-set_other, map-set_alike}
 use Rattle.mm_model.proofs.Places.Falling.{falls_from, falls_within}
-use Rattle.mm_model.proofs.View.Entries.{get-changed, same_entries, begins_same}
-use Rattle.mm_object.specs.Object.{StoredObject, StoredObjects, view_of_stored, views_of}
-use Rattle.mm_object.specs.Heap.{Heap, Covers, IsSound, with_object}
+use Rattle.mm_model.proofs.View.Entries.{get-changed, same_entries}
+use Rattle.mm_object.specs.Object.{StoredObject, view_of_stored, views_of}
+use Rattle.mm_object.specs.Heap.{Heap, Covers, IsSound}
 use Rattle.mm_object.specs.Colours.{NoWhite, Shades, all_whitened, white_object}
 use Rattle.mm_mark.specs.Marker.{Marker, IsKnown, IsNoted, AreKnown}
 use Rattle.mm_mark.specs.Colours.{IsGrayed}
 use Rattle.mm_mark.proofs.Grayed.{grayed_at-marks, grayed_at-spares}
-use Rattle.mm_mark.proofs.Told.{IsStored, viewed-stored, stored-viewed, one_covering}
+use Rattle.mm_mark.proofs.Told.{viewed-stored, stored-viewed, one_covering}
 
 -- an object in which the word doesn't fall, or that isn't white, stays as it is
 spared : (word base : ℕ) (object : StoredObject)
@@ -90,12 +89,14 @@ module _ (before after : Heap) (word base : ℕ) (s : Shades before after word b
     where
       covering : Covers after word base gray
       covering = record { begins = at_gray; from = s.covers.from; to = s.covers.to }
+
       marked : grayed_at (word ∷ []) (16 * grain) (view_of_stored s.object) ≡ Some (view_of_stored gray)
       marked =
           let from : 16 * grain ≤ word = omega (arith, s.covers.from, s.covers.begins.aligned) in
           let to : word < 16 * grain + s.object.extent = omega (arith, s.covers.to, s.covers.begins.aligned) in
           grayed_at-marks (word ∷ []) (16 * grain) (view_of_stored s.object)
           (ap (λ x. x || false) (falls_within word (16 * grain) s.object.extent from to)) s.white
+
       entry : (k : ℕ) → k ≡ grain ⊎ k ≢ grain
           → option_map (option_map view_of_stored) (slice_get after.objects k)
           ≡ option_map (option_and_then (grayed_at (word ∷ []) (16 * k)))
@@ -114,6 +115,7 @@ module _ (before after : Heap) (word base : ℕ) (s : Shades before after word b
           (record { begins = record { grain = k; aligned = refl; is = other k d ∙ e }; from = from; to = to }) covering in
           let at = s.covers.begins.aligned in
           d (omega arith))
+
       at : (k : ℕ) → slice_get (views_of after.objects) k
           ≡ slice_get (with_grayed_objects (word ∷ []) (views_of before.objects)) k
       at k =
@@ -121,6 +123,7 @@ module _ (before after : Heap) (word base : ℕ) (s : Shades before after word b
           ∙ ap (option_map (option_and_then (grayed_at (word ∷ []) (16 * k))))
           (sym (slice_get-map (option_map view_of_stored) before.objects k))
           ∙ sym (get-changed (grayed_at (word ∷ [])) (views_of before.objects) k)
+
       rest : all_whitened after ≡ all_whitened before
       rest =
           let at : base ≡ 16 * grain = s.covers.begins.aligned in
@@ -140,8 +143,10 @@ module _ (before after : Heap) (word base : ℕ) (s : Shades before after word b
           → IsTrue (own || list_any (λ entry. entry == b) old.queue)
       later b true h = refl
       later b false h = h
+
       first : (b : ℕ) → (base == b) ≡ true → IsTrue (base == b || list_any (λ entry. entry == b) old.queue)
       first b e = subst (λ (x : Bool). IsTrue (x || list_any (λ entry. entry == b) old.queue)) (sym e) refl
+
       still : (b : ℕ) → IsNoted old new base → IsKnown old b → IsKnown new b
       still b (IsNoted.Is_newest e) (IsKnown.Is_queued h) =
           subst (λ (m : Marker). IsKnown m b) (sym e) (IsKnown.Is_queued (later b (base == b) h))
@@ -150,9 +155,11 @@ module _ (before after : Heap) (word base : ℕ) (s : Shades before after word b
       still b (IsNoted.Is_newest e) (IsKnown.Is_left_out f) =
           subst (λ (m : Marker). IsKnown m b) (sym e) (IsKnown.Is_left_out f)
       still b (IsNoted.Is_left_out full e) k = subst (λ (m : Marker). IsKnown m b) (sym e) (IsKnown.Is_left_out refl)
+
       now : (b : ℕ) → b ≡ base → IsNoted old new base → IsKnown new b
       now b e (IsNoted.Is_newest f) = subst (λ (m : Marker). IsKnown m b) (sym f) (IsKnown.Is_queued (first b (eq-eqb base b (sym e))))
       now b e (IsNoted.Is_left_out full f) = subst (λ (m : Marker). IsKnown m b) (sym f) (IsKnown.Is_left_out refl)
+
       known : (b : ℕ) (view : ObjectView) → Begins (views_of after.objects) b view → view.colour ≡ Gray → IsKnown new b
       known b view begins is =
           let stored = viewed-stored after.objects b view begins in

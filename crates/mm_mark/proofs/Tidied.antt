@@ -1,18 +1,18 @@
 -- The queue stays tidy where a heap shades a word and the marker notes it.
-use Rattle.std.proofs.Common.{◌≡◌, ℕ, ◌+◌, ◌*◌, ◌/◌, ◌<◌, ◌≤◌, Bool, true, false, List, [], ◌∷◌, map, length, Option, Some, None, refl, sym, ap, subst, ◌∙◌, arith}
+use Rattle.std.proofs.Common.{◌≡◌, ℕ, ◌+◌, ◌≤◌, false, [], length, Option, Some, None, refl, sym, ap, subst, ◌∙◌, arith}
 use Rattle.std.proofs.lemmas.List.{length-map}
 use Rattle.std.specs.Prelude.{IfSome}
 use Rattle.std.specs.Option.{option_map}
-use Rattle.mm_model.specs.declared.object.Colour.TheVariants.{White, Gray, Black}
+use Rattle.mm_model.specs.declared.object.Colour.TheVariants.{Gray}
 use Rattle.mm_model.specs.ByBase.{Begins, with_entry}
 use Rattle.mm_model.specs.ObjectView.{ObjectView, ObjectsByBase}
 use Rattle.mm_model.specs.View.{PartlyScannedView}
 use Rattle.mm_object.specs.Object.{view_of_stored, views_of}
 use Rattle.mm_object.specs.Heap.{Heap, IsSound}
 use Rattle.mm_object.specs.Colours.{Shades}
-use Rattle.mm_mark.specs.Marker.{Marker, Marking, marking, IsNoted, IsUnderScan}
+use Rattle.mm_mark.specs.Marker.{Marker, marking, IsNoted, IsUnderScan}
 use Rattle.mm_mark.specs.Parts.{NoneIsGray, IsEnded}
-use Rattle.mm_mark.specs.Stale.{stale_in, stale_of, IsTidy, HasFewStale, KeepsFewStale}
+use Rattle.mm_mark.specs.Stale.{HasFewStale, KeepsFewStale}
 use Rattle.mm_mark.proofs.Told.{stored-viewed}
 use Rattle.mm_mark.proofs.Shaded.{at_gray, gray}
 use Rattle.mm_mark.proofs.Advancing.{recoloured-seen}
@@ -33,10 +33,13 @@ shaded-few before after word base s sound old new noted stale h =
   where
     object : ObjectView
     object = view_of_stored s.object
+
     begins : Begins (views_of before.objects) base object
     begins = stored-viewed before.objects base s.object s.covers.begins
+
     from : 4096 ≤ base
     from = let inside = sound.inside base (gray before after word base s) (at_gray before after word base s) in let low = inside.from in omega arith
+
     seen : views_of after.objects ≡ with_entry base (Some (record object { colour = Gray })) (views_of before.objects)
     seen = ap (λ (h : Heap). views_of h.objects) s.now ∙ recoloured-seen before base s.object Gray s.covers.begins
 

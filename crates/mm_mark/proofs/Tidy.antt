@@ -1,8 +1,8 @@
 -- Which changes keep the queue tidy, and how many entries are stale afterwards.
-use Rattle.std.proofs.Common.{◌≡◌, ◌≢◌, ℕ, zero, suc, ◌+◌, ◌-◌, ◌*◌, ◌/◌, ◌<◌, ◌≤◌, ◌⊎◌, Bool, true, false, List, [], ◌∷◌, map, length, drop, Option, Some, None, inl, inr, refl, sym, ap, subst, ◌∙◌, arith, eqb, eqb-true}
-use Rattle.std.specs.Prelude.{IfSome, IsTrue, slice_get, slice_set, slice_index, ◌==◌, ◌||◌, if◌then◌else◌}
+use Rattle.std.proofs.Common.{◌≡◌, ◌≢◌, ℕ, suc, ◌+◌, ◌-◌, ◌*◌, ◌/◌, ◌<◌, ◌≤◌, Bool, true, false, List, [], ◌∷◌, map, length, drop, Option, Some, None, refl, sym, ap, subst, ◌∙◌, arith, eqb, eqb-true}
+use Rattle.std.specs.Prelude.{slice_get, slice_index, ◌==◌, ◌||◌, if◌then◌else◌}
 use Rattle.std.specs.List.{list_any, AllByRecursion, IsDistinct}
-use Rattle.std.proofs.lemmas.Bool.{cases_eq, eq-eqb}
+use Rattle.std.proofs.lemmas.Bool.{eq-eqb}
 use Rattle.std.proofs.lemmas.List.{length-set}
 use Rattle.std.proofs.lemmas.Map.Steps.{length-le_from_distinct_below}
 use Rattle.std.proofs.lemmas.Option.{slice_get_within}
@@ -12,12 +12,12 @@ use Rattle.mm_model.specs.ByBase.{Begins, with_entry}
 use Rattle.mm_model.specs.ObjectView.{ObjectView, ObjectsByBase, holds_base}
 use Rattle.mm_model.specs.Marking.{is_gray}
 use Rattle.mm_model.specs.View.{PartlyScannedView}
-use Rattle.mm_model.proofs.Lists.Replaced.{get-set_same, get-set_other}
+use Rattle.mm_model.proofs.Lists.Replaced.{get-set_other}
 use Rattle.mm_model.proofs.Lists.Truth.{no_other}
 use Rattle.mm_model.proofs.Lists.Keyed.{refuted}
 use Rattle.mm_model.proofs.View.Entries.{begins_same}
-use Rattle.mm_mark.specs.Marker.{Marker, Marking, IsNoted}
-use Rattle.mm_mark.specs.Stale.{is_gray_entry, has_gray, stale_in, stale_of, IsPlace, AreDistinctPlaces, known_bases, IsTidy, HasFewStale}
+use Rattle.mm_mark.specs.Marker.{Marker, IsNoted}
+use Rattle.mm_mark.specs.Stale.{is_gray_entry, has_gray, stale_in, IsPlace, AreDistinctPlaces, known_bases, IsTidy, HasFewStale}
 use Rattle.mm_mark.proofs.Reading.{white_not_gray, black_not_white}
 use Rattle.mm_mark.proofs.Advancing.{entry-here, entry-apart}
 
@@ -57,10 +57,11 @@ same_key entries b x p q e =
 keys-differ : (entries b : ℕ) (bs : List ℕ) → IsPlace entries b → AreDistinctPlaces entries bs → holds_base bs b ≡ false
     → AllByRecursion (λ y. eqb (key b) y ≡ false) (map key bs)
 keys-differ entries b [] p places e = tt
-keys-differ entries b (x ∷ bs) p places e =
-    (refuted (eqb (key b) (key x))
-    (λ h. not_first x bs b e (sym (same_key entries b x p places.0 (eqb-true (key b) (key x) h)))),
-    keys-differ entries b bs p places.2 (not_rest x bs b e))
+keys-differ entries b (x ∷ bs) p places e = (
+  refuted (eqb (key b) (key x))
+      (λ h. not_first x bs b e (sym (same_key entries b x p places.0 (eqb-true (key b) (key x) h)))),
+  keys-differ entries b bs p places.2 (not_rest x bs b e),
+)
 
 keys-distinct : (entries : ℕ) (bs : List ℕ) → AreDistinctPlaces entries bs → IsDistinct eqb (map key bs)
 unfolding IsDistinct
@@ -158,9 +159,11 @@ module _ (old new : Marker) (objects : ObjectsByBase) (base : ℕ) (object : Obj
       → AreDistinctPlaces (length objects) (known_bases p queue)
       → AreDistinctPlaces (length objects) (known_bases p (base ∷ queue))
   more None queue e places = (place, e, places)
-  more (Some p) queue e places =
-      (places.0, not_held base queue p.base (λ same. not_first p.base queue base e (sym same)) places.1,
-      (place, not_rest p.base queue base e, places.2))
+  more (Some p) queue e places = (
+    places.0,
+    not_held base queue p.base (λ same. not_first p.base queue base e (sym same)) places.1,
+    (place, not_rest p.base queue base e, places.2),
+  )
 
   queue-unheld : (p : Option PartlyScannedView) (queue : List ℕ) → holds_base (known_bases p queue) base ≡ false
       → holds_base queue base ≡ false
@@ -364,6 +367,7 @@ forgotten-tidy old objects t = record {
         → AreDistinctPlaces (length objects) old.queue
     less None places = places
     less (Some p) places = places.2
+
     fewer : (x : ℕ) (p : Option PartlyScannedView) → holds_base (known_bases p old.queue) x ≡ false
         → holds_base old.queue x ≡ false
     fewer x None e = e

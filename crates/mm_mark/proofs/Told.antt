@@ -1,12 +1,11 @@
 -- What callers of a heap are told of its objects: by their cells, and entry by entry by the model's view of them.
-use Rattle.std.proofs.Common.{◌≡◌, ◌≢◌, ℕ, ◌+◌, ◌*◌, ◌<◌, ◌≤◌, ◌⊎◌, List, map, length, Option, Some, None, inl, inr, refl, sym, ap, subst, ◌∙◌, arith}
+use Rattle.std.proofs.Common.{◌≡◌, ℕ, Option, Some, None, inl, inr, refl, sym, ap, subst, ◌∙◌, arith}
 use Rattle.std.specs.Prelude.{slice_get}
 use Rattle.std.specs.Option.{option_map}
 use Rattle.std.proofs.lemmas.Bool.{cases_eq}
 use Rattle.std.proofs.lemmas.Option.{slice_get-map}
 use Rattle.mm_model.specs.declared.object.Colour.{Colour}
 use Rattle.mm_model.specs.ByBase.{Begins}
-use Rattle.mm_model.specs.SizeClass.{object_bytes}
 use Rattle.mm_model.specs.ObjectView.{ObjectView}
 use Rattle.mm_model.proofs.View.Entries.{begins_same}
 use Rattle.mm_cells.specs.Cells as cells
@@ -79,9 +78,9 @@ module _ (h : Heap) (sound : IsSound h) where
   one_covering word x y object other a b = elim (cases_eq x y) [
     | inl e ↦ e
     | inr d ↦ elim (sound.apart x y object other a.begins b.begins d).disjoint [
-        | inl before ↦ absurd (omega (arith, a.to, b.from))
-        | inr after ↦ absurd (omega (arith, b.to, a.from))
-      ]
+      | inl before ↦ absurd (omega (arith, a.to, b.from))
+      | inr after ↦ absurd (omega (arith, b.to, a.from))
+    ]
   ]
 
   -- and a base in its own

@@ -1,5 +1,5 @@
 -- What scanning to the end makes of the objects, and how much there is to scan.
-use Rattle.std.specs.Prelude.{◌≡◌, ◌≢◌, ◌+◌, ℕ, if◌then◌else◌, List, length, take, map, sum, Option, Some, None, IfSome}
+use Rattle.std.specs.Prelude.{◌≡◌, ◌≢◌, ◌+◌, ℕ, if◌then◌else◌, length, take, Option, Some, None, IfSome}
 use Rattle.std.specs.List.{sum_by}
 use Rattle.mm_model.specs.declared.object.Colour.{Colour}
 use Rattle.mm_model.specs.declared.object.Colour.TheVariants.{White, Black}

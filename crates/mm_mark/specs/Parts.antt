@@ -49,7 +49,7 @@ pub data IsAdvanced (objects : ObjectsByBase) (from : PartlyScannedView) (object
     (after : Marking) : Type 0 where
   Is_black : part_end from object ≡ length (scanned_words_of object)
       → after.objects ≡ with_entry from.base (Some (record object { colour = Black }))
-          (with_grayed_objects (part_words from object) objects)
+      (with_grayed_objects (part_words from object) objects)
       → after.marker.partly ≡ None → IsAdvanced objects from object after
   Is_under_scan : part_end from object < length (scanned_words_of object)
       → after.objects ≡ with_grayed_objects (part_words from object) objects

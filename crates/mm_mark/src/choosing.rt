@@ -17,7 +17,11 @@ use std::sync::ledger::Ledger;
 
 impl Marker {
     /// The object that is scanned next, which counts as scanned in part from now on.
-    pub(crate) fn choose<L: Ledger>(&mut self, heap: &Heap, steps: &mut Steps<L>) -> Option<PartlyScanned>
+    pub(crate) fn choose<L: Ledger>(
+        &mut self,
+        heap: &Heap,
+        steps: &mut Steps<L>,
+    ) -> Option<PartlyScanned>
         requires { KeepsGray self.old (views_of heap.now.objects) }
         ensures next { MatchOption result (NoneIsGray (views_of heap.now.objects))
             (λ next. IsChosen self.old (views_of heap.now.objects) (view_of_partly next)) }
@@ -36,7 +40,11 @@ impl Marker {
     }
 
     /// The same where none is scanned in part.
-    fn choose_another<L: Ledger>(&mut self, heap: &Heap, steps: &mut Steps<L>) -> Option<PartlyScanned>
+    fn choose_another<L: Ledger>(
+        &mut self,
+        heap: &Heap,
+        steps: &mut Steps<L>,
+    ) -> Option<PartlyScanned>
         requires none { self.old.partly ≡ None }
         requires known { AreKnown self.old (views_of heap.now.objects) }
         ensures next { MatchOption result (NoneIsGray (views_of heap.now.objects))

@@ -18,7 +18,13 @@ use std::sync::ledger::Ledger;
 
 impl Marker {
     /// Begins a cycle: what a cell of the stack or one of the other words falls in becomes gray.
-    pub fn begin<L: Ledger>(&mut self, heap: &mut Heap, stack: &Stack, area_words: &[u32], steps: &mut Steps<L>)
+    pub fn begin<L: Ledger>(
+        &mut self,
+        heap: &mut Heap,
+        stack: &Stack,
+        area_words: &[u32],
+        steps: &mut Steps<L>,
+    )
         requires idle { self.old.running ≡ false }
         requires white { AreWhite (views_of heap.old.objects) }
         ensures grayed { IsGrayed heap.old heap.new (stack.now.words ++ area_words.now) }
@@ -33,7 +39,13 @@ impl Marker {
     }
 
     /// Looks at the stack and the other words again, before a cycle ends.
-    pub fn rescan<L: Ledger>(&mut self, heap: &mut Heap, stack: &Stack, area_words: &[u32], steps: &mut Steps<L>)
+    pub fn rescan<L: Ledger>(
+        &mut self,
+        heap: &mut Heap,
+        stack: &Stack,
+        area_words: &[u32],
+        steps: &mut Steps<L>,
+    )
         requires runs { self.old.running ≡ true }
         requires keeps { KeepsGray self.old (views_of heap.old.objects) }
         ensures grayed { IsGrayed heap.old heap.new (stack.now.words ++ area_words.now) }
@@ -78,7 +90,13 @@ impl Marker {
         self.next = 0;
     }
 
-    fn shade_roots<L: Ledger>(&mut self, heap: &mut Heap, stack: &Stack, area_words: &[u32], steps: &mut Steps<L>)
+    fn shade_roots<L: Ledger>(
+        &mut self,
+        heap: &mut Heap,
+        stack: &Stack,
+        area_words: &[u32],
+        steps: &mut Steps<L>,
+    )
         requires { AreKnown self.old (views_of heap.old.objects) }
         ensures grayed { IsGrayed heap.old heap.new (stack.now.words ++ area_words.now) }
         ensures cycle { IsSameButQueue self.old self.new }

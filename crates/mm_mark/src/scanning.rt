@@ -45,7 +45,11 @@ impl Marker {
     }
 
     /// The same, where no view tells what is scanned in part.
-    pub(crate) fn scan_next<L: Ledger>(&mut self, heap: &mut Heap, steps: &mut Steps<L>) -> Option<Part>
+    pub(crate) fn scan_next<L: Ledger>(
+        &mut self,
+        heap: &mut Heap,
+        steps: &mut Steps<L>,
+    ) -> Option<Part>
         requires { KeepsGray self.old (views_of heap.old.objects) }
         ensures part { MatchOption result
             (NoneIsGray (views_of heap.old.objects) × (heap.new ≡ heap.old) × (self.new.partly ≡ None))
@@ -66,7 +70,12 @@ impl Marker {
     }
 
     /// Scans the next part of a gray object of which some slots may be done.
-    fn scan_from<L: Ledger>(&mut self, heap: &mut Heap, from: PartlyScanned, steps: &mut Steps<L>) -> Part
+    fn scan_from<L: Ledger>(
+        &mut self,
+        heap: &mut Heap,
+        from: PartlyScanned,
+        steps: &mut Steps<L>,
+    ) -> Part
         requires gray { HasColour heap.old from.base Gray }
         requires fits { (object : ObjectView) → Begins (views_of heap.old.objects) from.base object
             → from.slots_done ≤ length (scanned_words_of object) }
@@ -104,7 +113,13 @@ impl Marker {
     }
 
     /// Shades the words of the slots of a gray object up to one.
-    fn shade_slots<L: Ledger>(&mut self, heap: &mut Heap, from: PartlyScanned, end: u32, steps: &mut Steps<L>)
+    fn shade_slots<L: Ledger>(
+        &mut self,
+        heap: &mut Heap,
+        from: PartlyScanned,
+        end: u32,
+        steps: &mut Steps<L>,
+    )
         requires gray { HasColour heap.old from.base Gray }
         requires some { from.slots_done ≤ end }
         requires within { (object : ObjectView) → Begins (views_of heap.old.objects) from.base object
@@ -125,7 +140,13 @@ impl Marker {
     }
 
     /// Notes how far the scan of an object is: at its end the object becomes black.
-    fn advance<L: Ledger>(&mut self, heap: &mut Heap, to: PartlyScanned, count: u32, steps: &mut Steps<L>)
+    fn advance<L: Ledger>(
+        &mut self,
+        heap: &mut Heap,
+        to: PartlyScanned,
+        count: u32,
+        steps: &mut Steps<L>,
+    )
         requires object { IsObject heap.old to.base }
         requires known { AreKnown self.old (views_of heap.old.objects) }
         requires own { IsOfPartly self.old.partly to.base }

@@ -34,7 +34,12 @@ impl Marker {
     }
 
     /// The same for each of some words.
-    pub(crate) fn shade_words<L: Ledger>(&mut self, heap: &mut Heap, words: &[u32], steps: &mut Steps<L>)
+    pub(crate) fn shade_words<L: Ledger>(
+        &mut self,
+        heap: &mut Heap,
+        words: &[u32],
+        steps: &mut Steps<L>,
+    )
         requires { AreKnown self.old (views_of heap.old.objects) }
         ensures grayed { IsGrayed heap.old heap.new words.now }
         ensures cycle { IsSameButQueue self.old self.new }
@@ -60,7 +65,14 @@ impl Marker {
 
     /// The write barrier: `word` goes into slot `s` of the object that begins at `holder`. It may be told before the
     /// word is written, or after.
-    pub fn barrier<L: Ledger>(&mut self, heap: &mut Heap, holder: u32, s: u32, word: u32, steps: &mut Steps<L>)
+    pub fn barrier<L: Ledger>(
+        &mut self,
+        heap: &mut Heap,
+        holder: u32,
+        s: u32,
+        word: u32,
+        steps: &mut Steps<L>,
+    )
         requires runs { self.old.running ≡ true }
         requires keeps { KeepsGray self.old (views_of heap.old.objects) }
         requires slot { HasSlot heap.old holder s }

@@ -1,6 +1,6 @@
-use Rattle.std.proofs.Common.{◌≡◌, ℕ, subst}
+use Rattle.std.proofs.Common.{subst}
 use Rattle.mm_cells.specs.Cells.{Cells, Covers}
-use Rattle.mm_mark.proofs.Told.{coloured-cell, cell_at_base, covers_at_base, cell-covers_at_base}
+use Rattle.mm_mark.proofs.Told.{coloured-cell, cell_at_base, cell-covers_at_base}
 use Rattle.mm_object.specs.Heap.{cell_of}
 use Rattle.mm_mark.proofs.colours.colour_at.Goals as goal
 

@@ -1,4 +1,4 @@
-use Rattle.std.proofs.Common.{◌≡◌, ◌∙◌, ap, sym}
+use Rattle.std.proofs.Common.{◌∙◌, ap}
 use Rattle.mm_mark.specs.Marker.{Marker, marking}
 use Rattle.mm_mark.proofs.Barred.{barred-shown, unbarred-shown, passed-viewed}
 use Rattle.mm_mark.proofs.Grayed.{keeps-grayed}

@@ -1,4 +1,4 @@
-use Rattle.std.proofs.Common.{◌≡◌, ap, sym, arith}
+use Rattle.std.proofs.Common.{ap, arith}
 use Rattle.mm_mark.specs.Marker.{Marker}
 use Rattle.mm_mark.proofs.Tidied.{begun-few}
 use Rattle.mm_mark.proofs.Grayed.{white-known}

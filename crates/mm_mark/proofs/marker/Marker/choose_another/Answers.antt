@@ -1,5 +1,4 @@
-use Rattle.std.proofs.Common.{◌≡◌, Some, refl, sym, ap, ◌∙◌}
-use Rattle.mm_object.specs.Object.{views_of}
+use Rattle.std.proofs.Common.{Some, refl, ap, ◌∙◌}
 use Rattle.mm_mark.specs.Marker.{Marker, marker_of, view_of_partly}
 use Rattle.mm_mark.specs.declared.marker.PartlyScanned.{PartlyScanned}
 use Rattle.mm_mark.proofs.Chosen.{taken-chosen, known-once_taken}

@@ -1,7 +1,7 @@
-use Rattle.std.proofs.Common.{◌≡◌, ◌+◌, ◌*◌, ◌≤◌, refl, sym, ap, subst, ◌∙◌, arith}
+use Rattle.std.proofs.Common.{◌≡◌, ◌+◌, ◌*◌, refl, sym, ap, subst, ◌∙◌, arith}
 use Rattle.mm_object.specs.Object.{views_of}
 use Rattle.mm_object.specs.Heap.{Heap}
-use Rattle.mm_mark.specs.Marker.{Marker, marking}
+use Rattle.mm_mark.specs.Marker.{marking}
 use Rattle.mm_mark.specs.Parts.{NoneIsGray}
 use Rattle.mm_mark.specs.Stale.{stale_of, slots_of}
 use Rattle.mm_mark.specs.Draining.{IsDrained, unscanned}

@@ -1,4 +1,4 @@
-use Rattle.std.proofs.Common.{◌≡◌, Bool, None, ap, sym, subst}
+use Rattle.std.proofs.Common.{Bool, None, ap, sym, subst}
 use Rattle.std.specs.Prelude.{IfSome, MatchBool}
 use Rattle.mm_object.specs.Object.{views_of}
 use Rattle.mm_mark.specs.Marker.{Marker, marker_of, IsUnderScan}

@@ -1,4 +1,4 @@
-use Rattle.std.proofs.Common.{◌≡◌, ap, sym, ◌∙◌}
+use Rattle.std.proofs.Common.{ap, sym, ◌∙◌}
 use Rattle.std.specs.Option.{option_map}
 use Rattle.mm_mark.specs.Marker.{Marker, view_of_partly}
 use Rattle.mm_mark.proofs.Forgotten.{freed-told}

@@ -1,10 +1,10 @@
-use Rattle.std.proofs.Common.{◌≡◌, ℕ, ◌+◌, ◌-◌, ◌<◌, ◌≤◌, min, List, take, drop, length, refl, sym, ap, subst, ◌∙◌, arith}
+use Rattle.std.proofs.Common.{◌≡◌, ℕ, ◌+◌, ◌-◌, min, List, take, drop, length, sym, ap, subst, ◌∙◌, arith}
 use Rattle.mm_model.specs.ByBase.{Begins}
-use Rattle.mm_model.specs.ObjectView.{ObjectView, ObjectsByBase, scanned_words_of}
+use Rattle.mm_model.specs.ObjectView.{ObjectsByBase, scanned_words_of}
 use Rattle.mm_object.specs.Object.{view_of_stored, views_of}
 use Rattle.mm_mark.specs.Marker.{Marker, marking, view_of_partly}
 use Rattle.mm_mark.specs.Colours.{IsGrayed}
-use Rattle.mm_mark.specs.Parts.{part_words, part_end}
+use Rattle.mm_mark.specs.Parts.{part_words}
 use Rattle.mm_mark.proofs.Told.{stored-viewed, viewed-stored}
 use Rattle.mm_mark.proofs.Advancing.{gray-stays, count-seen, colour-seen, part-words, length-part_words, ended-advanced}
 use Rattle.mm_mark.proofs.marker.Marker.scan_from.Goals as goal

@@ -1,9 +1,9 @@
-use Rattle.std.proofs.Common.{◌≡◌, ◌+◌, ◌*◌, ◌≤◌, arith, refl, sym, ap, subst, ◌∙◌}
+use Rattle.std.proofs.Common.{arith, refl, ap, subst, ◌∙◌}
 use Rattle.std.specs.Option.{option_map}
 use Rattle.mm_model.specs.declared.object.Colour.{Colour}
 use Rattle.mm_object.specs.Object.{views_of}
 use Rattle.mm_mark.specs.Marker.{marking, view_of_partly}
-use Rattle.mm_mark.specs.Stale.{IsTidy, HasFewStale, stale_of}
+use Rattle.mm_mark.specs.Stale.{HasFewStale, stale_of}
 use Rattle.mm_mark.specs.Colours.{HasColour}
 use Rattle.mm_mark.proofs.Reading.{seen-coloured}
 use Rattle.mm_mark.proofs.Advancing.{advanced-under}

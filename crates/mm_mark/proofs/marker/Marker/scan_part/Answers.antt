@@ -1,4 +1,4 @@
-use Rattle.std.proofs.Common.{◌≡◌, ◌+◌, ◌*◌, ◌≤◌, arith}
+use Rattle.std.proofs.Common.{arith}
 use Rattle.mm_mark.specs.Stale.{stale_of}
 use Rattle.mm_mark.specs.Marker.{marking}
 use Rattle.mm_mark.proofs.PartsDone.{part-in_views}

@@ -1,8 +1,6 @@
-use Rattle.std.proofs.Common.{◌≡◌, ℕ, [], ◌∷◌, Option, Some, None, sym, subst}
-use Rattle.std.specs.Prelude.{MatchOption}
+use Rattle.std.proofs.Common.{[], ◌∷◌, sym, subst}
 use Rattle.mm_object.specs.Object.{views_of}
 use Rattle.mm_object.specs.Heap.{Heap}
-use Rattle.mm_object.specs.Colours.{NoWhite, Shades}
 use Rattle.mm_mark.specs.Marker.{AreKnown}
 use Rattle.mm_mark.specs.Colours.{IsGrayed}
 use Rattle.mm_mark.proofs.Shaded.{none-grayed, shaded-grayed, shaded-known}

@@ -1,4 +1,4 @@
-use Rattle.std.proofs.Common.{◌≡◌, ℕ, List, subst}
+use Rattle.std.proofs.Common.{ℕ, List, subst}
 use Rattle.mm_mark.specs.Colours.{IsGrayed}
 use Rattle.mm_mark.proofs.Grayed.{grayed-in_order, grayed-then}
 use Rattle.mm_mark.proofs.marker.Marker.shade_roots.Goals as goal

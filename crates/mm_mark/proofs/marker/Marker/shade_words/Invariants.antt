@@ -1,4 +1,4 @@
-use Rattle.std.proofs.Common.{◌≡◌, ◌+◌, take, length}
+use Rattle.std.proofs.Common.{◌≡◌, ◌+◌, take}
 use Rattle.mm_object.specs.Object.{views_of}
 use Rattle.mm_object.specs.Heap.{IsSound}
 use Rattle.mm_mark.specs.Marker.{IsSameButQueue, AreKnown, marking}
