@@ -26,7 +26,8 @@ use Rattle.mm_mark.proofs.Reading.{black_not_gray}
 use Rattle.mm_mark.proofs.Chosen.{known-elsewhere}
 
 -- a gray object stays as it is where others become gray
-pub gray-stays : (words : List ℕ) (objects : ObjectsByBase) (base : ℕ) (object : ObjectView) → Begins objects base object
+pub gray-stays : (words : List ℕ) (objects : ObjectsByBase) (base : ℕ) (object : ObjectView)
+    → Begins objects base object
     → object.colour ≡ Gray → Begins (with_grayed_objects words objects) base object
 gray-stays words objects base object begins gray = record {
   grain = begins.grain;
@@ -223,11 +224,13 @@ take-next-slot xs from s begun below =
     let next : s + 1 - from ≡ s - from + 1 = omega arith in
     let whole : from + (s - from) ≡ s = omega arith in
     ap (λ (n : ℕ). take n (drop from xs)) next ∙ take-next (drop from xs) (s - from) (omega arith)
-    ∙ ap (λ (w : ℕ). take (s - from) (drop from xs) ++ (w ∷ [])) (get_or-drop from xs (s - from) 0 ∙ ap (slice_index xs) whole)
+    ∙ ap (λ (w : ℕ). take (s - from) (drop from xs) ++ (w ∷ []))
+    (get_or-drop from xs (s - from) 0 ∙ ap (slice_index xs) whole)
 
 -- what is told of the stored object is told of the one that is seen
 pub count-seen : (h : Heap) (base count : ℕ)
-    → ((stored : StoredObject) → Begins h.objects base stored → count ≡ length (scanned_words_of (view_of_stored stored)))
+    → ((stored : StoredObject) → Begins h.objects base stored
+    → count ≡ length (scanned_words_of (view_of_stored stored)))
     → (object : ObjectView) → Begins (views_of h.objects) base object → count ≡ length (scanned_words_of object)
 count-seen h base count told object begins =
     let stored = viewed-stored h.objects base object begins in

@@ -12,7 +12,8 @@ use Rattle.mm_object.specs.Heap.{Heap}
 use Rattle.mm_mark.specs.Marker.{Marker, Marking, ShowsMarking, is_passed}
 use Rattle.mm_mark.proofs.Told.{viewed-stored}
 
-module _ (before : Marking) (view : View) (holder s word : ℕ) (object : ObjectView) (shows : ShowsMarking before view) where
+module _ (before : Marking) (view : View) (holder s word : ℕ) (object : ObjectView)
+    (shows : ShowsMarking before view) where
   abbrev held : Based ObjectView
   held = record { base = holder; value = object }
 
@@ -36,15 +37,19 @@ module _ (before : Marking) (view : View) (holder s word : ℕ) (object : Object
         partly = shows.partly ∙ sym same;
       })
 
-  pub unbarred-shown : is_passed before.marker holder s object ≡ false → ShowsMarking before (view_barrier held s word view)
+  pub unbarred-shown : is_passed before.marker holder s object ≡ false
+      → ShowsMarking before (view_barrier held s word view)
   unbarred-shown passed =
       subst (λ (b : Bool). ShowsMarking before (if b then view_with_grayed (word ∷ []) view else view))
       (sym (passed-shown ∙ passed)) shows
 
 -- what is told of the stored object is told of what the view has there
-pub passed-viewed : (h : Heap) (marker : Marker) (view : View) (holder s : ℕ) (told : Bool) → view.objects ≡ views_of h.objects
-    → ((object : StoredObject) → Begins h.objects holder object → told ≡ is_passed marker holder s (view_of_stored object))
+pub passed-viewed : (h : Heap) (marker : Marker) (view : View) (holder s : ℕ) (told : Bool)
+    → view.objects ≡ views_of h.objects
+    → ((object : StoredObject) → Begins h.objects holder object
+    → told ≡ is_passed marker holder s (view_of_stored object))
     → (object : ObjectView) → Begins view.objects holder object → is_passed marker holder s object ≡ told
 passed-viewed h marker view holder s told shown tells object begins =
-    let stored = viewed-stored h.objects holder object (subst (λ (os : ObjectsByBase). Begins os holder object) shown begins) in
+    let stored = viewed-stored h.objects holder object (subst (λ (os : ObjectsByBase). Begins os holder object) shown
+    begins) in
     sym (tells stored.object stored.begins ∙ ap (is_passed marker holder s) stored.is)

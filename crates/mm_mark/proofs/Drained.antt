@@ -89,7 +89,8 @@ shaded-from words objects base new begins =
     (sym (get-changed (grayed_at words) objects begins.grain) ∙ begins.is)
   where
     from : (e : Option (Option ObjectView)) → slice_get objects begins.grain ≡ e
-        → option_map (option_and_then (grayed_at words (16 * begins.grain))) (slice_get objects begins.grain) ≡ Some (Some new)
+        → option_map (option_and_then (grayed_at words (16 * begins.grain))) (slice_get objects begins.grain) ≡ Some
+        (Some new)
         → ShadedFrom words objects base new
     from None f h =
         let no : ◌≡◌ {A = Option (Option ObjectView)} None (Some (Some new)) =
@@ -103,7 +104,8 @@ shaded-from words objects base new begins =
         let there : Begins objects base old = record { grain = begins.grain; aligned = begins.aligned; is = f } in
         let to = shaded-to words objects base old there in
         let same = begins_same (with_grayed_objects words objects) base to.new new to.begins begins in
-        record { old = old; begins = there; shaded = subst (λ (n : ObjectView). IsShaded words base old n) same to.shaded }
+        record { old = old; begins = there; shaded = subst (λ (n : ObjectView). IsShaded words base old n) same
+        to.shaded }
 
 -- what is white afterwards was so before, and no word falls in it
 pub record WasWhite (words : List ℕ) (objects : ObjectsByBase) (base : ℕ) (object : ObjectView) : Type 0 where
@@ -129,7 +131,8 @@ white-was words objects base object begins white = split from.shaded
     }
 
 -- what isn't white stays
-pub dark-stays : (words : List ℕ) (objects : ObjectsByBase) (base : ℕ) (object : ObjectView) → Begins objects base object
+pub dark-stays : (words : List ℕ) (objects : ObjectsByBase) (base : ℕ) (object : ObjectView)
+    → Begins objects base object
     → object.colour ≢ White → Begins (with_grayed_objects words objects) base object
 dark-stays words objects base object begins dark = split to.shaded
   where
@@ -138,7 +141,8 @@ dark-stays words objects base object begins dark = split to.shaded
 
     split : IsShaded words base object to.new → Begins (with_grayed_objects words objects) base object
     split (IsShaded.Is_grayed w named is) = absurd (dark w)
-    split (IsShaded.Is_spared none is) = subst (λ (v : ObjectView). Begins (with_grayed_objects words objects) base v) is to.begins
+    split (IsShaded.Is_spared none is) = subst (λ (v : ObjectView). Begins (with_grayed_objects words objects) base v)
+        is to.begins
 
 -- and what is black afterwards was so before
 pub black-was : (words : List ℕ) (objects : ObjectsByBase) (base : ℕ) (object : ObjectView)
@@ -157,9 +161,11 @@ black-was words objects base object begins black = split from.shaded
 pub kept-not_black : (objects : ObjectsByBase) (base : ℕ) (object : ObjectView) → IsKeptAtFinishAt objects base
     → Begins objects base object → object.colour ≡ Black → ⊥
 kept-not_black objects base object (IsKeptAtFinishAt.Already b own there gray) begins black =
-    black_not_gray (sym black ∙ ap (λ (v : ObjectView). v.colour) (begins_same objects base object own begins there) ∙ gray)
+    black_not_gray (sym black ∙ ap (λ (v : ObjectView). v.colour) (begins_same objects base object own begins there)
+        ∙ gray)
 kept-not_black objects base object (IsKeptAtFinishAt.By_slot b own by holder there white held named kept) begins black =
-    black_not_white (sym black ∙ ap (λ (v : ObjectView). v.colour) (begins_same objects base object own begins there) ∙ white)
+    black_not_white (sym black ∙ ap (λ (v : ObjectView). v.colour) (begins_same objects base object own begins there)
+        ∙ white)
 
 -- where some words name nothing white, and others don't, all of them don't
 names-append : (objects : ObjectsByBase) (xs ys : List ℕ) → NamesNoWhiteAt objects xs → NamesNoWhiteAt objects ys
@@ -218,7 +224,8 @@ module _ (before : ObjectsByBase) (now next : Marking) (part : Part) (s : IsScan
           ∙ s.chosen.gray
 
       split : IsMove before base was.colour moved.colour → IsKeptAtFinishAt before base
-      split (IsMove.Stays e) = IsKeptAtFinishAt.Already base (record object { colour = was.colour }) was.begins (sym e ∙ gray)
+      split (IsMove.Stays e) = IsKeptAtFinishAt.Already base (record object { colour = was.colour }) was.begins
+          (sym e ∙ gray)
       split (IsMove.Is_marked kept dark) = kept
 
   -- and each white object that a word of the part names
@@ -290,7 +297,8 @@ module _ (before : ObjectsByBase) (now next : Marking) (part : Part) (s : IsScan
           record {
             colour = Black;
             begins =
-                subst (λ (v : ObjectView). Begins (with_entry base (Some black) mid) b (record v { colour = Black })) same
+                subst (λ (v : ObjectView). Begins (with_entry base (Some black) mid) b (record v { colour = Black }))
+                same
                 (subst (λ (x : ℕ). Begins (with_entry base (Some black) mid) x black) (sym e) now_black);
             move = IsMove.Is_marked (subst (IsKeptAtFinishAt before) (sym e) scanned-kept) black_not_white;
           }
@@ -306,7 +314,8 @@ module _ (before : ObjectsByBase) (now next : Marking) (part : Part) (s : IsScan
       split : (b ≡ base) ⊎ (b ≢ base) → WasThere before b o
       split (inl e) =
           let at = subst (λ (x : ℕ). Begins (with_entry base (Some black) mid) x o) e begins in
-          let same = begins_same (with_entry base (Some black) mid) base black o (entry-here mid base object black stays) at in
+          let same = begins_same (with_entry base (Some black) mid) base black o
+          (entry-here mid base object black stays) at in
           let there : WasThere before base o =
           record {
             colour = was.colour;
@@ -379,7 +388,8 @@ module _ (before : ObjectsByBase) (now next : Marking) (part : Part) (s : IsScan
       split : (b ≡ base) ⊎ (b ≢ base) → IsPassedOver before next.objects b o
       split (inl e) =
           let at = subst (λ (x : ℕ). Begins (with_entry base (Some black) mid) x o) e there in
-          let same = begins_same (with_entry base (Some black) mid) base black o (entry-here mid base object black stays) at in
+          let same = begins_same (with_entry base (Some black) mid) base black o
+          (entry-here mid base object black stays) at in
           let every : take (part_end s.from object) (scanned_words_of object) ≡ scanned_words_of o =
           take_all (part_end s.from object) (scanned_words_of object) (omega arith)
           ∙ ap scanned_words_of same in
@@ -481,7 +491,8 @@ module _ (before : ObjectsByBase) (now : Marking) (d : IsDraining before now) (n
     kept = λ base object begins kept. now-black base object (d.forth base object begins)
         (kept-black base kept object begins (d.forth base object begins));
     white = λ base object begins is spared. white-stays base object begins is spared (d.forth base object begins);
-    only = λ base object begins. let was = d.back base object begins in (record object { colour = was.colour }, was.begins);
+    only = λ base object begins. let was = d.back base object begins in
+        (record object { colour = was.colour }, was.begins);
   }
     where
       black-stays : (base : ℕ) (object : ObjectView) → Begins before base object → object.colour ≡ Black

@@ -26,13 +26,15 @@ pub grayed_at-twice : (words more : List ℕ) (base : ℕ) (object : ObjectView)
 grayed_at-twice words more base object =
     split object.colour refl (names_at words base object) refl (names_at more base object) refl
   where
-    one : (c : Colour) → c ≡ object.colour → (m n : Bool) → m ≡ names_at words base object → n ≡ names_at more base object
+    one : (c : Colour) → c ≡ object.colour → (m n : Bool) → m ≡ names_at words base object
+        → n ≡ names_at more base object
         → Some (if is_white c && m then record object { colour = Gray } else object) ≡ grayed_at words base object
     one c e m n f g =
         ap (λ (x : Colour). Some (if is_white x && m then record object { colour = Gray } else object)) e
         ∙ ap (λ (x : Bool). Some (if is_white object.colour && x then record object { colour = Gray } else object)) f
 
-    both : (c : Colour) → c ≡ object.colour → (m n : Bool) → m ≡ names_at words base object → n ≡ names_at more base object
+    both : (c : Colour) → c ≡ object.colour → (m n : Bool) → m ≡ names_at words base object
+        → n ≡ names_at more base object
         → Some (if is_white c && (m || n) then record object { colour = Gray } else object)
         ≡ grayed_at (words ++ more) base object
     both c e m n f g =
@@ -48,21 +50,25 @@ grayed_at-twice words more base object =
         ap (option_and_then (grayed_at more base)) (sym (one White e true n f g)) ∙ both White e true n f g
     split White e false f true g =
         ap (option_and_then (grayed_at more base)) (sym (one White e false true f g))
-        ∙ ap (λ (x : Colour). Some (if is_white x && names_at more base object then record object { colour = Gray } else object)) (sym e)
+        ∙ ap (λ (x : Colour). Some (if is_white x && names_at more base object then record object { colour = Gray }
+        else object)) (sym e)
         ∙ ap (λ (x : Bool). Some (if x then record object { colour = Gray } else object)) (sym g)
         ∙ both White e false true f g
     split White e false f false g =
         ap (option_and_then (grayed_at more base)) (sym (one White e false false f g))
-        ∙ ap (λ (x : Colour). Some (if is_white x && names_at more base object then record object { colour = Gray } else object)) (sym e)
+        ∙ ap (λ (x : Colour). Some (if is_white x && names_at more base object then record object { colour = Gray }
+        else object)) (sym e)
         ∙ ap (λ (x : Bool). Some (if x then record object { colour = Gray } else object)) (sym g)
         ∙ both White e false false f g
     split Gray e m f n g =
         ap (option_and_then (grayed_at more base)) (sym (one Gray e m n f g))
-        ∙ ap (λ (x : Colour). Some (if is_white x && names_at more base object then record object { colour = Gray } else object)) (sym e)
+        ∙ ap (λ (x : Colour). Some (if is_white x && names_at more base object then record object { colour = Gray }
+        else object)) (sym e)
         ∙ both Gray e m n f g
     split Black e m f n g =
         ap (option_and_then (grayed_at more base)) (sym (one Black e m n f g))
-        ∙ ap (λ (x : Colour). Some (if is_white x && names_at more base object then record object { colour = Gray } else object)) (sym e)
+        ∙ ap (λ (x : Colour). Some (if is_white x && names_at more base object then record object { colour = Gray }
+        else object)) (sym e)
         ∙ both Black e m n f g
 
 pub grayed-twice : (words more : List ℕ) (objects : ObjectsByBase)
@@ -70,7 +76,8 @@ pub grayed-twice : (words more : List ℕ) (objects : ObjectsByBase)
 grayed-twice words more objects = same_entries _ _ at
   where
     entry : (k : ℕ) (e : Option (Option ObjectView))
-        → option_map (option_and_then (grayed_at more (16 * k))) (option_map (option_and_then (grayed_at words (16 * k))) e)
+        → option_map (option_and_then (grayed_at more (16 * k)))
+        (option_map (option_and_then (grayed_at words (16 * k))) e)
         ≡ option_map (option_and_then (grayed_at (words ++ more) (16 * k))) e
     entry k None = refl
     entry k (Some None) = refl
@@ -88,9 +95,12 @@ pub grayed-none : (objects : ObjectsByBase) → with_grayed_objects [] objects �
 grayed-none objects = same_entries _ _ at
   where
     one : (base : ℕ) (object : ObjectView) (c : Colour) → c ≡ object.colour → grayed_at [] base object ≡ Some object
-    one base object White e = ap (λ (x : Colour). Some (if is_white x && false then record object { colour = Gray } else object)) (sym e)
-    one base object Gray e = ap (λ (x : Colour). Some (if is_white x && false then record object { colour = Gray } else object)) (sym e)
-    one base object Black e = ap (λ (x : Colour). Some (if is_white x && false then record object { colour = Gray } else object)) (sym e)
+    one base object White e = ap (λ (x : Colour). Some (if is_white x && false then record object { colour = Gray }
+        else object)) (sym e)
+    one base object Gray e = ap (λ (x : Colour). Some (if is_white x && false then record object { colour = Gray }
+        else object)) (sym e)
+    one base object Black e = ap (λ (x : Colour). Some (if is_white x && false then record object { colour = Gray }
+        else object)) (sym e)
 
     entry : (k : ℕ) (e : Option (Option ObjectView)) → option_map (option_and_then (grayed_at [] (16 * k))) e ≡ e
     entry k None = refl
@@ -126,7 +136,8 @@ grayed-reverse words objects = same_entries _ _ at
 pub grayed_at-marks : (words : List ℕ) (base : ℕ) (object : ObjectView) → names_at words base object ≡ true
     → object.colour ≡ White → grayed_at words base object ≡ Some (record object { colour = Gray })
 grayed_at-marks words base object named white =
-    ap (λ (x : Colour). Some (if is_white x && names_at words base object then record object { colour = Gray } else object)) white
+    ap (λ (x : Colour). Some (if is_white x && names_at words base object then record object { colour = Gray } else
+    object)) white
     ∙ ap (λ (x : Bool). Some (if x then record object { colour = Gray } else object)) named
 
 pub grayed_at-spares : (words : List ℕ) (base : ℕ) (object : ObjectView)
@@ -184,7 +195,8 @@ nothing-grayed h = record { grayed = sym (grayed-none (views_of h.objects)); res
 
 pub take-next : (words : List ℕ) (i : ℕ) → i < length words
     → take (i + 1) words ≡ take i words ++ (slice_index words i ∷ [])
-take-next words i below = let next : i + 1 ≡ suc i = omega arith in ap (λ (n : ℕ). take n words) next ∙ take-suc words i 0 below
+take-next words i below =
+    let next : i + 1 ≡ suc i = omega arith in ap (λ (n : ℕ). take n words) next ∙ take-suc words i 0 below
 
 -- one change of a queue after another
 pub queue-then : (first second third : Marker) → IsSameButQueue first second → IsSameButQueue second third

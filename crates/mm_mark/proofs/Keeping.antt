@@ -45,11 +45,13 @@ among-none [] = refl
 among-none (entry ∷ queue) = let rest = among-none queue in omega (arith, rest)
 
 -- a base that isn't an entry makes no difference
-among-other : (base : ℕ) (dead queue : List ℕ) → holds_base queue base ≡ false → among (base ∷ dead) queue ≡ among dead queue
+among-other : (base : ℕ) (dead queue : List ℕ) → holds_base queue base ≡ false
+    → among (base ∷ dead) queue ≡ among dead queue
 among-other base dead [] e = refl
 among-other base dead (entry ∷ queue) e =
     let rest = among-other base dead queue (not_rest entry queue base e) in
-    let apart : (base == entry) ≡ false = refuted (base == entry) (λ h. not_first entry queue base e (eqb-true base entry h)) in
+    let apart : (base == entry) ≡ false = refuted (base == entry)
+    (λ h. not_first entry queue base e (eqb-true base entry h)) in
     ap (λ (b : Bool). (if b || holds_base dead entry then 1 else 0) + among (base ∷ dead) queue) apart
     ∙ ap (λ (n : ℕ). (if holds_base dead entry then 1 else 0) + n) rest
 
@@ -69,7 +71,8 @@ some-counts false m n h = omega arith
 among-more : (entries base : ℕ) (dead queue : List ℕ) → AreDistinctPlaces entries queue
     → among (base ∷ dead) queue ≤ among dead queue + 1
 among-more entries base dead [] places = omega arith
-among-more entries base dead (entry ∷ queue) places = split (base == entry) refl (among-more entries base dead queue places.2)
+among-more entries base dead (entry ∷ queue) places = split (base == entry) refl
+    (among-more entries base dead queue places.2)
   where
     split : (b : Bool) → (base == entry) ≡ b → among (base ∷ dead) queue ≤ among dead queue + 1
         → (if base == entry || holds_base dead entry then 1 else 0) + among (base ∷ dead) queue
@@ -96,7 +99,8 @@ among-few entries (base ∷ dead) queue places =
 -- an entry that was gray is stale only where its object was freed
 entry-freed : (before after : ObjectsByBase) (entries : ℕ) (dead : List ℕ) (entry : ℕ) → IsPlace entries entry
     → ((base : ℕ) → IsGrayAt before base → holds_base dead base ≡ false → IsGrayAt after base)
-    → (if has_gray after entry then 0 else 1) ≤ (if has_gray before entry then 0 else 1) + (if holds_base dead entry then 1 else 0)
+    → (if has_gray after entry then 0 else 1) ≤ (if has_gray before entry then 0 else 1) +
+    (if holds_base dead entry then 1 else 0)
 entry-freed before after entries dead entry place kept =
     split (has_gray before entry) refl (holds_base dead entry) refl
   where
@@ -111,7 +115,8 @@ entry-freed before after entries dead entry place kept =
     gray_there (Some (Some object)) f h =
         let at = place.aligned in
         let whole : entry ≡ 16 * (entry / 16) = omega arith in
-        record { object = object; begins = record { grain = entry / 16; aligned = whole; is = f }; is = colour object.colour refl h }
+        record { object = object; begins = record { grain = entry / 16; aligned = whole; is = f }; is =
+        colour object.colour refl h }
       where
         colour : (c : Colour) → object.colour ≡ c → is_gray object.colour ≡ true → object.colour ≡ Gray
         colour White e t = absurd (no_other (ap is_gray e) t)
@@ -119,7 +124,8 @@ entry-freed before after entries dead entry place kept =
         colour Black e t = absurd (no_other (ap is_gray e) t)
 
     split : (g : Bool) → has_gray before entry ≡ g → (d : Bool) → holds_base dead entry ≡ d
-        → (if has_gray after entry then 0 else 1) ≤ (if has_gray before entry then 0 else 1) + (if holds_base dead entry then 1 else 0)
+        → (if has_gray after entry then 0 else 1) ≤ (if has_gray before entry then 0 else 1) +
+        (if holds_base dead entry then 1 else 0)
     split false e d f =
         let most = at_most_one (has_gray after entry) in
         let one : ◌≡◌ {A = ℕ} (if has_gray before entry then 0 else 1) 1 = ap (λ (b : Bool). if b then 0 else 1) e in

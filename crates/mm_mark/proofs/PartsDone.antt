@@ -43,14 +43,16 @@ module _ (before after : Marking) (from : PartlyScannedView) (object : ObjectVie
   }
 
   shown-black : part_end from object ≡ all
-      → after.objects ≡ with_entry from.base (Some (record object { colour = Black })) (with_grayed_objects words before.objects)
+      → after.objects ≡ with_entry from.base (Some (record object { colour = Black }))
+      (with_grayed_objects words before.objects)
       → after.marker.partly ≡ None → ShowsMarking after (view_advanced turn (part_end from object) shaded)
   shown-black whole now none =
       subst (λ (b : Bool). ShowsMarking after (if b then blackened else under (part_end from object)))
       (sym (eq-eqb (part_end from object) all whole))
       (record {
         shown =
-            ap (λ (os : ObjectsByBase). with_entry from.base (Some (record object { colour = Black })) (with_grayed_objects words os)) shows.shown
+            ap (λ (os : ObjectsByBase). with_entry from.base (Some (record object { colour = Black }))
+            (with_grayed_objects words os)) shows.shown
             ∙ sym now;
         cycle = with_partly None shows.cycle;
         runs = ap (option_map (with_partly None)) shows.runs;
@@ -64,7 +66,8 @@ module _ (before after : Marking) (from : PartlyScannedView) (object : ObjectVie
     where
       split : (b : Bool) → (part_end from object == all) ≡ b
           → ShowsMarking after (if part_end from object == all then blackened else under (part_end from object))
-      split true e = let same : part_end from object ≡ all = eqb-true (part_end from object) all e in absurd (omega arith)
+      split true e = let same : part_end from object ≡ all = eqb-true (part_end from object) all e in
+          absurd (omega arith)
       split false e =
           subst (λ (b : Bool). ShowsMarking after (if b then blackened else under (part_end from object))) (sym e)
           (record {
@@ -82,7 +85,8 @@ module _ (before after : Marking) (from : PartlyScannedView) (object : ObjectVie
   advanced-shown (IsAdvanced.Is_under_scan below now partly) = shown-under below now partly
 
   -- how many slots are done in the view
-  done-shown : from.slots_done ≡ slots_done_of before.marker.partly from.base → slots_done_in view.cycle from.base ≡ from.slots_done
+  done-shown : from.slots_done ≡ slots_done_of before.marker.partly from.base
+      → slots_done_in view.cycle from.base ≡ from.slots_done
   done-shown done =
       ap (λ (c : Option CycleView). slots_done_in c from.base) shows.runs
       ∙ ap (λ (p : Option PartlyScannedView). slots_done_of p from.base) shows.partly ∙ sym done
@@ -112,7 +116,8 @@ module _ (before after : Marking) (from : PartlyScannedView) (object : ObjectVie
             (sym same) (advanced-shown advanced);
       }
 
-pub scanned-part_done : (before after : Marking) (part : Part) → IsScanned before after part → IsPartDone before after part
+pub scanned-part_done : (before after : Marking) (part : Part) → IsScanned before after part
+    → IsPartDone before after part
 scanned-part_done before after part s view shows =
     subst (λ (b : ℕ). IsPartOf before after (record { base = b; slots = part.slots }) view) (sym s.base)
     (part-of before after s.from s.chosen.object view shows part.slots s.chosen.begins s.chosen.gray s.chosen.done

@@ -32,10 +32,12 @@ unscanned-grayed_at words base object = split object.colour refl (names_at words
         → unscanned_of (Some (if is_white object.colour && b then record object { colour = Gray } else object))
         ≡ unscanned_of (Some object)
     split White e true =
-        ap (λ (x : Colour). unscanned_of (Some (if is_white x && true then record object { colour = Gray } else object))) e
+        ap (λ (x : Colour). unscanned_of (Some (if is_white x && true then record object { colour = Gray } else
+        object))) e
         ∙ sym (ap (λ (x : Colour). if is_black x then 0 else 1 + length (scanned_words_of object)) e)
     split White e false =
-        ap (λ (x : Colour). unscanned_of (Some (if is_white x && false then record object { colour = Gray } else object))) e
+        ap (λ (x : Colour). unscanned_of (Some (if is_white x && false then record object { colour = Gray } else
+        object))) e
     split Gray e b =
         ap (λ (x : Colour). unscanned_of (Some (if is_white x && b then record object { colour = Gray } else object))) e
     split Black e b =
@@ -97,7 +99,8 @@ scanned-less before after part s = split s.advanced
     split (IsAdvanced.Is_black whole now none) =
         let words = part_words s.from s.chosen.object in
         let stays = gray-stays words before.objects s.from.base s.chosen.object s.chosen.begins s.chosen.gray in
-        let fall = unscanned-blackened (with_grayed_objects words before.objects) s.from.base s.chosen.object stays s.chosen.gray in
+        let fall = unscanned-blackened (with_grayed_objects words before.objects) s.from.base s.chosen.object stays
+        s.chosen.gray in
         let same = unscanned-grayed words before.objects in
         let left = ap unscanned now in
         let were_done = done in
@@ -113,7 +116,8 @@ scanned-less before after part s = split s.advanced
     split (IsAdvanced.Is_under_scan below now partly) =
         let words = part_words s.from s.chosen.object in
         let stays = gray-stays words before.objects s.from.base s.chosen.object s.chosen.begins s.chosen.gray in
-        let fall = unscanned-blackened (with_grayed_objects words before.objects) s.from.base s.chosen.object stays s.chosen.gray in
+        let fall = unscanned-blackened (with_grayed_objects words before.objects) s.from.base s.chosen.object stays
+        s.chosen.gray in
         let same = unscanned-grayed words before.objects in
         let left = ap unscanned now in
         let were_done = done in

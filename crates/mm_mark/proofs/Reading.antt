@@ -33,7 +33,8 @@ gray-told h base Black has = λ object begins gray. black_not_gray (one_colour h
 -- all slots of what is traced or counted are scanned
 pub scanned-shape : (object : StoredObject) (shape : Shape) → shape ≡ shape_of object
     → (shape.kind ≡ Traced) ⊎ (shape.kind ≡ Counted) → shape.slots ≡ length (scanned_words_of (view_of_stored object))
-scanned-shape object shape is kind = slots ∙ sym (ap (λ (b : Bool). length (if b then object.words else [])) (scanned kind))
+scanned-shape object shape is kind = slots ∙ sym (ap (λ (b : Bool). length (if b then object.words else []))
+    (scanned kind))
   where
     own : shape.kind ≡ object.kind
     own = ap (λ (s : Shape). s.kind) is

@@ -28,7 +28,8 @@ spared : (word base : ℕ) (object : StoredObject)
     → (object.colour ≡ White → base ≤ word → word < base + object.extent → ⊥)
     → grayed_at (word ∷ []) base (view_of_stored object) ≡ Some (view_of_stored object)
 spared word base object none =
-    grayed_at-spares (word ∷ []) base (view_of_stored object) (split object.colour refl (falls word base object.extent) refl)
+    grayed_at-spares (word ∷ []) base (view_of_stored object)
+    (split object.colour refl (falls word base object.extent) refl)
   where
     split : (c : Colour) → object.colour ≡ c → (b : Bool) → falls word base object.extent ≡ b
         → (is_white c && (b || false)) ≡ false
@@ -112,7 +113,8 @@ module _ (before after : Heap) (word base : ℕ) (s : Shades before after word b
           ap (option_map (option_map view_of_stored)) (other k d)
           ∙ entry-spared word k (slice_get before.objects k) (λ object e white from to.
           let one = one_covering after sound word (16 * k) base object gray
-          (record { begins = record { grain = k; aligned = refl; is = other k d ∙ e }; from = from; to = to }) covering in
+          (record { begins = record { grain = k; aligned = refl; is = other k d ∙ e }; from = from; to = to })
+          covering in
           let at = s.covers.begins.aligned in
           d (omega arith))
 
@@ -157,7 +159,8 @@ module _ (before after : Heap) (word base : ℕ) (s : Shades before after word b
       still b (IsNoted.Is_left_out full e) k = subst (λ (m : Marker). IsKnown m b) (sym e) (IsKnown.Is_left_out refl)
 
       now : (b : ℕ) → b ≡ base → IsNoted old new base → IsKnown new b
-      now b e (IsNoted.Is_newest f) = subst (λ (m : Marker). IsKnown m b) (sym f) (IsKnown.Is_queued (first b (eq-eqb base b (sym e))))
+      now b e (IsNoted.Is_newest f) = subst (λ (m : Marker). IsKnown m b) (sym f)
+          (IsKnown.Is_queued (first b (eq-eqb base b (sym e))))
       now b e (IsNoted.Is_left_out full f) = subst (λ (m : Marker). IsKnown m b) (sym f) (IsKnown.Is_left_out refl)
 
       known : (b : ℕ) (view : ObjectView) → Begins (views_of after.objects) b view → view.colour ≡ Gray → IsKnown new b
@@ -174,6 +177,7 @@ module _ (before after : Heap) (word base : ℕ) (s : Shades before after word b
                   aligned = stored.begins.aligned;
                   is = sym (other stored.begins.grain apart) ∙ stored.begins.is;
                 } in
-                still b noted (was_known b (view_of_stored stored.object) (stored-viewed before.objects b stored.object was)
+                still b noted (was_known b (view_of_stored stored.object)
+                (stored-viewed before.objects b stored.object was)
                 (ap (λ (v : ObjectView). v.colour) stored.is ∙ is))
           ]

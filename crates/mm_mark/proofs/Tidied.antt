@@ -38,7 +38,8 @@ shaded-few before after word base s sound old new noted stale h =
     begins = stored-viewed before.objects base s.object s.covers.begins
 
     from : 4096 ≤ base
-    from = let inside = sound.inside base (gray before after word base s) (at_gray before after word base s) in let low = inside.from in omega arith
+    from = let inside = sound.inside base (gray before after word base s) (at_gray before after word base s) in
+        let low = inside.from in omega arith
 
     seen : views_of after.objects ≡ with_entry base (Some (record object { colour = Gray })) (views_of before.objects)
     seen = ap (λ (h : Heap). views_of h.objects) s.now ∙ recoloured-seen before base s.object Gray s.covers.begins
@@ -62,7 +63,8 @@ ended-few old new before after base done slots count is same (IsEnded.Is_black o
     let marker : new ≡ record old { partly = None } =
     same ∙ ap (λ (q : Option PartlyScannedView). record old { partly = q }) none in
     subst (λ (m : Marker). HasFewStale (record { marker = m; objects = after }) stale) (sym marker)
-    (subst (λ (os : ObjectsByBase). HasFewStale (record { marker = record old { partly = None }; objects = os }) stale) (sym now)
+    (subst (λ (os : ObjectsByBase). HasFewStale (record { marker = record old { partly = None }; objects = os })
+    stale) (sym now)
     (record {
       tidy = blackened-tidy old before p object begins is h.tidy;
       few = let kept = blackened-stale old before p object begins is h.tidy in let few = h.few in omega arith;
@@ -72,7 +74,8 @@ ended-few old new before after base done slots count is same (IsEnded.Is_under_s
     same ∙ ap (λ (q : Option PartlyScannedView). record old { partly = q }) partly in
     subst (λ (m : Marker). HasFewStale (record { marker = m; objects = after }) stale) (sym marker)
     (subst (λ (os : ObjectsByBase).
-    HasFewStale (record { marker = record old { partly = Some (record { base = base; slots_done = slots }) }; objects = os }) stale) (sym now)
+    HasFewStale (record { marker = record old { partly = Some (record { base = base; slots_done = slots }) };
+        objects = os }) stale) (sym now)
     (record { tidy = moved-tidy old before base done slots is h.tidy; few = h.few }))
 
 -- where nothing is gray nothing is scanned in part

@@ -95,7 +95,8 @@ pub stale-elsewhere : (objects : ObjectsByBase) (entries base : ℕ) (new : Opti
     → stale_in (with_entry base new objects) queue ≡ stale_in objects queue
 stale-elsewhere objects entries base new [] p places e = refl
 stale-elsewhere objects entries base new (b ∷ bs) p places e =
-    ap (λ (o : Option (Option ObjectView)). (if is_gray_entry o then 0 else 1) + stale_in (with_entry base new objects) bs)
+    ap (λ (o : Option (Option ObjectView)). (if is_gray_entry o then 0 else 1) + stale_in
+    (with_entry base new objects) bs)
     (get-set_other objects (base / 16) (b / 16) new (apart places.0))
     ∙ ap (λ (n : ℕ). (if has_gray objects b then 0 else 1) + n)
     (stale-elsewhere objects entries base new bs p places.2 (not_rest b bs base e))
@@ -187,8 +188,10 @@ module _ (old new : Marker) (objects : ObjectsByBase) (base : ℕ) (object : Obj
   whites x o there is =
       let apart : x ≢ base = λ e.
       white_not_gray (sym is ∙ ap (λ (v : ObjectView). v.colour)
-      (begins_same after base o gray (subst (λ (b : ℕ). Begins after b o) e there) (entry-here objects base object gray begins))) in
-      still old.partly old.queue x apart (t.unwhite x o (entry-apart objects base x object gray o begins there apart) is)
+      (begins_same after base o gray (subst (λ (b : ℕ). Begins after b o) e there)
+      (entry-here objects base object gray begins))) in
+      still old.partly old.queue x apart (t.unwhite x o (entry-apart objects base x object gray o begins there apart)
+      is)
 
   queued : Marker
   queued = record old { queue = base ∷ old.queue }
@@ -227,7 +230,8 @@ module _ (old new : Marker) (objects : ObjectsByBase) (base : ℕ) (object : Obj
   noted-tidy = split noted
     where
       split : IsNoted old new base → IsTidy (record { marker = new; objects = after })
-      split (IsNoted.Is_newest e) = subst (λ (m : Marker). IsTidy (record { marker = m; objects = after })) (sym e) tidy-queued
+      split (IsNoted.Is_newest e) = subst (λ (m : Marker). IsTidy (record { marker = m; objects = after }))
+          (sym e) tidy-queued
       split (IsNoted.Is_left_out full e) = absurd (roomy full)
 
   pub noted-stale : stale_in after new.queue ≡ stale_in objects old.queue
@@ -240,7 +244,8 @@ module _ (old new : Marker) (objects : ObjectsByBase) (base : ℕ) (object : Obj
 -- An entry is taken.
 module _ (old new : Marker) (objects : ObjectsByBase) (entry : ℕ) (none : old.partly ≡ None)
     (some : 0 < length old.queue) (first : entry ≡ slice_index old.queue 0)
-    (rest : new ≡ record old { queue = drop 1 old.queue }) (t : IsTidy (record { marker = old; objects = objects })) where
+    (rest : new ≡ record old { queue = drop 1 old.queue }) (t : IsTidy (record { marker = old; objects = objects }))
+    where
   whole-queue : old.queue ≡ entry ∷ drop 1 old.queue
   whole-queue = split old.queue some first
     where
@@ -251,7 +256,8 @@ module _ (old new : Marker) (objects : ObjectsByBase) (entry : ℕ) (none : old.
   distinct-queue : AreDistinctPlaces (length objects) (entry ∷ drop 1 old.queue)
   distinct-queue =
       subst (AreDistinctPlaces (length objects)) whole-queue
-      (subst (λ (p : Option PartlyScannedView). AreDistinctPlaces (length objects) (known_bases p old.queue)) none t.distinct)
+      (subst (λ (p : Option PartlyScannedView). AreDistinctPlaces (length objects) (known_bases p old.queue)) none
+      t.distinct)
 
   unwhite-queue : (base : ℕ) (object : ObjectView) → Begins objects base object → object.colour ≡ White
       → holds_base (entry ∷ drop 1 old.queue) base ≡ false
@@ -268,17 +274,21 @@ module _ (old new : Marker) (objects : ObjectsByBase) (entry : ℕ) (none : old.
         room = t.room;
         whole = t.whole;
         distinct =
-            subst (λ (p : Option PartlyScannedView). AreDistinctPlaces (length objects) (known_bases p (drop 1 old.queue)))
+            subst (λ (p : Option PartlyScannedView). AreDistinctPlaces (length objects)
+            (known_bases p (drop 1 old.queue)))
             (sym none) distinct-queue.2;
         unwhite = λ base object begins white.
-            subst (λ (p : Option PartlyScannedView). holds_base (known_bases p (drop 1 old.queue)) base ≡ false) (sym none)
+            subst (λ (p : Option PartlyScannedView). holds_base (known_bases p (drop 1 old.queue)) base ≡ false)
+            (sym none)
             (not_rest entry (drop 1 old.queue) base (unwhite-queue base object begins white));
       })
 
   -- and so it is once the entry's object is scanned in part
-  pub taken-tidy : (slots : ℕ) → IsTidy (record { marker = record new { partly = Some (record { base = entry; slots_done = slots }) }; objects = objects })
+  pub taken-tidy : (slots : ℕ) → IsTidy (record { marker = record new
+      { partly = Some (record { base = entry; slots_done = slots }) }; objects = objects })
   taken-tidy slots =
-      subst (λ (m : Marker). IsTidy (record { marker = record m { partly = Some (record { base = entry; slots_done = slots }) }; objects = objects }))
+      subst (λ (m : Marker). IsTidy (record { marker = record m
+      { partly = Some (record { base = entry; slots_done = slots }) }; objects = objects }))
       (sym rest)
       (record { room = t.room; whole = t.whole; distinct = distinct-queue; unwhite = unwhite-queue })
 
@@ -313,7 +323,8 @@ module _ (old : Marker) (objects : ObjectsByBase) (p : PartlyScannedView) (objec
 
   places-own : AreDistinctPlaces (length objects) (p.base ∷ old.queue)
   places-own =
-      subst (λ (o : Option PartlyScannedView). AreDistinctPlaces (length objects) (known_bases o old.queue)) is t.distinct
+      subst (λ (o : Option PartlyScannedView). AreDistinctPlaces (length objects) (known_bases o old.queue)) is
+      t.distinct
 
   whites-left : (x : ℕ) (o : ObjectView) → Begins blackened x o → o.colour ≡ White → holds_base old.queue x ≡ false
   whites-left x o there white =
@@ -343,14 +354,17 @@ module _ (old : Marker) (objects : ObjectsByBase) (p : PartlyScannedView) (objec
 pub moved-tidy : (old : Marker) (objects : ObjectsByBase) (base done slots : ℕ)
     → old.partly ≡ Some (record { base = base; slots_done = done })
     → IsTidy (record { marker = old; objects = objects })
-    → IsTidy (record { marker = record old { partly = Some (record { base = base; slots_done = slots }) }; objects = objects })
+    → IsTidy (record { marker = record old { partly = Some (record { base = base; slots_done = slots }) }; objects =
+    objects })
 moved-tidy old objects base done slots is t = record {
   room = t.room;
   whole = t.whole;
   distinct =
-      subst (λ (o : Option PartlyScannedView). AreDistinctPlaces (length objects) (known_bases o old.queue)) is t.distinct;
+      subst (λ (o : Option PartlyScannedView). AreDistinctPlaces (length objects) (known_bases o old.queue)) is
+      t.distinct;
   unwhite = λ x o there white.
-      subst (λ (q : Option PartlyScannedView). holds_base (known_bases q old.queue) x ≡ false) is (t.unwhite x o there white);
+      subst (λ (q : Option PartlyScannedView). holds_base (known_bases q old.queue) x ≡ false) is
+      (t.unwhite x o there white);
 }
 
 -- What was scanned in part is forgotten.

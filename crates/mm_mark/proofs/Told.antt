@@ -27,9 +27,11 @@ viewed-stored objects base view h =
     from : (e : Option (Option StoredObject)) → slice_get objects h.grain ≡ e
         → option_map (option_map view_of_stored) (slice_get objects h.grain) ≡ Some (Some view)
         → IsStored objects base view
-    from None f g = let no : ◌≡◌ {A = Option (Option ObjectView)} None (Some (Some view)) = sym (ap (option_map (option_map view_of_stored)) f) ∙ g in cc
+    from None f g = let no : ◌≡◌ {A = Option (Option ObjectView)} None (Some (Some view)) =
+        sym (ap (option_map (option_map view_of_stored)) f) ∙ g in cc
     from (Some None) f g =
-        let no : ◌≡◌ {A = Option (Option ObjectView)} (Some None) (Some (Some view)) = sym (ap (option_map (option_map view_of_stored)) f) ∙ g in cc
+        let no : ◌≡◌ {A = Option (Option ObjectView)} (Some None) (Some (Some view)) =
+        sym (ap (option_map (option_map view_of_stored)) f) ∙ g in cc
     from (Some (Some object)) f g =
         let is : ◌≡◌ {A = Option (Option ObjectView)} (Some (Some (view_of_stored object))) (Some (Some view)) =
         sym (ap (option_map (option_map view_of_stored)) f) ∙ g in
@@ -56,9 +58,11 @@ cell-object h base cell b =
   where
     from : (e : Option (Option StoredObject)) → slice_get h.objects b.grain ≡ e
         → option_map (option_map cell_of) (slice_get h.objects b.grain) ≡ Some (Some cell) → IsInCell h base cell
-    from None f g = let no : ◌≡◌ {A = Option (Option cells.Taken)} None (Some (Some cell)) = sym (ap (option_map (option_map cell_of)) f) ∙ g in cc
+    from None f g = let no : ◌≡◌ {A = Option (Option cells.Taken)} None (Some (Some cell)) =
+        sym (ap (option_map (option_map cell_of)) f) ∙ g in cc
     from (Some None) f g =
-        let no : ◌≡◌ {A = Option (Option cells.Taken)} (Some None) (Some (Some cell)) = sym (ap (option_map (option_map cell_of)) f) ∙ g in cc
+        let no : ◌≡◌ {A = Option (Option cells.Taken)} (Some None) (Some (Some cell)) =
+        sym (ap (option_map (option_map cell_of)) f) ∙ g in cc
     from (Some (Some object)) f g =
         let is : ◌≡◌ {A = Option (Option cells.Taken)} (Some (Some (cell_of object))) (Some (Some cell)) =
         sym (ap (option_map (option_map cell_of)) f) ∙ g in
@@ -74,7 +78,8 @@ object-cell h base object b = record {
 
 module _ (h : Heap) (sound : IsSound h) where
   -- a word falls in one object at most
-  pub one_covering : (word x y : ℕ) (object other : StoredObject) → Covers h word x object → Covers h word y other → x ≡ y
+  pub one_covering : (word x y : ℕ) (object other : StoredObject) → Covers h word x object → Covers h word y other
+      → x ≡ y
   one_covering word x y object other a b = elim (cases_eq x y) [
     | inl e ↦ e
     | inr d ↦ elim (sound.apart x y object other a.begins b.begins d).disjoint [

@@ -5,9 +5,10 @@ ghost use Rattle.mm_model.specs.declared.object.Colour.TheVariants.{Gray};
 ghost use Rattle.mm_model.specs.ObjectView.{ObjectView, scanned_words_of};
 ghost use Rattle.mm_object.specs.Object.{StoredObject, view_of_stored, views_of};
 ghost use Rattle.mm_object.specs.Heap.{IsObject, IsSound};
-ghost use Rattle.mm_mark.specs.Marker.{view_of_partly, IsSameButQueue, AreKnown, KeepsGray, marking, IsPartDone, HasNoGray};
+ghost use Rattle.mm_mark.specs.Marker.{view_of_partly, IsSameButQueue, AreKnown, KeepsGray, marking};
+ghost use Rattle.mm_mark.specs.Marker.{IsPartDone, HasNoGray};
 ghost use Rattle.mm_mark.specs.Colours.{IsGrayed, IsSameButColours, HasColour};
-ghost use Rattle.mm_mark.specs.Parts.{NoneIsGray, IsScanned, IsAdvanced, part_words, part_end, IsSameCycle, IsEnded, IsOfPartly};
+ghost use Rattle.mm_mark.specs.Parts.{NoneIsGray, IsScanned, IsAdvanced, part_words, IsSameCycle, IsEnded, IsOfPartly};
 ghost use Rattle.mm_mark.specs.Stale.{IsTidy, HasFewStale, KeepsFewStale, IsPaid, stale_of, slots_of};
 
 use crate::colours::{scanned_count, slot_word};
@@ -126,7 +127,8 @@ impl Marker {
             → end ≤ length (scanned_words_of object) }
         requires known { AreKnown self.old (views_of heap.old.objects) }
         ensures grayed { (object : ObjectView) → Begins (views_of heap.old.objects) from.base object
-            → IsGrayed heap.old heap.new (take (end - from.slots_done) (drop from.slots_done (scanned_words_of object))) }
+            → IsGrayed heap.old heap.new
+            (take (end - from.slots_done) (drop from.slots_done (scanned_words_of object))) }
         ensures cycle { IsSameButQueue self.old self.new }
         ensures known { AreKnown self.new (views_of heap.new.objects) }
         ensures sound { IsSound heap.old → IsSound heap.new }

@@ -9,7 +9,8 @@ returns-then-cell-base-clause-colour g c =
     coloured-cell c.args.heap.now c.args.base c.in-Some.cell.base
     (record { extent = c.in-Some.cell.extent; colour = c.in-Some.cell.colour; flags = c.in-Some.cell.flags })
     c.if-cell-base.true
-    (subst (λ (v : Cells). Covers v c.args.base c.in-Some.cell.base (record { extent = c.in-Some.cell.extent; colour = c.in-Some.cell.colour; flags = c.in-Some.cell.flags }))
+    (subst (λ (v : Cells). Covers v c.args.base c.in-Some.cell.base
+    (record { extent = c.in-Some.cell.extent; colour = c.in-Some.cell.colour; flags = c.in-Some.cell.flags }))
     c.cells.ensures.cells c.in-Some.ensures.cell)
 
 pub returns-else-cell-base-clause-colour : goal.returns-else-cell-base-clause-colour
@@ -17,7 +18,8 @@ returns-else-cell-base-clause-colour g c = λ object begins.
     c.if-cell-base.false
     (cell_at_base c.args.heap.now c.cells.ensures.sound c.args.base c.in-Some.cell.base object
     (record { extent = c.in-Some.cell.extent; colour = c.in-Some.cell.colour; flags = c.in-Some.cell.flags }) begins
-    (subst (λ (v : Cells). Covers v c.args.base c.in-Some.cell.base (record { extent = c.in-Some.cell.extent; colour = c.in-Some.cell.colour; flags = c.in-Some.cell.flags }))
+    (subst (λ (v : Cells). Covers v c.args.base c.in-Some.cell.base
+    (record { extent = c.in-Some.cell.extent; colour = c.in-Some.cell.colour; flags = c.in-Some.cell.flags }))
     c.cells.ensures.cells c.in-Some.ensures.cell))
 
 pub returns-in-None-clause-colour : goal.returns-in-None-clause-colour

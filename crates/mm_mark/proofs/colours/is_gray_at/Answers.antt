@@ -7,7 +7,8 @@ use Rattle.mm_mark.proofs.colours.is_gray_at.Goals as goal
 
 pub returns-in-Some-clause-gray : goal.returns-in-Some-clause-gray
 returns-in-Some-clause-gray g c =
-    subst (λ (b : Bool). MatchBool b (HasColour c.args.heap.now c.args.base Gray) (IsNoneGrayAt c.args.heap.now c.args.base))
+    subst (λ (b : Bool). MatchBool b (HasColour c.args.heap.now c.args.base Gray)
+    (IsNoneGrayAt c.args.heap.now c.args.base))
     (sym c.is_gray.ensures)
     (gray-told c.args.heap.now c.args.base c.in-Some.colour c.in-Some.ensures.colour)
 

@@ -58,7 +58,8 @@ returns-then-to-count-clause-few g c =
     let object = c.requires.object.0 in
     let begins = c.requires.object.1 in
     let now : Marker = marker_of c.self.inside.queue c.self.inside.overflowed c.self.inside.running None in
-    ended-few c.args.self.now now (views_of c.args.heap.now.objects) (views_of c.set_colour.new.self.objects) c.args.to.base
+    ended-few c.args.self.now now (views_of c.args.heap.now.objects) (views_of c.set_colour.new.self.objects)
+    c.args.to.base
     c.requires.own.done c.args.to.slots_done c.args.count c.requires.own.is
     (ap (λ (m : Marker). record m { partly = None }) c.self.view_is)
     (IsEnded.Is_black (view_of_stored object) (stored-viewed c.args.heap.now.objects c.args.to.base object begins)

@@ -25,14 +25,16 @@ pub parts-smaller : goal.parts-smaller
 parts-smaller g c =
     let now = marking c.parts.self c.parts.heap in
     let next = marking c.scan_next.new.self c.scan_next.new.heap in
-    let part = some-scanned _ now next c.scan_next.result (sym c.is_some.ensures ∙ c.parts-test.true) c.scan_next.ensures.part in
+    let part = some-scanned _ now next c.scan_next.result (sym c.is_some.ensures ∙ c.parts-test.true)
+    c.scan_next.ensures.part in
     less-left now next part.0.slots (scanned-less now next part.0 part.1)
 
 pub parts-preserved : goal.parts-preserved
 parts-preserved g c =
     let now = marking c.parts.self c.parts.heap in
     let next = marking c.scan_next.new.self c.scan_next.new.heap in
-    let part = some-scanned _ now next c.scan_next.result (sym c.is_some.ensures ∙ c.parts-test.true) c.scan_next.ensures.part in
+    let part = some-scanned _ now next c.scan_next.result (sym c.is_some.ensures ∙ c.parts-test.true)
+    c.scan_next.ensures.part in
     record {
       draining =
           draining-goes_on (views_of c.args.heap.now.objects) now next part.0 part.1 c.parts.invariant.draining;
@@ -50,14 +52,16 @@ parts-preserved g c =
           so_far (omega (arith, paid, slots));
       sound = λ sound. c.scan_next.ensures.sound (c.parts.invariant.sound sound);
       cycle =
-          cycle-then c.args.self.now c.parts.self c.scan_next.new.self c.parts.invariant.cycle c.scan_next.ensures.cycle;
+          cycle-then c.args.self.now c.parts.self c.scan_next.new.self c.parts.invariant.cycle
+          c.scan_next.ensures.cycle;
     }
 
 pub returns-clause-drained : goal.returns-clause-drained
 returns-clause-drained g c =
     let now = marking c.parts.self c.parts.heap in
     let next = marking c.scan_next.new.self c.scan_next.new.heap in
-    let left = none-scanned _ now next c.scan_next.result (sym c.is_some.ensures ∙ c.parts-test.false) c.scan_next.ensures.part in
+    let left = none-scanned _ now next c.scan_next.result (sym c.is_some.ensures ∙ c.parts-test.false)
+    c.scan_next.ensures.part in
     subst (λ (h : Heap). IsDrained (views_of c.args.heap.now.objects) (views_of h.objects)) (sym left.1)
     (draining-ends (views_of c.args.heap.now.objects) now c.parts.invariant.draining left.0)
 
@@ -65,7 +69,8 @@ pub returns-clause-none : goal.returns-clause-none
 returns-clause-none g c =
     let now = marking c.parts.self c.parts.heap in
     let next = marking c.scan_next.new.self c.scan_next.new.heap in
-    let left = none-scanned _ now next c.scan_next.result (sym c.is_some.ensures ∙ c.parts-test.false) c.scan_next.ensures.part in
+    let left = none-scanned _ now next c.scan_next.result (sym c.is_some.ensures ∙ c.parts-test.false)
+    c.scan_next.ensures.part in
     subst (λ (h : Heap). NoneIsGray (views_of h.objects)) (sym left.1) left.0
 
 pub returns-clause-sound : goal.returns-clause-sound

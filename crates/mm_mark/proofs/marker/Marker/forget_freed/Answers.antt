@@ -13,12 +13,14 @@ pub returns-then-is_freed-clause-keeps : goal.returns-then-is_freed-clause-keeps
 returns-then-is_freed-clause-keeps g c =
     let objects = views_of c.args.heap.now.objects in
     let freed : IsFreed c.args.self.now objects =
-    subst (λ (b : Bool). MatchBool b (IsFreed c.args.self.now objects) (IfSome c.args.self.now.partly (IsUnderScan objects)))
+    subst (λ (b : Bool). MatchBool b (IsFreed c.args.self.now objects)
+    (IfSome c.args.self.now.partly (IsUnderScan objects)))
     c.if-is_freed.true c.is_freed.ensures.freed in
     let now : Marker = marker_of c.self.inside.queue c.self.inside.overflowed c.self.inside.running None in
     record {
       known =
-          forgotten-known c.args.self.now now objects freed (ap (λ (m : Marker). record m { partly = None }) c.self.view_is)
+          forgotten-known c.args.self.now now objects freed (ap (λ (m : Marker). record m { partly = None })
+          c.self.view_is)
           c.requires.known;
       partly = tt;
     }

@@ -17,7 +17,8 @@ returns-then-is_gray_at-clause-base g c =
     let some : 0 < length c.entries.self.queue = omega (arith, c.depth.ensures.value, c.entries-test.true) in
     entry-taken c.entries.self c.take-base.new.self c.take-base.result some c.take-base.ensures.entry
     c.take-base.ensures.rest c.args.heap.now
-    (subst (λ (b : Bool). MatchBool b (HasColour c.args.heap.now c.take-base.result Gray) (IsNoneGrayAt c.args.heap.now c.take-base.result))
+    (subst (λ (b : Bool). MatchBool b (HasColour c.args.heap.now c.take-base.result Gray)
+    (IsNoneGrayAt c.args.heap.now c.take-base.result))
     c.if-is_gray_at.true c.is_gray_at.ensures.gray)
     c.entries.invariant.known
 
@@ -27,22 +28,27 @@ entries-preserved g c =
     let some : 0 < length c.entries.self.queue = omega (arith, c.depth.ensures.value, c.entries-test.true) in
     let step : IsSameButQueue c.entries.self c.take-base.new.self =
     c.take-base.ensures.rest
-    ∙ sym (ap (λ (m : Marker). record c.entries.self { queue = m.queue; overflowed = m.overflowed }) c.take-base.ensures.rest) in
+    ∙ sym (ap (λ (m : Marker). record c.entries.self { queue = m.queue; overflowed = m.overflowed })
+    c.take-base.ensures.rest) in
     let none = ap (λ (m : Marker). m.partly) c.entries.invariant.cycle ∙ c.requires.none in
     let dark : IsNoneGrayAt c.args.heap.now c.take-base.result =
-    subst (λ (b : Bool). MatchBool b (HasColour c.args.heap.now c.take-base.result Gray) (IsNoneGrayAt c.args.heap.now c.take-base.result))
+    subst (λ (b : Bool). MatchBool b (HasColour c.args.heap.now c.take-base.result Gray)
+    (IsNoneGrayAt c.args.heap.now c.take-base.result))
     c.if-is_gray_at.false c.is_gray_at.ensures.gray in
     record {
       cycle = queue-then c.args.self.now c.entries.self c.take-base.new.self c.entries.invariant.cycle step;
       tidy = λ tidy.
-          dropped-tidy c.entries.self c.take-base.new.self (views_of c.args.heap.now.objects) c.take-base.result none some
+          dropped-tidy c.entries.self c.take-base.new.self (views_of c.args.heap.now.objects) c.take-base.result none
+          some
           c.take-base.ensures.entry c.take-base.ensures.rest (c.entries.invariant.tidy tidy);
       paid = λ tidy.
           let paid = c.entries.invariant.paid tidy in
-          let less = dropped-stale c.entries.self c.take-base.new.self (views_of c.args.heap.now.objects) c.take-base.result none some
+          let less = dropped-stale c.entries.self c.take-base.new.self
+          (views_of c.args.heap.now.objects) c.take-base.result none some
           c.take-base.ensures.entry c.take-base.ensures.rest (c.entries.invariant.tidy tidy)
           (λ object begins gray.
-          let has = seen-coloured c.args.heap.now c.take-base.result object begins in dark has.object has.begins (has.is ∙ gray)) in
+          let has = seen-coloured c.args.heap.now c.take-base.result object begins in dark has.object has.begins
+          (has.is ∙ gray)) in
           omega (arith, paid, less, c.take-base.ensures.cost, c.is_gray_at.ensures.cost);
       known =
           entry-dropped c.entries.self c.take-base.new.self c.take-base.result some c.take-base.ensures.entry
@@ -65,9 +71,11 @@ returns-then-is_gray_at-clause-paid g c = λ tidy.
     let some : 0 < length c.entries.self.queue = omega (arith, c.depth.ensures.value, c.entries-test.true) in
     let none = ap (λ (m : Marker). m.partly) c.entries.invariant.cycle ∙ c.requires.none in
     let gray : HasColour c.args.heap.now c.take-base.result Gray =
-    subst (λ (b : Bool). MatchBool b (HasColour c.args.heap.now c.take-base.result Gray) (IsNoneGrayAt c.args.heap.now c.take-base.result))
+    subst (λ (b : Bool). MatchBool b (HasColour c.args.heap.now c.take-base.result Gray)
+    (IsNoneGrayAt c.args.heap.now c.take-base.result))
     c.if-is_gray_at.true c.is_gray_at.ensures.gray in
-    let same = taken-stale c.entries.self c.take-base.new.self (views_of c.args.heap.now.objects) c.take-base.result none some
+    let same = taken-stale c.entries.self c.take-base.new.self (views_of c.args.heap.now.objects) c.take-base.result
+    none some
     c.take-base.ensures.entry c.take-base.ensures.rest (c.entries.invariant.tidy tidy) (view_of_stored gray.object)
     (stored-viewed c.args.heap.now.objects c.take-base.result gray.object gray.begins) gray.is in
     let paid = c.entries.invariant.paid tidy in

@@ -20,7 +20,8 @@ overflow_sub-count g c =
 pub shade_slots-requires-clause-within : goal.shade_slots-requires-clause-within
 shade_slots-requires-clause-within g c = λ object begins.
     let fits = c.requires.fits object begins in
-    let count = count-seen c.args.heap.now c.args.from.base c.scanned_count-count.result c.scanned_count-count.ensures.count object begins in
+    let count = count-seen c.args.heap.now c.args.from.base c.scanned_count-count.result
+    c.scanned_count-count.ensures.count object begins in
     let slots = c.part_slots-slots.ensures in
     omega arith
 
@@ -29,14 +30,16 @@ advance-requires-clause-object g c =
     let object = view_of_stored c.requires.gray.object in
     let begins = stored-viewed c.args.heap.now.objects c.args.from.base c.requires.gray.object c.requires.gray.begins in
     let now : Begins (views_of c.shade_slots.new.heap.objects) c.args.from.base object =
-    subst (λ (os : ObjectsByBase). Begins os c.args.from.base object) (sym (c.shade_slots.ensures.grayed object begins).grayed)
+    subst (λ (os : ObjectsByBase). Begins os c.args.from.base object)
+    (sym (c.shade_slots.ensures.grayed object begins).grayed)
     (gray-stays _ (views_of c.args.heap.now.objects) c.args.from.base object begins c.requires.gray.is) in
     let stored = viewed-stored c.shade_slots.new.heap.objects c.args.from.base object now in
     (stored.object, stored.begins)
 
 pub returns-clause-slots : goal.returns-clause-slots
 returns-clause-slots g c = λ object begins.
-    let count = count-seen c.args.heap.now c.args.from.base c.scanned_count-count.result c.scanned_count-count.ensures.count object begins in
+    let count = count-seen c.args.heap.now c.args.from.base c.scanned_count-count.result
+    c.scanned_count-count.ensures.count object begins in
     c.part_slots-slots.ensures ∙ ap (λ (n : ℕ). min 64 (n - c.args.from.slots_done)) count
     ∙ sym (length-part_words (view_of_partly c.args.from) object)
 
@@ -44,14 +47,20 @@ pub returns-clause-advanced : goal.returns-clause-advanced
 returns-clause-advanced g c = λ object begins.
     let from = view_of_partly c.args.from in
     let fits = c.requires.fits object begins in
-    let count = count-seen c.args.heap.now c.args.from.base c.scanned_count-count.result c.scanned_count-count.ensures.count object begins in
+    let count = count-seen c.args.heap.now c.args.from.base c.scanned_count-count.result
+    c.scanned_count-count.ensures.count object begins in
     let slots = c.part_slots-slots.ensures ∙ ap (λ (n : ℕ). min 64 (n - c.args.from.slots_done)) count in
-    let size : c.part_slots-slots.result ≡ length (part_words from object) = slots ∙ sym (length-part_words from object) in
-    let ends : c.args.from.slots_done + c.part_slots-slots.result - c.args.from.slots_done ≡ c.part_slots-slots.result = omega arith in
-    let words = ap (λ (n : ℕ). take n (drop c.args.from.slots_done (scanned_words_of object))) ends ∙ part-words from object c.part_slots-slots.result slots in
+    let size : c.part_slots-slots.result ≡ length (part_words from object) = slots
+    ∙ sym (length-part_words from object) in
+    let ends : c.args.from.slots_done + c.part_slots-slots.result -
+    c.args.from.slots_done ≡ c.part_slots-slots.result = omega arith in
+    let words = ap (λ (n : ℕ). take n (drop c.args.from.slots_done (scanned_words_of object))) ends
+    ∙ part-words from object c.part_slots-slots.result slots in
     let grayed : IsGrayed c.args.heap.now c.shade_slots.new.heap (part_words from object) =
-    subst (λ (ws : List ℕ). IsGrayed c.args.heap.now c.shade_slots.new.heap ws) words (c.shade_slots.ensures.grayed object begins) in
-    ended-advanced (views_of c.args.heap.now.objects) from object (marking c.shade_slots.new.self c.shade_slots.new.heap)
+    subst (λ (ws : List ℕ). IsGrayed c.args.heap.now c.shade_slots.new.heap ws) words
+    (c.shade_slots.ensures.grayed object begins) in
+    ended-advanced (views_of c.args.heap.now.objects) from object
+    (marking c.shade_slots.new.self c.shade_slots.new.heap)
     (marking c.advance.new.self c.advance.new.heap) (c.args.from.slots_done + c.part_slots-slots.result)
     c.scanned_count-count.result begins (colour-seen c.args.heap.now c.args.from.base _ c.requires.gray object begins)
     grayed.grayed (ap (λ (n : ℕ). c.args.from.slots_done + n) size) count (omega arith) c.advance.ensures.ended

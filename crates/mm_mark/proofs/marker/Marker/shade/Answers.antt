@@ -30,7 +30,8 @@ returns-in_default-clause-known g c =
 
 pub returns-in-Some-clause-few : goal.returns-in-Some-clause-few
 returns-in-Some-clause-few g c =
-    shaded-few c.args.heap.now c.shade.new.self c.args.word c.in-Some.base c.in-Some.ensures.shaded c.shade.ensures.sound
+    shaded-few c.args.heap.now c.shade.new.self c.args.word c.in-Some.base c.in-Some.ensures.shaded
+    c.shade.ensures.sound
     c.args.self.now c.note.new.self c.note.ensures
 
 pub returns-in_default-clause-few : goal.returns-in_default-clause-few

@@ -13,7 +13,8 @@ loop-s-init g c =
     let none : c.args.from.slots_done - c.args.from.slots_done ≡ 0 = omega arith in
     record {
       grayed = λ object begins.
-          subst (λ (n : ℕ). IsGrayed c.args.heap.now c.args.heap.now (take n (drop c.args.from.slots_done (scanned_words_of object))))
+          subst (λ (n : ℕ). IsGrayed c.args.heap.now c.args.heap.now
+          (take n (drop c.args.from.slots_done (scanned_words_of object))))
           (sym none) (nothing-grayed c.args.heap.now);
       cycle = refl;
       known = c.requires.known;
@@ -37,12 +38,14 @@ loop-s-preserved g c = record {
       let begun : c.args.from.slots_done ≤ c.loop-s.s = omega arith in
       let below : c.loop-s.s < length (scanned_words_of object) = omega arith in
       let gray = colour-seen c.args.heap.now c.args.from.base _ c.requires.gray object begins in
-      let read = slot-read c.args.heap.now c.loop-s.heap _ c.args.from.base c.loop-s.s c.slot_word-word.result object begins gray
+      let read = slot-read c.args.heap.now c.loop-s.heap _ c.args.from.base c.loop-s.s c.slot_word-word.result object
+      begins gray
       (c.loop-s.invariant.grayed object begins) below c.slot_word-word.ensures.word in
       let words : take (c.loop-s.s - c.args.from.slots_done) (drop c.args.from.slots_done (scanned_words_of object))
       ++ (c.slot_word-word.result ∷ [])
       ≡ take (c.loop-s.s + 1 - c.args.from.slots_done) (drop c.args.from.slots_done (scanned_words_of object)) =
-      ap (λ (w : ℕ). take (c.loop-s.s - c.args.from.slots_done) (drop c.args.from.slots_done (scanned_words_of object)) ++ (w ∷ [])) read
+      ap (λ (w : ℕ). take (c.loop-s.s - c.args.from.slots_done)
+      (drop c.args.from.slots_done (scanned_words_of object)) ++ (w ∷ [])) read
       ∙ sym (take-next-slot (scanned_words_of object) c.args.from.slots_done c.loop-s.s begun below) in
       subst (λ (ws : List ℕ). IsGrayed c.args.heap.now c.shade.new.heap ws) words
       (grayed-then c.args.heap.now c.loop-s.heap c.shade.new.heap _ _ (c.loop-s.invariant.grayed object begins)
@@ -57,5 +60,6 @@ loop-s-preserved g c = record {
 pub returns-clause-grayed : goal.returns-clause-grayed
 returns-clause-grayed g c = λ object begins.
     let whole : c.loop-s.s - c.args.from.slots_done ≡ c.args.end - c.args.from.slots_done = omega arith in
-    subst (λ (n : ℕ). IsGrayed c.args.heap.now c.loop-s.heap (take n (drop c.args.from.slots_done (scanned_words_of object))))
+    subst (λ (n : ℕ). IsGrayed c.args.heap.now c.loop-s.heap (take n
+    (drop c.args.from.slots_done (scanned_words_of object))))
     whole (c.loop-s.invariant.grayed object begins)

@@ -33,5 +33,6 @@ loop-i-preserved g c = record {
 
 pub returns-clause-grayed : goal.returns-clause-grayed
 returns-clause-grayed g c =
-    let whole : take c.loop-i.i c.args.words.now ≡ c.args.words.now = take_all c.loop-i.i c.args.words.now (omega arith) in
+    let whole : take c.loop-i.i c.args.words.now ≡ c.args.words.now = take_all c.loop-i.i c.args.words.now
+    (omega arith) in
     subst (λ (ws : List ℕ). IsGrayed c.args.heap.now c.loop-i.heap ws) whole c.loop-i.invariant.grayed
