@@ -7,6 +7,7 @@ pub mod Indexes
 pub mod Lowest
 pub mod PageCells
 pub mod Parking
+pub mod Places
 pub mod Released
 pub mod Sound
 pub mod Soundness

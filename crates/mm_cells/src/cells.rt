@@ -120,6 +120,16 @@ impl Cells {
         ensures cost { steps.new ≡ steps.old + 1 }
     {
         steps.tick();
+        self.paint(base, colour);
+    }
+
+    /// The same where there is no counter. It isn't counted.
+    pub fn paint(&mut self, base: u32, colour: Colour)
+        requires { IsTaken self.old base }
+        ensures colour { (cell : Taken) → Begins self.old base cell
+            → self.new ≡ with_cell self.old base (Some (record cell { colour = colour })) }
+        ensures sound { IsSoundCells self.new }
+    {
         let index = mark_index_of(&self.table, base);
         let told = object_mark_at(&self.table, index);
         self.table

@@ -1,10 +1,11 @@
 // Taking cells and giving them back.
 ghost use Rattle.std.specs.Prelude.{◌≡◌, ◌+◌, ◌*◌, ◌/◌, ◌≤◌, ◌<◌, ℕ, List, Some, None, IfOk, OnErr, slice_index};
+ghost use Rattle.std.specs.Prelude.{slice_get};
 ghost use Rattle.mm_model.specs.declared.object.Size.TheVariants.{Small, Pages};
 ghost use Rattle.mm_model.specs.SizeClass.{size_of, extent_of};
-ghost use Rattle.mm_pages.specs.Pages.{with_parked, IsQuick};
-ghost use Rattle.mm_pages.specs.Parked.{AreParked};
-ghost use Rattle.mm_cells.specs.Cells.{with_cell, with_run, newly_taken, IsTaken, IsSoundCells};
+ghost use Rattle.mm_pages.specs.Pages.{with_parked, IsQuick, IsSoundHeap};
+ghost use Rattle.mm_pages.specs.Parked.{AreParked, AreAllParked};
+ghost use Rattle.mm_cells.specs.Cells.{with_cell, with_run, newly_taken, Begins, IsTaken, IsSoundCells};
 ghost use Rattle.mm_cells.specs.Kept.{class_size};
 ghost use Rattle.mm_cells.specs.Placing.{IsPlaceFor, found_in, run_length, LeavesPage};
 
@@ -35,12 +36,17 @@ impl Cells {
         ensures taken { IfOk result (λ base. self.new ≡
             with_run (with_cell self.old base (Some (newly_taken (extent_of bytes) colour))) (base / 4096)
             (run_length (size_of bytes))) }
+        ensures begins { IfOk result (λ base. Begins self.new base (newly_taken (extent_of bytes) colour)) }
+        ensures was_free { IfOk result (λ base. slice_get self.old.taken (base / 16) ≡ Some None) }
         ensures heap { IfOk result (λ base. pages.new ≡
             with_parked pages.old (base / 4096) (run_length (size_of bytes))) }
         ensures enough { bytes ≤ extent_of bytes }
         ensures unchanged { OnErr result ((self.new ≡ self.old) × (pages.new ≡ pages.old)) }
         ensures parked { AreParked self.new.runs pages.new }
         ensures others { (runs : List ℕ) → AreParked runs pages.old → AreParked runs pages.new }
+        ensures all_parked { (others : List ℕ) → AreAllParked self.old.runs others pages.old
+            → AreAllParked self.new.runs others pages.new }
+        ensures heap_sound { IsSoundHeap pages.new }
         ensures sound { IsSoundCells self.new }
         ensures cost { IsQuick pages.old.pages (steps.old + run_length (size_of bytes)) steps.new }
     {
@@ -59,11 +65,16 @@ impl Cells {
         ensures parked { AreParked self.new.runs pages.new }
         ensures others { (runs : List ℕ) → slice_index runs (base / 4096) ≡ 0 → AreParked runs pages.old
             → AreParked runs pages.new }
+        ensures all_parked { (others : List ℕ) → AreAllParked self.old.runs others pages.old
+            → AreAllParked self.new.runs others pages.new }
+        ensures heap_sound { IsSoundHeap pages.new }
         ensures sound { IsSoundCells self.new }
         ensures cost { IsQuick pages.old.pages steps.old steps.new }
     {
         let page = base / PAGE_BYTES;
-        match self.table.use_at(page) {
+        let page_use = self.table.use_at(page);
+        prove!(page < pages.limit());
+        match page_use {
             PageUse::Class(class) => {
                 if release_cell(&mut self.table, page, class, base % PAGE_BYTES) {
                     pages.free_parked(page, steps);
@@ -91,16 +102,24 @@ impl Cells {
         ensures taken { IfOk result (λ base. self.new ≡
             with_run (with_cell self.old base (Some (newly_taken (class_size class) colour))) (base / 4096)
             (run_length (Small class))) }
+        ensures begins { IfOk result (λ base. Begins self.new base (newly_taken (class_size class) colour)) }
+        ensures was_free { IfOk result (λ base. slice_get self.old.taken (base / 16) ≡ Some None) }
         ensures heap { IfOk result (λ base. pages.new ≡ with_parked pages.old (base / 4096) (run_length (Small class))) }
         ensures unchanged { OnErr result ((self.new ≡ self.old) × (pages.new ≡ pages.old)) }
         ensures parked { AreParked self.new.runs pages.new }
         ensures others { (runs : List ℕ) → AreParked runs pages.old → AreParked runs pages.new }
+        ensures all_parked { (others : List ℕ) → AreAllParked self.old.runs others pages.old
+            → AreAllParked self.new.runs others pages.new }
+        ensures heap_sound { IsSoundHeap pages.new }
         ensures sound { IsSoundCells self.new }
         ensures cost { IsQuick pages.old.pages (steps.old + 1) steps.new }
     {
         steps.tick();
         match self.table.page_with_room(class) {
-            Some(page) => Ok(take_cell(&mut self.table, page, class, colour)),
+            Some(page) => {
+                prove!(page < pages.limit());
+                Ok(take_cell(&mut self.table, page, class, colour))
+            }
             None => match pages.park_lowest(1, steps) {
                 Ok(page) => {
                     take_fresh_page(&mut self.table, page, class, colour);
@@ -125,10 +144,15 @@ impl Cells {
         ensures taken { IfOk result (λ base. self.new ≡
             with_run (with_cell self.old base (Some (newly_taken (4096 * count) colour))) (base / 4096)
             (run_length (Pages count))) }
+        ensures begins { IfOk result (λ base. Begins self.new base (newly_taken (4096 * count) colour)) }
+        ensures was_free { IfOk result (λ base. slice_get self.old.taken (base / 16) ≡ Some None) }
         ensures heap { IfOk result (λ base. pages.new ≡ with_parked pages.old (base / 4096) (run_length (Pages count))) }
         ensures unchanged { OnErr result ((self.new ≡ self.old) × (pages.new ≡ pages.old)) }
         ensures parked { AreParked self.new.runs pages.new }
         ensures others { (runs : List ℕ) → AreParked runs pages.old → AreParked runs pages.new }
+        ensures all_parked { (others : List ℕ) → AreAllParked self.old.runs others pages.old
+            → AreAllParked self.new.runs others pages.new }
+        ensures heap_sound { IsSoundHeap pages.new }
         ensures sound { IsSoundCells self.new }
         ensures cost { IsQuick pages.old.pages (steps.old + count) steps.new }
     {

@@ -1,21 +1,19 @@
 -- Runs that stay clear of those of another family in the same page heap.
-use Rattle.std.proofs.Common.{◌≡◌, ℕ, zero, suc, ◌+◌, ◌*◌, ◌/◌, ◌%◌, ◌<◌, ◌≤◌, ◌⊎◌, inl, inr, List, length, set, slice_index, refl, arith, sym, ◌∙◌, ap, subst}
-use Rattle.std.specs.Prelude.{Option, Some, None}
+use Rattle.std.proofs.Common.{◌≡◌, ℕ, zero, suc, ◌/◌, ◌<◌, inl, inr, List, length, set, slice_index, refl, arith, sym, ◌∙◌, ap, subst}
+use Rattle.std.specs.Prelude.{Some}
 use Rattle.std.proofs.lemmas.Bool.{cases_eq, cases_lt}
 use Rattle.std.proofs.lemmas.List.{length-set, get_or-set_same, get_or-set_other, get_or_past}
 use Rattle.mm_model.specs.declared.object.Size.{Size}
 use Rattle.mm_model.specs.declared.object.Size.TheVariants.{Small, Pages}
-use Rattle.mm_model.specs.SizeClass.{class_sizes}
-use Rattle.mm_model.specs.Good.{IsInside}
 use Rattle.mm_model.proofs.Places.SizeClasses.{class_bounds}
-use Rattle.mm_model.specs.Lowest.{IsPreferred, Of_first, Of_second}
+use Rattle.mm_model.specs.Lowest.{Of_first, Of_second}
 use Rattle.mm_pages.specs.Pages as heaps
 use Rattle.mm_pages.specs.Pages.{Covers}
-use Rattle.mm_pages.specs.Parked.{AreParked}
-use Rattle.mm_cells.specs.Cells.{Taken, Cells, Begins, IsSoundCells, piece_at}
+use Rattle.mm_pages.specs.Parked.{AreParked, HaveNoCommonRun}
+use Rattle.mm_cells.specs.Cells.{Cells, IsSoundCells}
 use Rattle.mm_cells.specs.Placing.{IsFreeCell, IsFreePages, IsPlaceFor, run_length, LeavesPage, Page_stays, Page_goes}
 use Rattle.mm_cells.specs.Sizes.{IsSize}
-use Rattle.mm_fixed.specs.Placing.{HaveNoCommonRun}
+use Rattle.mm_cells.proofs.Region.Places.{run-some}
 
 zero_unless : (n : ℕ) → (0 < n → ⊥) → n ≡ 0
 zero_unless zero h = refl
@@ -24,17 +22,6 @@ zero_unless (suc n) h = absurd (h (omega arith))
 pub run_length-some : (size : Size) → IsSize size → 0 < run_length size
 run_length-some (Small class) known = omega arith
 run_length-some (Pages count) known = known.0
-
--- a cell lies in a run that begins at its page
-pub run-some : (v : Cells) (base : ℕ) (cell : Taken) → IsSoundCells v → Begins v base cell →
-    0 < slice_index v.runs (base / 4096)
-run-some v base cell sound begins =
-    let inside = sound.inside base cell begins in
-    let some : 0 < cell.extent = elim inside.placed [
-      | inl small ↦ omega (arith, (class_bounds cell.extent small.class).least)
-      | inr whole ↦ whole.some
-    ] in
-    omega (arith, sound.in_run base cell begins, some)
 
 -- no run of another family begins at a free page
 free-clear : (heap : heaps.Pages) (count base : ℕ) (runs : List ℕ) → 0 < count → IsFreePages heap count base →
@@ -71,17 +58,6 @@ place-clear v heap (Small class) base runs sound some (Of_second none second) pa
     free-clear heap 1 base runs some second.is parked
 place-clear v heap (Pages count) base runs sound some lowest parked clear =
     free-clear heap count base runs some lowest.is parked
-
--- no cell begins at the place
-pub place-vacant : (v : Cells) (heap : heaps.Pages) (size : Size) (base : ℕ) (cell : Taken) → IsSoundCells v →
-    0 < run_length size → IsPlaceFor v heap size (Some base) → AreParked v.runs heap → Begins v base cell → ⊥
-place-vacant v heap (Small class) base cell sound some (Of_first found is first) parked begins =
-    let same : base ≡ found = cc in
-    first.is.free cell (subst (λ (b : ℕ). Begins v b cell) same begins)
-place-vacant v heap (Small class) base cell sound some (Of_second none second) parked begins =
-    absurd (omega (arith, free-clear heap 1 base v.runs some second.is parked, run-some v base cell sound begins))
-place-vacant v heap (Pages count) base cell sound some lowest parked begins =
-    absurd (omega (arith, free-clear heap count base v.runs some lowest.is parked, run-some v base cell sound begins))
 
 pub clear-sym : (own runs : List ℕ) → HaveNoCommonRun own runs → HaveNoCommonRun runs own
 clear-sym own runs clear page some = zero_unless (slice_index own page) (λ there. omega (arith, clear page there, some))

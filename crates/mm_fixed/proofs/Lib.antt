@@ -1,5 +1,5 @@
 pub mod Clear
 pub mod Kept
-pub mod Placed
+pub mod Left
 pub mod Shown
 pub mod Sound

@@ -1,5 +1,5 @@
 -- The blocks that cells show, and the cells that keep them.
-use Rattle.std.proofs.Common.{◌≡◌, ℕ, zero, suc, ◌/◌, Bool, true, false, List, [], ◌∷◌, map, set, refl, sym, ◌∙◌, ap}
+use Rattle.std.proofs.Common.{◌≡◌, ℕ, zero, suc, ◌/◌, Bool, true, false, List, [], ◌∷◌, map, refl, sym, ◌∙◌, ap}
 use Rattle.std.specs.Prelude.{Option, Some, None, slice_get, replicate, ◌*◌}
 use Rattle.std.specs.Option.{option_map}
 use Rattle.std.proofs.lemmas.List.{map-set}
@@ -61,6 +61,16 @@ begins-cell v base block begins = record {
   is =
       slice_get-map (option_map cell_of) v.blocks begins.grain
       ∙ ap (λ (o : Option (Option Block)). option_map (option_map cell_of) o) begins.is;
+}
+
+pub begins-shown : (c : Cells) (base : ℕ) (cell : Taken) → cells.Begins c base cell →
+    Begins (fixed_of c).blocks base (block_of cell)
+begins-shown c base cell begins = record {
+  grain = begins.grain;
+  aligned = begins.aligned;
+  is =
+      slice_get-map (option_map block_of) c.taken begins.grain
+      ∙ ap (λ (o : Option (Option Taken)). option_map (option_map block_of) o) begins.is;
 }
 
 pub record IsCellOfBlock (v : Fixed) (base : ℕ) (cell : Taken) : Type 0 where

@@ -1,9 +1,8 @@
 -- Blocks lie as their cells do.
-use Rattle.std.proofs.Common.{◌≡◌, ℕ, ◌+◌, ◌*◌, ◌/◌, ◌<◌, ◌≤◌, ◌⊎◌, inl, inr, refl, arith, sym, ◌∙◌, ap, length, slice_index}
+use Rattle.std.proofs.Common.{◌≡◌, ℕ, ◌/◌, ◌<◌, inl, inr, refl, arith, sym, ◌∙◌, ap, slice_index}
 use Rattle.std.specs.Option.{option_map}
 use Rattle.std.proofs.lemmas.List.{length-map}
-use Rattle.mm_model.specs.ByBase.{Begins}
-use Rattle.mm_model.specs.Good.{IsInside, IsCell, IsPages, AreApart}
+use Rattle.mm_model.specs.Good.{IsInside, AreApart}
 use Rattle.mm_model.proofs.Places.SizeClasses.{class_bounds}
 use Rattle.mm_cells.specs.Cells as cells
 use Rattle.mm_cells.specs.Cells.{Taken, Cells, IsSoundCells}

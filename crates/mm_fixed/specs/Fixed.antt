@@ -1,6 +1,6 @@
 -- What callers see of an allocator of blocks: which are out, and which are parked.
 use Rattle.std.specs.Prelude.{◌≡◌, ◌≢◌, ◌+◌, ◌*◌, ◌/◌, ◌<◌, ◌≤◌, ℕ, Bool, true, false, List, length, replicate}
-use Rattle.std.specs.Prelude.{Option, Some, None, slice_index, slice_set}
+use Rattle.std.specs.Prelude.{Option, None, slice_index, slice_set}
 use Rattle.mm_model.specs.Place.{Piece, Areas}
 use Rattle.mm_model.specs.Good.{IsInside, AreApart}
 use Rattle.mm_model.specs.ByBase.{Begins, with_entry}

@@ -1,5 +1,5 @@
 -- Blocks as cells: how the cells beneath keep them.
-use Rattle.std.specs.Prelude.{◌≡◌, ℕ, Bool, true, false, map}
+use Rattle.std.specs.Prelude.{◌≡◌, Bool, true, false, map}
 use Rattle.std.specs.Option.{option_map}
 use Rattle.mm_model.specs.declared.object.Colour.{Colour}
 use Rattle.mm_model.specs.declared.object.Colour.TheVariants.{White, Gray, Black}

@@ -1,5 +1,5 @@
--- Where a block is placed, and which other runs stay clear of it.
-use Rattle.std.specs.Prelude.{◌≡◌, ◌<◌, ℕ, List, Option, Some, None, Result, Ok, Err, slice_index}
+-- Where a block is placed.
+use Rattle.std.specs.Prelude.{ℕ, Option, Some, None, Result, Ok, Err}
 use Rattle.mm_model.specs.declared.object.Size.{Size}
 use Rattle.mm_pages.specs.Pages.{Pages}
 use Rattle.mm_cells.specs.Placing.{IsPlaceFor}
@@ -14,7 +14,3 @@ IsPlaceForBlock v heap size found = IsPlaceFor (cells_of v) heap size found
 abbrev pub base_in : {E : Type 0} → Result OutBlock E → Option ℕ
 base_in (Ok block) = Some block.base
 base_in (Err refused) = None
-
--- No page is the first of a run of both families. So two families whose runs are parked in one page heap share no page.
-abbrev pub HaveNoCommonRun : List ℕ → List ℕ → Type 0
-HaveNoCommonRun runs others = (page : ℕ) → 0 < slice_index runs page → slice_index others page ≡ 0

@@ -3,25 +3,24 @@ ghost use Rattle.std.specs.Prelude.{◌≡◌, ◌+◌, ◌/◌, ◌≤◌, ◌<
 ghost use Rattle.mm_words.specs.Location.{location_of};
 ghost use Rattle.mm_model.specs.SizeClass.{size_of, extent_of};
 ghost use Rattle.mm_model.specs.ByBase.{Begins};
-ghost use Rattle.mm_pages.specs.Pages.{Pages, with_parked, IsQuick};
-ghost use Rattle.mm_pages.specs.Parked.{AreParked};
+ghost use Rattle.mm_pages.specs.Pages.{Pages, with_parked, IsQuick, IsSoundHeap};
+ghost use Rattle.mm_pages.specs.Parked.{AreParked, HaveNoCommonRun, AreAllParked};
 ghost use Rattle.mm_cells.specs.Map.{table_size};
 ghost use Rattle.mm_cells.specs.Placing.{run_length, LeavesPage};
 ghost use Rattle.mm_fixed.specs.Fixed.{fresh, with_block, with_run, block_out, block_parked, out_at};
 ghost use Rattle.mm_fixed.specs.Fixed.{IsOut, IsParked, HasNoBlock, HasNoBlockAt, IsSoundFixed};
 ghost use Rattle.mm_fixed.specs.Kept.{cells_of};
-ghost use Rattle.mm_fixed.specs.Placing.{IsPlaceForBlock, base_in, HaveNoCommonRun};
+ghost use Rattle.mm_fixed.specs.Placing.{IsPlaceForBlock, base_in};
 
 use crate::block::FixedBlock;
-use crate::uncounted::paint;
-use mm_cells::{Cells, PAGE_BYTES, cells_words, class_of, extent_of};
+use mm_cells::{Cells, cells_words, class_of, extent_of};
 use mm_model::Colour;
 use mm_pages::{NoRun, PageHeap};
 use mm_steps::Steps;
 use mm_words::Words;
-use std::marker::{Brand, Model};
+use std::marker::Model;
 use std::snapshot::Snapshot;
-use std::sync::ledger::{Blank, Ledger};
+use std::sync::ledger::Ledger;
 
 /// An allocator of blocks that no collection frees. A block is one of 19 sizes, or some whole pages.
 ///
@@ -105,12 +104,14 @@ impl Fixed {
         ensures others { (runs : List ℕ) → AreParked runs pages.old → AreParked runs pages.new }
         ensures apart { (runs : List ℕ) → AreParked runs pages.old → HaveNoCommonRun self.old.runs runs
             → HaveNoCommonRun self.new.runs runs }
+        ensures all_parked { (others : List ℕ) → AreAllParked self.old.runs others pages.old
+            → AreAllParked self.new.runs others pages.new }
+        ensures heap_sound { IsSoundHeap pages.new }
         ensures sound { IsSoundFixed self.new }
         ensures cost { IsQuick pages.old.pages (steps.old + run_length (size_of bytes)) steps.new }
     {
         let base = self.cells.place(pages, bytes, Colour::White, steps)?;
         let extent = extent_of(class_of(bytes));
-        prove!(base / PAGE_BYTES < pages.limit());
         Ok(FixedBlock {
             base,
             extent,
@@ -128,6 +129,9 @@ impl Fixed {
         ensures others { (runs : List ℕ) → HaveNoCommonRun self.old.runs runs → AreParked runs pages.old
             → AreParked runs pages.new }
         ensures apart { (runs : List ℕ) → HaveNoCommonRun self.old.runs runs → HaveNoCommonRun self.new.runs runs }
+        ensures all_parked { (others : List ℕ) → AreAllParked self.old.runs others pages.old
+            → AreAllParked self.new.runs others pages.new }
+        ensures heap_sound { IsSoundHeap pages.new }
         ensures sound { IsSoundFixed self.new }
         ensures cost { IsQuick pages.old.pages steps.old steps.new }
     {
@@ -152,7 +156,7 @@ impl Fixed {
             extent: _,
             allocator: _,
         } = block;
-        paint::<Brand>(&mut self.cells, base, Colour::Black, Blank::new(1));
+        self.cells.paint(base, Colour::Black);
         base
     }
 
@@ -166,7 +170,7 @@ impl Fixed {
         ensures sound { IsSoundFixed self.new }
     {
         let extent = self.extent(base);
-        paint::<Brand>(&mut self.cells, base, Colour::White, Blank::new(1));
+        self.cells.paint(base, Colour::White);
         FixedBlock {
             base,
             extent,

@@ -3,7 +3,8 @@
 
 mod block;
 mod fixed;
-mod uncounted;
+#[cfg(test)]
+mod tests;
 
 pub use block::FixedBlock;
 pub use fixed::{Fixed, fixed_words};

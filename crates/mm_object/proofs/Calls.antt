@@ -4,6 +4,8 @@ use Rattle.std.proofs.Common.{drop, get_or, Some, refl, sym, ap, subst, ◌∙�
 use Rattle.std.specs.Prelude.{if◌then◌else◌, slice_set, slice_index, slice_range, set}
 use Rattle.std.proofs.lemmas.List.{get_or-take, get_or-drop, take-take, take_all, drop-take, drop-drop}
 use Rattle.mm_model.specs.declared.object.Colour.{Colour}
+use Rattle.mm_model.specs.declared.object.Shape.{Shape}
+use Rattle.mm_model.specs.Object.{is_scanned}
 use Rattle.mm_cells.specs.declared.marks.CellBits.{CellBits}
 use Rattle.mm_cells.specs.Marks.{IsFlags}
 use Rattle.mm_model.specs.ByBase as bases
@@ -34,6 +36,16 @@ slot-within h base s slot object begins =
 pub chosen : (b : Bool) (ws : List ℕ) → take (if b then length ws else 0) ws ≡ (if b then ws else [])
 chosen true ws = let all : length ws ≤ length ws = omega arith in take_all (length ws) ws all
 chosen false ws = refl
+
+pub length-chosen : (b : Bool) (ws : List ℕ) → length (if b then ws else []) ≡ (if b then length ws else 0)
+length-chosen true ws = refl
+length-chosen false ws = refl
+
+-- how many slots the shape of an object says are scanned
+pub count-shape : (count : ℕ) (shape : Shape) (object : StoredObject) → shape ≡ shape_of object
+    → count ≡ (if is_scanned shape.kind then shape.slots else 0)
+    → count ≡ (if is_scanned object.kind then length object.words else 0)
+count-shape count shape object same e = e ∙ ap (λ (s : Shape). if is_scanned s.kind then s.slots else 0) same
 
 pub chosen-most : (b : Bool) (n : ℕ) → (if b then n else 0) ≤ n
 chosen-most true n = omega arith

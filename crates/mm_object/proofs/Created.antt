@@ -7,6 +7,7 @@ use Rattle.mm_model.specs.declared.object.Shape.{Shape}
 use Rattle.mm_model.specs.declared.object.Colour.{Colour}
 use Rattle.mm_model.specs.SizeClass.{size_of, extent_of, object_bytes}
 use Rattle.mm_model.specs.ByBase as bases
+use Rattle.mm_model.proofs.Lists.Replaced.{get-set_same}
 use Rattle.mm_words.specs.Piece.{Piece, with_words}
 use Rattle.mm_words.specs.Writes.{written}
 use Rattle.mm_words.proofs.Writes.{length-written}
@@ -196,6 +197,18 @@ module _ (memory : Piece) (cells : Cells) (kept : KeepsHeap memory cells) (h : H
     created-none =
         subst (λ (v : Heap). slice_get v.objects (base / 16) ≡ Some None) is
         (born-none memory cells kept base (newborn_cell shape colour) runs place sound_now)
+
+    pub created-begins : bases.Begins (heap_of filled after).objects base (newly_stored shape colour)
+    created-begins =
+        let at : base / 16 ≡ place.grain = omega (arith, place.aligned) in
+        subst (λ (v : Heap). bases.Begins v.objects base (newly_stored shape colour)) (sym created-heap) (record {
+          grain = place.grain;
+          aligned = place.aligned;
+          is =
+              ap (λ (k : ℕ). slice_get (slice_set h.objects k (Some (newly_stored shape colour))) place.grain) at
+              ∙ get-set_same h.objects place.grain None (Some (newly_stored shape colour))
+              (ap (λ (k : ℕ). slice_get h.objects k) (sym at) ∙ created-none);
+        })
 
     -- its cells stay parked, and memory has as many pages as before
     pub created-fits : (heap left : heaps.Pages) → FitsHeap h heap → left.limit ≡ heap.limit → AreParked after.runs left

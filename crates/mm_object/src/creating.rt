@@ -5,8 +5,8 @@ ghost use Rattle.mm_model.specs.SizeClass.{size_of, extent_of, object_bytes};
 ghost use Rattle.mm_model.specs.ByBase.{Begins, with_entry};
 ghost use Rattle.mm_words.specs.Piece.{with_words};
 ghost use Rattle.mm_words.specs.Writes.{written};
-ghost use Rattle.mm_pages.specs.Pages.{IsQuick, with_parked};
-ghost use Rattle.mm_pages.specs.Parked.{AreParked};
+ghost use Rattle.mm_pages.specs.Pages.{IsQuick, with_parked, IsSoundHeap};
+ghost use Rattle.mm_pages.specs.Parked.{AreParked, AreAllParked};
 ghost use Rattle.mm_cells.specs.Placing.{IsPlaceFor, LeavesPage, found_in, run_length};
 ghost use Rattle.mm_object.specs.Object.{StoredObject, newly_stored, flags_with};
 ghost use Rattle.mm_object.specs.Header.{IsShape, shape_in, first_word, second_word};
@@ -67,6 +67,7 @@ impl Heap {
           runs = slice_set self.old.runs (base / 4096) (run_length (size_of (object_bytes shape.slots)));
           raw = self.new.raw;
         }) }
+        ensures begins { IfOk result (λ base. Begins self.new.objects base (newly_stored shape colour)) }
         ensures was_none { IfOk result (λ base. slice_get self.old.objects (base / 16) ≡ Some None) }
         ensures raw { IfOk result (λ base.
             TakesWords self.old.raw self.new.raw base (extent_of (object_bytes shape.slots))) }
@@ -75,6 +76,9 @@ impl Heap {
         ensures unchanged { OnErr result ((self.new ≡ self.old) × (pages.new ≡ pages.old)) }
         ensures fits { FitsHeap self.new pages.new }
         ensures others { (runs : List ℕ) → AreParked runs pages.old → AreParked runs pages.new }
+        ensures all_parked { (others : List ℕ) → AreAllParked self.old.runs others pages.old
+            → AreAllParked self.new.runs others pages.new }
+        ensures heap_sound { IsSoundHeap pages.new }
         ensures sound { IsSound self.new }
     {
         let base = self
@@ -100,6 +104,9 @@ impl Heap {
         ensures fits { FitsHeap self.new pages.new }
         ensures others { (runs : List ℕ) → slice_index runs (base / 4096) ≡ 0 → AreParked runs pages.old
             → AreParked runs pages.new }
+        ensures all_parked { (others : List ℕ) → AreAllParked self.old.runs others pages.old
+            → AreAllParked self.new.runs others pages.new }
+        ensures heap_sound { IsSoundHeap pages.new }
         ensures sound { IsSound self.new }
         ensures cost { IsQuick pages.old.pages steps.old steps.new }
     {

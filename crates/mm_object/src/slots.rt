@@ -1,5 +1,5 @@
 // The slots of objects.
-ghost use Rattle.std.specs.Prelude.{◌≡◌, ◌+◌, if◌then◌else◌, length, slice_set, Some};
+ghost use Rattle.std.specs.Prelude.{◌≡◌, ◌+◌, if◌then◌else◌, length, slice_index, slice_set, Some};
 ghost use Rattle.mm_model.specs.ByBase.{Begins};
 ghost use Rattle.mm_model.specs.Object.{is_scanned};
 ghost use Rattle.mm_model.specs.ObjectView.{scanned_words_of};
@@ -48,6 +48,18 @@ impl Heap {
         Slot::of(scanned, shape.counted, s, word)
     }
 
+    /// The word of a slot whatever its kind, without a look at the header.
+    pub fn slot_word<L: Ledger>(&self, base: u32, s: u32, steps: &mut Steps<L>) -> u32
+        requires { HasSlot self.now base s }
+        ensures word { (object : StoredObject) → Begins self.now.objects base object
+            → result ≡ slice_index object.words s }
+        ensures sound { IsSound self.now }
+        ensures cost { steps.new ≡ steps.old + 1 }
+    {
+        steps.tick();
+        self.memory.get(HEADER_WORDS + s + base / WORD_BYTES)
+    }
+
     pub fn set_slot<L: Ledger>(&mut self, base: u32, s: u32, w: u32, steps: &mut Steps<L>)
         requires { HasSlot self.old base s }
         ensures slot { (object : StoredObject) → Begins self.old.objects base object
@@ -70,6 +82,18 @@ impl Heap {
         steps.add(shape.slots);
         self.memory
             .part(base / WORD_BYTES + HEADER_WORDS, shape.slots)
+    }
+
+    /// How many slots marking looks at: all, or none of a leaf.
+    pub fn scanned_count<L: Ledger>(&self, base: u32, steps: &mut Steps<L>) -> u32
+        requires { IsObject self.now base }
+        ensures count { (object : StoredObject) → Begins self.now.objects base object
+            → result ≡ length (scanned_words_of (view_of_stored object)) }
+        ensures sound { IsSound self.now }
+        ensures cost { steps.new ≡ steps.old + 1 }
+    {
+        steps.tick();
+        scanned_slots(shape_at(&self.memory, base))
     }
 
     /// Lends the words of the slots that marking looks at: all, or none of a leaf. Each of them is a step.

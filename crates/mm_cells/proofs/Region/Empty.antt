@@ -1,6 +1,6 @@
 -- Cells of which none is taken, page heaps without runs, and where the tables lie.
-use Rattle.std.proofs.Common.{◌≡◌, ℕ, zero, suc, ◌+◌, ◌*◌, ◌<◌, ◌≤◌, List, replicate, refl, arith, inl, inr}
-use Rattle.std.specs.Prelude.{Some, None, slice_get, slice_index}
+use Rattle.std.proofs.Common.{◌≡◌, ℕ, zero, suc, ◌+◌, ◌<◌, ◌≤◌, List, replicate, refl, arith, inl, inr}
+use Rattle.std.specs.Prelude.{slice_index}
 use Rattle.std.proofs.lemmas.List.{length-replicate}
 use Rattle.mm_sets.proofs.Zeros.{get_or-zeros}
 use Rattle.mm_pages.specs.Pages.{Pages, Covers, HasNoRun, IsHighestUsed, IsSoundHeap}

@@ -1,5 +1,5 @@
 -- The pages of a class as callers see them.
-use Rattle.std.proofs.Common.{◌≡◌, ◌≢◌, ℕ, suc, ◌+◌, ◌-◌, ◌*◌, ◌/◌, ◌<◌, ◌≤◌, slice_index, inl, inr, Bool, true, false, refl, arith, sym, ◌∙◌, ap, subst}
+use Rattle.std.proofs.Common.{◌≡◌, ◌≢◌, ℕ, suc, ◌+◌, ◌-◌, ◌*◌, ◌/◌, ◌<◌, ◌≤◌, inl, inr, Bool, true, false, refl, arith, sym, ◌∙◌, ap, subst}
 use Rattle.std.specs.Prelude.{Some, None, nat_eq}
 use Rattle.std.proofs.lemmas.Bool.{cases_lt, cases_order, agree_below_at, eqb-true}
 use Rattle.std.proofs.lemmas.Nat.{le-div}

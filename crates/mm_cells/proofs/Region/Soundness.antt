@@ -1,21 +1,20 @@
 -- What holds of the cells that a table shows: the grid, the runs, and that they are apart.
-use Rattle.std.proofs.Common.{◌≡◌, ◌≢◌, ℕ, ◌+◌, ◌-◌, ◌*◌, ◌/◌, ◌%◌, ◌<◌, ◌≤◌, ◌⊎◌, inl, inr, refl, arith, sym, ◌∙◌, ap, subst}
+use Rattle.std.proofs.Common.{◌≡◌, ◌≢◌, ℕ, ◌+◌, ◌*◌, ◌/◌, ◌%◌, ◌<◌, ◌≤◌, ◌⊎◌, inl, inr, refl, arith, sym, ◌∙◌, ap, subst}
 use Rattle.std.proofs.lemmas.Bool.{cases_lt, cases_order, and_parts, ltb-true}
 use Rattle.std.proofs.lemmas.List.{get_or_past}
 use Rattle.std.proofs.lemmas.List.Elements.{Contains-get_or}
 use Rattle.std.proofs.lemmas.List.FromFn.{length-map-range_with_len}
-use Rattle.std.proofs.lemmas.Nat.{mod-mul-add}
-use Rattle.std.specs.Prelude.{IsTrue, nat_lt, slice_index}
+use Rattle.std.specs.Prelude.{IsTrue, slice_index}
 use Rattle.std.specs.List.{Contains}
 use Rattle.mm_model.specs.SizeClass.{class_sizes}
 use Rattle.mm_model.specs.Place.{overlaps}
-use Rattle.mm_model.specs.Good.{IsCell, IsPages, IsInside, AreApart}
+use Rattle.mm_model.specs.Good.{IsCell, IsPages}
 use Rattle.mm_cells.specs.declared.page_use.PageUse.{PageUse}
 use Rattle.mm_cells.specs.declared.page_use.PageUse.TheVariants.{Unused, Class, First, Later}
 use Rattle.mm_cells.specs.Map.{Map, use_at, mark_at}
-use Rattle.mm_cells.specs.Cells.{Taken, Cells, Begins, IsSoundCells, IsRunOfCells, piece_at}
+use Rattle.mm_cells.specs.Cells.{Taken, Begins, IsSoundCells, IsRunOfCells, piece_at}
 use Rattle.mm_cells.specs.Kept.{class_size, cells_in, taken_at, run_of, runs_of, cells_of, KeepsCells}
-use Rattle.mm_cells.proofs.Sizes.ClassSizes.{class_size-least, class_size-most, cells_in-fit}
+use Rattle.mm_cells.proofs.Sizes.ClassSizes.{class_size-least, cells_in-fit}
 use Rattle.mm_cells.proofs.Sizes.Grains.{cell-fits, mod-whole}
 use Rattle.mm_cells.proofs.Tables.Changed.{run-at, length-runs}
 use Rattle.mm_cells.proofs.Region.Begins.{IsSmallCell, IsWholeCell, IsCellOf, small, whole, Begins-cell}

@@ -1,5 +1,5 @@
 -- What callers see of a table, and what it keeps, as the mark of a cell changes.
-use Rattle.std.proofs.Common.{◌≡◌, ℕ, ◌+◌, ◌-◌, ◌*◌, ◌/◌, ◌<◌, ◌≤◌, inl, inr, List, slice_index, arith, sym, ◌∙◌, ap, subst}
+use Rattle.std.proofs.Common.{◌≡◌, ℕ, ◌+◌, ◌-◌, ◌*◌, ◌/◌, ◌<◌, ◌≤◌, inl, inr, List, arith, sym, ◌∙◌, ap, subst}
 use Rattle.std.proofs.lemmas.Bool.{cases_eq}
 use Rattle.std.specs.Prelude.{take, drop}
 use Rattle.mm_sets.specs.Set.{set_size, members}
@@ -8,7 +8,6 @@ use Rattle.mm_cells.specs.declared.page_use.PageUse.TheVariants.{Class, First}
 use Rattle.mm_cells.specs.declared.marks.Mark.{Mark}
 use Rattle.mm_cells.specs.declared.marks.Mark.TheVariants as marks
 use Rattle.mm_cells.specs.Map.{Map, use_at, mark_at, room_at, IsSame, SetsMark}
-use Rattle.mm_cells.specs.Uses.{use_of}
 use Rattle.mm_cells.specs.Cells.{with_cell}
 use Rattle.mm_cells.specs.Kept.{class_size, cells_in, taken_as, taken_in, runs_of, cells_of, KeepsCells}
 use Rattle.mm_cells.specs.Indexes.{MarksCell, in_class, in_whole}

@@ -2,13 +2,13 @@
 use Rattle.std.proofs.Common.{◌≡◌, ℕ, ◌*◌, ◌<◌, ◌≤◌, true, false, map, replicate, arith, sym, ◌∙◌, ap}
 use Rattle.std.proofs.lemmas.List.{ext_get_or, get_or-replicate, length-replicate}
 use Rattle.std.proofs.lemmas.List.FromFn.{get_or-map-range_with_len, length-map-range_with_len}
-use Rattle.std.specs.Prelude.{◌/◌, ◌%◌, Option, None}
+use Rattle.std.specs.Prelude.{◌/◌, ◌%◌, None}
 use Rattle.std.specs.List.{range_with_len}
 use Rattle.mm_words.specs.Location.{Location}
 use Rattle.mm_cells.specs.declared.page_use.PageUse.{PageUse}
 use Rattle.mm_cells.specs.declared.page_use.PageUse.TheVariants.{Unused, Class, First, Later}
 use Rattle.mm_cells.specs.Map.{Map, use_at, mark_at, IsUntouched}
-use Rattle.mm_cells.specs.Cells.{Taken, fresh}
+use Rattle.mm_cells.specs.Cells.{fresh}
 use Rattle.mm_cells.specs.Kept.{taken_in, taken_at, run_of, cells_of, KeepsCells}
 use Rattle.mm_cells.proofs.Tables.Changed.{cells-same}
 

@@ -1,5 +1,5 @@
 -- A table whose uses and sets are zeros is one of unused pages.
-use Rattle.std.proofs.Common.{◌≡◌, ℕ, ◌+◌, ◌*◌, ◌/◌, ◌<◌, ◌≤◌, false, List, length, take, drop}
+use Rattle.std.proofs.Common.{◌≡◌, ℕ, ◌+◌, ◌*◌, ◌<◌, ◌≤◌, List, length, take, drop}
 use Rattle.std.proofs.Common.{◌-◌, get_or, sym, ap, subst, ◌∙◌, refl, arith}
 use Rattle.std.proofs.lemmas.List.{drop-take, take-take, take-replicate, drop-replicate}
 use Rattle.mm_words.specs.Piece.{Piece, with_words}

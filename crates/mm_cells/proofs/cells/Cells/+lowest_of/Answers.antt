@@ -1,4 +1,4 @@
-use Rattle.std.proofs.Common.{◌≡◌, ◌/◌, ◌+◌, sym, ◌∙◌, subst}
+use Rattle.std.proofs.Common.{◌≡◌, sym, ◌∙◌, subst}
 use Rattle.mm_cells.specs.Cells.{Cells, IsSoundCells}
 use Rattle.mm_cells.specs.Indexes.{NoneInPage, IsLowestInPage}
 use Rattle.mm_cells.proofs.Region.Coloured.{lowest_of-here, lowest_of-later, none_of-later, none_of-none}

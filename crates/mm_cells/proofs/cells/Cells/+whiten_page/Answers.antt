@@ -1,4 +1,4 @@
-use Rattle.std.proofs.Common.{◌≡◌, ◌+◌, ◌-◌, ◌*◌, ◌/◌, ◌<◌, ◌≤◌, arith, ap, subst}
+use Rattle.std.proofs.Common.{arith, ap, subst}
 use Rattle.mm_cells.specs.Cells.{Cells, IsSoundCells}
 use Rattle.mm_cells.specs.Indexes.{NoneInPage, IsLowestInPage}
 use Rattle.mm_cells.proofs.Region.Soundness.{IsSoundCells-kept}

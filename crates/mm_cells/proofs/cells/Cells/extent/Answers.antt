@@ -1,5 +1,5 @@
 -- The use of its page says how large a cell is.
-use Rattle.std.proofs.Common.{◌*◌, ◌/◌, ◌≤◌, ◌<◌, inl, inr, arith, sym, ◌∙◌, subst}
+use Rattle.std.proofs.Common.{◌/◌, inl, inr, arith, sym, ◌∙◌, subst}
 use Rattle.mm_cells.specs.Cells.{Cells, Begins, IsTaken, IsSoundCells}
 use Rattle.mm_cells.proofs.Region.PageCells.{Begins-class_extent, Begins-first_extent}
 use Rattle.mm_cells.proofs.Region.Released.{IsTaken-within, IsTaken-used}

@@ -1,5 +1,5 @@
 -- A cell goes, and its run where it was the last one in it.
-use Rattle.std.proofs.Common.{◌≡◌, ℕ, ◌+◌, ◌*◌, ◌/◌, ◌%◌, ◌<◌, inl, inr, arith, sym, ◌∙◌, ap, subst}
+use Rattle.std.proofs.Common.{◌≡◌, ◌+◌, ◌*◌, ◌/◌, ◌%◌, ◌<◌, inl, inr, arith, sym, ◌∙◌, ap, subst}
 use Rattle.std.specs.Prelude.{None}
 use Rattle.mm_cells.specs.declared.page_use.PageUse.TheVariants.{Class, First}
 use Rattle.mm_cells.specs.Map.{use_at}
@@ -7,12 +7,22 @@ use Rattle.mm_cells.specs.Cells.{Cells, with_cell, with_run, IsTaken}
 use Rattle.mm_cells.specs.Kept.{cells_of}
 use Rattle.mm_cells.specs.Placing.{Page_stays}
 use Rattle.mm_cells.proofs.Region.Parking.{run-parked, gone-seen, gone-seen_run, own-runs, LeavesPage-goes, AreParked-goes}
+use Rattle.mm_cells.proofs.Region.Places.{run-taken, parked-below, AreAllParked-left}
 use Rattle.mm_cells.proofs.Region.Released.{IsTaken-within, IsTaken-used, IsTaken-first}
 use Rattle.mm_cells.proofs.Region.Soundness.{IsSoundCells-kept}
 use Rattle.mm_cells.proofs.cells.Cells.release.Goals as goal
 
-pub use_at-requires : goal.use_at-requires
-use_at-requires g c =
+-- the run of the cell's page ends by the limit
+pub prove-unreachable-requires : goal.prove-unreachable-requires
+prove-unreachable-requires g c =
+    let some = run-taken c.self.inside.table c.args.self.now c.args.base c.self.view_is c.self.invariant
+    c.requires.taken in
+    let below = parked-below c.args.pages.now (c.args.base / 4096) c.limit.ensures.sound
+    (omega (arith, some, c.requires.parked.parked (c.args.base / 4096) some)) in
+    absurd (omega (arith, c.if-prove.true, below, c.limit.ensures.value))
+
+pub use_at-page_use-requires : goal.use_at-page_use-requires
+use_at-page_use-requires g c =
     IsTaken-within c.self.inside.table c.args.base c.self.invariant
     (subst (λ (v : Cells). IsTaken v c.args.base) (sym c.self.view_is) c.requires.taken)
 
@@ -24,7 +34,7 @@ free_parked-requires g c =
     omega (
       arith,
       run-parked c.self.inside.table c.args.self.now c.args.pages.now (c.args.base / 4096) (Class c.in-Class.class)
-          c.self.view_is within (sym c.use_at.ensures ∙ c.in-Class.is) (omega arith) c.requires.parked,
+          c.self.view_is within (sym c.use_at-page_use.ensures ∙ c.in-Class.is) (omega arith) c.requires.parked,
     )
 
 pub free_parked-requires-in-First : goal.free_parked-requires-in-First
@@ -33,7 +43,7 @@ free_parked-requires-in-First g c =
     IsTaken-within c.self.inside.table c.args.base c.self.invariant
     (subst (λ (v : Cells). IsTaken v c.args.base) (sym c.self.view_is) c.requires.taken) in
     let used : use_at c.self.inside.table (c.args.base / 4096) ≡ First c.in-First.count =
-    sym c.use_at.ensures ∙ c.in-First.is in
+    sym c.use_at-page_use.ensures ∙ c.in-First.is in
     let some : 0 < c.in-First.count =
     (c.self.invariant.wholes (c.args.base / 4096) c.in-First.count used).some in
     omega (
@@ -47,8 +57,8 @@ pub unreachable-requires : goal.unreachable-requires
 unreachable-requires g c =
     IsTaken-used c.self.inside.table c.args.base c.self.invariant
     (subst (λ (v : Cells). IsTaken v c.args.base) (sym c.self.view_is) c.requires.taken) (elim c.in-Unused.is [
-      | inl unused ↦ inl (sym c.use_at.ensures ∙ unused)
-      | inr later ↦ inr (later.0, sym c.use_at.ensures ∙ later.1)
+      | inl unused ↦ inl (sym c.use_at-page_use.ensures ∙ unused)
+      | inr later ↦ inr (later.0, sym c.use_at-page_use.ensures ∙ later.1)
     ])
 
 pub returns-then-release_cell-clause-page : goal.returns-then-release_cell-clause-page
@@ -71,6 +81,12 @@ returns-then-release_cell-clause-parked g c =
     AreParked-goes c.args.self.now (cells_of c.release_cell.new.table) c.free_parked.new.self c.args.base
     (c.args.base / 4096) is (c.free_parked.ensures.fits c.args.self.now.runs c.requires.parked)
 
+pub returns-then-release_cell-clause-all_parked : goal.returns-then-release_cell-clause-all_parked
+returns-then-release_cell-clause-all_parked g c = λ others all.
+    AreAllParked-left c.args.self.now (cells_of c.release_cell.new.table) others c.args.pages.now c.free_parked.new.self
+    (c.args.base / 4096) (returns-then-release_cell-clause-page g c) c.requires.parked
+    (run-taken c.self.inside.table c.args.self.now c.args.base c.self.view_is c.self.invariant c.requires.taken) all
+
 pub returns-then-release_cell-clause-sound : goal.returns-then-release_cell-clause-sound
 returns-then-release_cell-clause-sound g c = IsSoundCells-kept c.release_cell.new.table c.release_cell.ensures.kept
 
@@ -83,6 +99,12 @@ returns-else-release_cell-clause-page g c =
     let found = c.release_cell.ensures.another c.if-release_cell.false in
     Page_stays found.0 found.1 found.2 found.3 (ap (λ (w : Cells). w.runs) is)
 
+pub returns-else-release_cell-clause-all_parked : goal.returns-else-release_cell-clause-all_parked
+returns-else-release_cell-clause-all_parked g c = λ others all.
+    AreAllParked-left c.args.self.now (cells_of c.release_cell.new.table) others c.args.pages.now c.args.pages.now
+    (c.args.base / 4096) (returns-else-release_cell-clause-page g c) c.requires.parked
+    (run-taken c.self.inside.table c.args.self.now c.args.base c.self.view_is c.self.invariant c.requires.taken) all
+
 pub returns-else-release_cell-clause-sound : goal.returns-else-release_cell-clause-sound
 returns-else-release_cell-clause-sound g c = IsSoundCells-kept c.release_cell.new.table c.release_cell.ensures.kept
 
@@ -90,7 +112,7 @@ returns-else-release_cell-clause-sound g c = IsSoundCells-kept c.release_cell.ne
 pub returns-in-First-clause-gone : goal.returns-in-First-clause-gone
 returns-in-First-clause-gone g c =
     let used : use_at c.self.inside.table (c.args.base / 4096) ≡ First c.in-First.count =
-    sym c.use_at.ensures ∙ c.in-First.is in
+    sym c.use_at-page_use.ensures ∙ c.in-First.is in
     let at : 4096 * (c.args.base / 4096) ≡ c.args.base =
     sym (IsTaken-first c.self.inside.table c.args.base c.in-First.count c.self.invariant
     (subst (λ (v : Cells). IsTaken v c.args.base) (sym c.self.view_is) c.requires.taken) used) in
@@ -103,7 +125,7 @@ returns-in-First-clause-gone g c =
 pub returns-in-First-clause-page : goal.returns-in-First-clause-page
 returns-in-First-clause-page g c =
     let used : use_at c.self.inside.table (c.args.base / 4096) ≡ First c.in-First.count =
-    sym c.use_at.ensures ∙ c.in-First.is in
+    sym c.use_at-page_use.ensures ∙ c.in-First.is in
     let at : 4096 * (c.args.base / 4096) ≡ c.args.base =
     sym (IsTaken-first c.self.inside.table c.args.base c.in-First.count c.self.invariant
     (subst (λ (v : Cells). IsTaken v c.args.base) (sym c.self.view_is) c.requires.taken) used) in
@@ -118,7 +140,7 @@ returns-in-First-clause-page g c =
 pub returns-in-First-clause-parked : goal.returns-in-First-clause-parked
 returns-in-First-clause-parked g c =
     let used : use_at c.self.inside.table (c.args.base / 4096) ≡ First c.in-First.count =
-    sym c.use_at.ensures ∙ c.in-First.is in
+    sym c.use_at-page_use.ensures ∙ c.in-First.is in
     let at : 4096 * (c.args.base / 4096) ≡ c.args.base =
     sym (IsTaken-first c.self.inside.table c.args.base c.in-First.count c.self.invariant
     (subst (λ (v : Cells). IsTaken v c.args.base) (sym c.self.view_is) c.requires.taken) used) in
@@ -128,6 +150,12 @@ returns-in-First-clause-parked g c =
     (4096 * (c.args.base / 4096)) (c.args.base / 4096) c.self.view_is at c.release_pages.ensures.gone in
     AreParked-goes c.args.self.now (cells_of c.release_pages.new.table) c.free_parked-in-First.new.self c.args.base
     (c.args.base / 4096) is (c.free_parked-in-First.ensures.fits c.args.self.now.runs c.requires.parked)
+
+pub returns-in-First-clause-all_parked : goal.returns-in-First-clause-all_parked
+returns-in-First-clause-all_parked g c = λ others all.
+    AreAllParked-left c.args.self.now (cells_of c.release_pages.new.table) others c.args.pages.now c.free_parked-in-First.new.self
+    (c.args.base / 4096) (returns-in-First-clause-page g c) c.requires.parked
+    (run-taken c.self.inside.table c.args.self.now c.args.base c.self.view_is c.self.invariant c.requires.taken) all
 
 pub returns-in-First-clause-sound : goal.returns-in-First-clause-sound
 returns-in-First-clause-sound g c = IsSoundCells-kept c.release_pages.new.table c.release_pages.ensures.kept

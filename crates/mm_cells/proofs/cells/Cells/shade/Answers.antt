@@ -1,4 +1,4 @@
-use Rattle.std.proofs.Common.{inl, inr, refl, ◌∙◌, sym}
+use Rattle.std.proofs.Common.{inl, inr, refl}
 use Rattle.mm_cells.specs.Looking.{NoWhite}
 use Rattle.mm_cells.proofs.Region.Found.{NoWhite-other}
 use Rattle.mm_cells.proofs.cells.Cells.shade.Goals as goal

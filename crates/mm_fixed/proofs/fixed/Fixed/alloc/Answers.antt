@@ -1,20 +1,19 @@
 -- A cell is taken, white.
-use Rattle.std.proofs.Common.{◌≡◌, ℕ, ◌/◌, ◌<◌, length, refl, arith, sym, ◌∙◌, ap, subst}
-use Rattle.std.specs.Prelude.{Some, None, Option}
+use Rattle.std.proofs.Common.{◌≡◌, ℕ, ◌/◌, ◌<◌, refl, arith, sym, ◌∙◌, ap, subst}
+use Rattle.std.specs.Prelude.{Some, None, Option, slice_get}
 use Rattle.mm_model.specs.declared.object.Size.{Size}
 use Rattle.mm_model.specs.SizeClass.{size_of, extent_of, extent_of_size}
 use Rattle.mm_model.specs.ByBase.{Begins}
-use Rattle.mm_pages.specs.Pages as heaps
-use Rattle.mm_pages.specs.Parked.{AreParked}
-use Rattle.mm_cells.specs.Cells.{Cells}
+use Rattle.mm_pages.specs.Parked.{HaveNoCommonRun, AreAllParked}
+use Rattle.mm_model.specs.declared.object.Colour.TheVariants.{White}
+use Rattle.mm_cells.specs.Cells.{Cells, newly_taken}
 use Rattle.mm_cells.specs.Placing.{IsPlaceFor, run_length}
-use Rattle.mm_fixed.specs.Fixed.{Fixed, with_block, with_run, block_out, IsOut}
-use Rattle.mm_fixed.specs.Kept.{cell_of, cells_of}
-use Rattle.mm_fixed.specs.Placing.{IsPlaceForBlock, HaveNoCommonRun}
-use Rattle.mm_fixed.proofs.Clear.{run_length-some, placed-clear, place-vacant}
+use Rattle.mm_fixed.specs.Fixed.{Fixed, with_block, with_run, block_out}
+use Rattle.mm_fixed.specs.Kept.{cells_of, fixed_of}
+use Rattle.mm_fixed.specs.Placing.{IsPlaceForBlock}
+use Rattle.mm_fixed.proofs.Clear.{run_length-some, placed-clear}
 use Rattle.mm_fixed.proofs.Kept.{keeps, taken-kept, placed-kept, sound-shown, base_in-err}
-use Rattle.mm_fixed.proofs.Placed.{place-below, place-even, begins-with_entry}
-use Rattle.mm_fixed.proofs.Shown.{kept-shown, shown-kept}
+use Rattle.mm_fixed.proofs.Shown.{kept-shown, shown-kept, begins-shown}
 use Rattle.mm_fixed.proofs.fixed.Fixed.alloc.Given.{Over}
 use Rattle.mm_fixed.proofs.fixed.Fixed.alloc.Goals as goal
 
@@ -53,62 +52,22 @@ returns-clause-place g c =
 pub returns-clause-was_free : goal.returns-clause-was_free
 returns-clause-was_free g c = λ block begins.
     let is = kept-shown c.self.inside.cells c.args.self.now c.self.invariant c.self.view_is in
-    let some = subst (λ (size : Size). 0 < run_length size) c.class_of.ensures.value
-    (run_length-some c.class_of.result c.class_of.ensures.size) in
-    place-vacant c.self.inside.cells c.args.pages.now (size_of c.args.bytes) c.in_ok-base.base (cell_of block)
-    c.self.invariant.sound some c.in_ok-base.ensures.place
-    (subst (λ (v : Fixed). AreParked v.runs c.args.pages.now) (sym c.self.view_is) c.requires.parked)
-    (taken-kept c.self.inside.cells c.args.self.now c.in_ok-base.base block is begins)
-
-pub prove-unreachable-requires : goal.prove-unreachable-requires
-prove-unreachable-requires g c =
-    let some = subst (λ (size : Size). 0 < run_length size) c.class_of.ensures.value
-    (run_length-some c.class_of.result c.class_of.ensures.size) in
-    let below = place-below c.self.inside.cells c.args.pages.now c.place.new.pages (size_of c.args.bytes) c.in_ok-base.base
-    c.self.invariant.sound some c.in_ok-base.ensures.place
-    (subst (λ (v : Fixed). AreParked v.runs c.args.pages.now) (sym c.self.view_is) c.requires.parked)
-    c.limit.ensures.sound c.in_ok-base.ensures.heap in
-    absurd (omega (arith, c.if-prove.true, below, c.limit.ensures.value))
-
--- the base lies in the list of blocks
-within : (g : Over) (c : goal.After-of g) → c.in_ok-base.base / 16 < length c.args.self.now.blocks
-within g c =
-    let is = kept-shown c.self.inside.cells c.args.self.now c.self.invariant c.self.view_is in
-    let some = subst (λ (size : Size). 0 < run_length size) c.class_of.ensures.value
-    (run_length-some c.class_of.result c.class_of.ensures.size) in
-    let below = place-below c.self.inside.cells c.args.pages.now c.place.new.pages (size_of c.args.bytes) c.in_ok-base.base
-    c.self.invariant.sound some c.in_ok-base.ensures.place
-    (subst (λ (v : Fixed). AreParked v.runs c.args.pages.now) (sym c.self.view_is) c.requires.parked)
-    c.limit.ensures.sound c.in_ok-base.ensures.heap in
-    let sound = sound-shown c.self.inside.cells c.args.self.now c.self.invariant c.self.view_is in
-    let pages = ap (λ (h : heaps.Pages). h.pages) c.in_ok-base.ensures.heap in
-    omega (
-      arith,
-      below,
-      c.limit.ensures.sound.limit,
-      pages,
-      c.requires.parked.pages,
-      sound.runs_size,
-      sound.size,
-    )
+    let there = taken-kept c.self.inside.cells c.args.self.now c.in_ok-base.base block is begins in
+    let grain : c.in_ok-base.base / 16 ≡ there.grain = omega (arith, there.aligned) in
+    let none = sym there.is ∙ ap (λ (k : ℕ). slice_get c.self.inside.cells.taken k) (sym grain)
+    ∙ c.in_ok-base.ensures.was_free in
+    absurd (cc)
 
 pub returns-clause-out : goal.returns-clause-out
 returns-clause-out g c =
-    let now : Fixed = with_run (with_block c.args.self.now c.in_ok-base.base (Some (block_out (extent_of c.args.bytes))))
-    (c.in_ok-base.base / 4096) (run_length (size_of c.args.bytes)) in
     let extent : c.extent_of-extent.result ≡ extent_of c.args.bytes =
     c.extent_of-extent.ensures.value ∙ ap (λ (size : Size). extent_of_size size) c.class_of.ensures.value in
-    let begins = begins-with_entry c.args.self.now.blocks c.in_ok-base.base (block_out (extent_of c.args.bytes))
-    (place-even c.self.inside.cells c.args.pages.now (size_of c.args.bytes) c.in_ok-base.base c.self.invariant.sound
-    c.in_ok-base.ensures.place) (within g c) in
-    subst (λ (v : Fixed). IsOut v (record {
-      allocator = c.of.result.value.table;
-      base = c.in_ok-base.base;
-      extent = c.extent_of-extent.result;
-    })) (sym (shown-kept c.place.new.self now (placed g c))) (record {
-      own = ap (λ (w : Cells). w.table) (c.of.ensures ∙ placed g c);
-      begins = subst (λ (e : ℕ). Begins now.blocks c.in_ok-base.base (block_out e)) (sym extent) begins;
-    })
+    record {
+      own = ap (λ (w : Cells). w.table) c.of.ensures;
+      begins = subst (λ (e : ℕ). Begins (fixed_of c.place.new.self).blocks c.in_ok-base.base (block_out e)) (sym extent)
+          (begins-shown c.place.new.self c.in_ok-base.base (newly_taken (extent_of c.args.bytes) White)
+          c.in_ok-base.ensures.begins);
+    }
 
 pub returns-clause-taken : goal.returns-clause-taken
 returns-clause-taken g c = shown-kept c.place.new.self _ (placed g c)
@@ -120,6 +79,11 @@ returns-clause-apart g c = λ runs parked clear.
     placed-clear c.self.inside.cells c.place.new.self c.args.pages.now (size_of c.args.bytes) c.in_ok-base.base runs
     c.self.invariant.sound some c.in_ok-base.ensures.place (ap (λ (w : Cells). w.runs) c.in_ok-base.ensures.taken) parked
     (subst (λ (v : Fixed). HaveNoCommonRun v.runs runs) (sym c.self.view_is) clear)
+
+pub returns-clause-all_parked : goal.returns-clause-all_parked
+returns-clause-all_parked g c = λ others all.
+    c.place.ensures.all_parked others
+    (subst (λ (v : Fixed). AreAllParked v.runs others c.args.pages.now) (sym c.self.view_is) all)
 
 pub returns-clause-sound : goal.returns-clause-sound
 returns-clause-sound g c = sound-shown c.place.new.self _ (invariant_of-self-2 g c) refl

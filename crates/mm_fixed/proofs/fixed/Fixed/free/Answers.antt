@@ -1,12 +1,12 @@
 -- The cell of the block is given back.
 use Rattle.std.proofs.Common.{◌≡◌, ℕ, ◌/◌, refl, sym, ap, subst}
-use Rattle.std.specs.Prelude.{None, slice_index}
+use Rattle.std.specs.Prelude.{None}
 use Rattle.mm_model.specs.ByBase.{Begins}
-use Rattle.mm_cells.specs.Cells as cells
+use Rattle.mm_pages.specs.Parked.{HaveNoCommonRun, AreAllParked}
 use Rattle.mm_fixed.specs.Fixed.{Fixed, OutBlock, block_out, with_block}
-use Rattle.mm_fixed.specs.Kept.{cell_of, cells_of, fixed_of}
-use Rattle.mm_fixed.specs.Placing.{HaveNoCommonRun}
-use Rattle.mm_fixed.proofs.Clear.{run-some, left-clear}
+use Rattle.mm_fixed.specs.Kept.{cells_of, fixed_of}
+use Rattle.mm_cells.proofs.Region.Places.{run-some}
+use Rattle.mm_fixed.proofs.Clear.{left-clear}
 use Rattle.mm_fixed.proofs.Kept.{keeps, taken-kept, gone-kept, page-kept, sound-shown}
 use Rattle.mm_fixed.proofs.Shown.{kept-shown, shown-kept}
 use Rattle.mm_fixed.proofs.fixed.Fixed.free.Given.{Over}
@@ -60,6 +60,11 @@ pub returns-clause-apart : goal.returns-clause-apart
 returns-clause-apart g c = λ runs clear.
     left-clear c.self.inside.cells c.release.new.self c.args.pages.now c.release.new.pages (c.block.inside.base / 4096) runs
     c.release.ensures.page (subst (λ (v : Fixed). HaveNoCommonRun v.runs runs) (sym c.self.view_is) clear)
+
+pub returns-clause-all_parked : goal.returns-clause-all_parked
+returns-clause-all_parked g c = λ others all.
+    c.release.ensures.all_parked others
+    (subst (λ (v : Fixed). AreAllParked v.runs others c.args.pages.now) (sym c.self.view_is) all)
 
 pub returns-clause-sound : goal.returns-clause-sound
 returns-clause-sound g c = sound-shown c.release.new.self _ (invariant_of-self g c) refl

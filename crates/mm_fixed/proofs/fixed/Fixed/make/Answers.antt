@@ -1,8 +1,7 @@
 -- No cell is taken.
-use Rattle.std.proofs.Common.{◌≡◌, refl, ◌∙◌}
+use Rattle.std.proofs.Common.{refl, ◌∙◌}
 use Rattle.mm_words.specs.Location.{location_of}
 use Rattle.mm_fixed.specs.Fixed.{fresh}
-use Rattle.mm_fixed.specs.Kept.{cells_of}
 use Rattle.mm_fixed.proofs.Kept.{keeps, sound-shown}
 use Rattle.mm_fixed.proofs.Shown.{shown-kept, cells_of-fresh}
 use Rattle.mm_fixed.proofs.fixed.Fixed.make.Goals as goal

@@ -3,7 +3,7 @@ use Rattle.std.specs.Prelude.{slice_set}
 use Rattle.mm_model.specs.SizeClass.{size_of, extent_of, object_bytes}
 use Rattle.mm_model.specs.ByBase as bases
 use Rattle.mm_pages.specs.Pages as heaps
-use Rattle.mm_pages.specs.Parked.{AreParked}
+use Rattle.mm_pages.specs.Parked.{AreParked, AreAllParked}
 use Rattle.mm_cells.specs.Cells.{Cells, newly_taken}
 use Rattle.mm_cells.specs.Placing.{run_length}
 use Rattle.mm_object.specs.Object.{newly_stored}
@@ -11,7 +11,7 @@ use Rattle.mm_object.specs.Heap.{Heap, IsSound}
 use Rattle.mm_object.specs.Kept.{heap_of}
 use Rattle.mm_object.proofs.Sound.{IsSound-kept}
 use Rattle.mm_object.proofs.Created.{place-shown, found-none, made, made-begins, made-within, made-cells}
-use Rattle.mm_object.proofs.Created.{created-kept, created-heap, created-raw, created-none, created-fits}
+use Rattle.mm_object.proofs.Created.{created-kept, created-heap, created-begins, created-raw, created-none, created-fits}
 use Rattle.mm_object.proofs.heap.Heap.create.Goals as goal
 
 pub returns-in_err-base-clause-place : goal.returns-in_err-base-clause-place
@@ -84,6 +84,20 @@ returns-clause-created g c =
       raw = (heap_of c.write_newborn.new.memory c.set_flags.new.self).raw;
     }) c.self.view_is
 
+pub returns-clause-begins : goal.returns-clause-begins
+returns-clause-begins g c =
+    let m = made c.self.inside.memory c.self.inside.cells c.self.invariant c.args.self.now c.self.view_is
+    c.args.pages.now c.requires.fits c.args.shape c.args.colour c.object_bytes.result c.object_bytes.ensures
+    c.in_ok-base.base c.place.new.self c.in_ok-base.ensures.place c.in_ok-base.ensures.taken
+    c.in_ok-base.ensures.enough in
+    created-begins c.self.inside.memory c.self.inside.cells c.self.invariant c.args.self.now c.self.view_is
+    c.args.shape c.args.colour c.requires.shape c.write_newborn.ensures.means m.enough c.in_ok-base.base m.vacant
+    (slice_set c.self.inside.cells.runs (c.in_ok-base.base / 4096)
+    (run_length (size_of (object_bytes c.args.shape.slots)))) c.set_flags.new.self
+    (made-cells c.self.inside.memory c.self.inside.cells c.place.new.self c.set_flags.new.self c.args.shape c.args.colour
+    c.in_ok-base.base c.flags_for.result m c.flags_for.ensures c.set_flags.ensures.flags)
+    c.set_flags.ensures.sound c.write_newborn.new.memory c.write_newborn.ensures.words
+
 pub returns-clause-was_none : goal.returns-clause-was_none
 returns-clause-was_none g c =
     let m = made c.self.inside.memory c.self.inside.cells c.self.invariant c.args.self.now c.self.view_is
@@ -133,6 +147,21 @@ returns-clause-fits g c =
     c.args.pages.now c.place.new.pages c.requires.fits
     (ap (λ (v : heaps.Pages). v.limit) c.in_ok-base.ensures.heap)
     (subst (λ (rs : List ℕ). AreParked rs c.place.new.pages) runs c.in_ok-base.ensures.parked)
+
+pub returns-clause-all_parked : goal.returns-clause-all_parked
+returns-clause-all_parked g c = λ others all.
+    let m = made c.self.inside.memory c.self.inside.cells c.self.invariant c.args.self.now c.self.view_is
+    c.args.pages.now c.requires.fits c.args.shape c.args.colour c.object_bytes.result c.object_bytes.ensures
+    c.in_ok-base.base c.place.new.self c.in_ok-base.ensures.place c.in_ok-base.ensures.taken
+    c.in_ok-base.ensures.enough in
+    let runs : c.place.new.self.runs ≡ c.set_flags.new.self.runs =
+    sym (ap (λ (v : Cells). v.runs) (c.set_flags.ensures.flags
+    (newly_taken (extent_of (object_bytes c.args.shape.slots)) c.args.colour)
+    (made-begins c.self.inside.memory c.self.inside.cells c.place.new.self c.args.shape c.args.colour
+    c.in_ok-base.base m))) in
+    subst (λ (rs : List ℕ). AreAllParked rs others c.place.new.pages) runs
+    (c.in_ok-base.ensures.all_parked others
+    (subst (λ (v : Heap). AreAllParked v.runs others c.args.pages.now) (sym c.self.view_is) all))
 
 pub returns-clause-sound : goal.returns-clause-sound
 returns-clause-sound g c =

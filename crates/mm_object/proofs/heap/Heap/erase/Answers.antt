@@ -1,5 +1,5 @@
 use Rattle.std.proofs.Common.{sym, subst}
-use Rattle.mm_pages.specs.Parked.{AreParked}
+use Rattle.mm_pages.specs.Parked.{AreParked, AreAllParked}
 use Rattle.mm_object.specs.Heap.{Heap}
 use Rattle.mm_object.proofs.Calls.{taken}
 use Rattle.mm_object.proofs.Sound.{IsSound-kept}
@@ -41,6 +41,11 @@ returns-clause-fits g c =
     erased-fits c.self.inside.memory c.self.inside.cells c.self.invariant c.args.self.now c.self.view_is
     c.args.base c.requires.object.0 c.requires.object.1 c.release.new.self c.release.ensures.gone c.release.ensures.sound
     c.args.pages.now c.release.new.pages c.requires.fits c.release.ensures.page c.release.ensures.parked
+
+pub returns-clause-all_parked : goal.returns-clause-all_parked
+returns-clause-all_parked g c = λ others all.
+    c.release.ensures.all_parked others
+    (subst (λ (v : Heap). AreAllParked v.runs others c.args.pages.now) (sym c.self.view_is) all)
 
 pub returns-clause-sound : goal.returns-clause-sound
 returns-clause-sound g c = IsSound-kept c.self.inside.memory c.release.new.self (invariant_of-self g c)

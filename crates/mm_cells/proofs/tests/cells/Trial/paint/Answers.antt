@@ -1,5 +1,5 @@
 -- The table stays where it is.
-use Rattle.std.proofs.Common.{◌+◌, ap, arith, sym, subst, ◌∙◌}
+use Rattle.std.proofs.Common.{ap, arith, sym, subst, ◌∙◌}
 use Rattle.mm_pages.specs.Parked.{AreParked}
 use Rattle.mm_words.specs.Location.{Location}
 use Rattle.mm_cells.specs.Cells.{Cells, Begins}

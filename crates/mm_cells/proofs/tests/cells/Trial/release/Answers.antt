@@ -1,7 +1,7 @@
 -- The tables stay where they are.
-use Rattle.std.proofs.Common.{◌≡◌, ◌+◌, ap, arith, subst, ◌∙◌}
+use Rattle.std.proofs.Common.{◌≡◌, ap, arith, ◌∙◌}
 use Rattle.mm_words.specs.Location.{Location}
-use Rattle.mm_cells.specs.Cells.{Cells, Begins}
+use Rattle.mm_cells.specs.Cells.{Cells}
 use Rattle.mm_cells.proofs.Region.Empty.{table-left}
 use Rattle.mm_cells.proofs.tests.cells.Trial.release.Goals as goal
 

@@ -1,4 +1,0 @@
-use Rattle.mm_fixed.proofs.fixed.Fixed.park.Given as goal
-
-abbrev pub ghosts-paint : goal.ghosts-paint
-ghosts-paint a = record { name = a.blank.name; parts = a.blank.parts }
