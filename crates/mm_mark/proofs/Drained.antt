@@ -104,8 +104,12 @@ shaded-from words objects base new begins =
         let there : Begins objects base old = record { grain = begins.grain; aligned = begins.aligned; is = f } in
         let to = shaded-to words objects base old there in
         let same = begins_same (with_grayed_objects words objects) base to.new new to.begins begins in
-        record { old = old; begins = there; shaded = subst (λ (n : ObjectView). IsShaded words base old n) same
-        to.shaded }
+        record {
+          old = old;
+          begins = there;
+          shaded = subst (λ (n : ObjectView). IsShaded words base old n) same
+              to.shaded;
+        }
 
 -- what is white afterwards was so before, and no word falls in it
 pub record WasWhite (words : List ℕ) (objects : ObjectsByBase) (base : ℕ) (object : ObjectView) : Type 0 where
@@ -162,10 +166,10 @@ pub kept-not_black : (objects : ObjectsByBase) (base : ℕ) (object : ObjectView
     → Begins objects base object → object.colour ≡ Black → ⊥
 kept-not_black objects base object (IsKeptAtFinishAt.Already b own there gray) begins black =
     black_not_gray (sym black ∙ ap (λ (v : ObjectView). v.colour) (begins_same objects base object own begins there)
-        ∙ gray)
+    ∙ gray)
 kept-not_black objects base object (IsKeptAtFinishAt.By_slot b own by holder there white held named kept) begins black =
     black_not_white (sym black ∙ ap (λ (v : ObjectView). v.colour) (begins_same objects base object own begins there)
-        ∙ white)
+    ∙ white)
 
 -- where some words name nothing white, and others don't, all of them don't
 names-append : (objects : ObjectsByBase) (xs ys : List ℕ) → NamesNoWhiteAt objects xs → NamesNoWhiteAt objects ys

@@ -115,8 +115,12 @@ entry-freed before after entries dead entry place kept =
     gray_there (Some (Some object)) f h =
         let at = place.aligned in
         let whole : entry ≡ 16 * (entry / 16) = omega arith in
-        record { object = object; begins = record { grain = entry / 16; aligned = whole; is = f }; is =
-        colour object.colour refl h }
+        record {
+          object = object;
+          begins = record { grain = entry / 16; aligned = whole; is = f };
+          is =
+              colour object.colour refl h;
+        }
       where
         colour : (c : Colour) → object.colour ≡ c → is_gray object.colour ≡ true → object.colour ≡ Gray
         colour White e t = absurd (no_other (ap is_gray e) t)

@@ -74,8 +74,10 @@ ended-few old new before after base done slots count is same (IsEnded.Is_under_s
     same ∙ ap (λ (q : Option PartlyScannedView). record old { partly = q }) partly in
     subst (λ (m : Marker). HasFewStale (record { marker = m; objects = after }) stale) (sym marker)
     (subst (λ (os : ObjectsByBase).
-    HasFewStale (record { marker = record old { partly = Some (record { base = base; slots_done = slots }) };
-        objects = os }) stale) (sym now)
+    HasFewStale (record {
+      marker = record old { partly = Some (record { base = base; slots_done = slots }) };
+      objects = os;
+    }) stale) (sym now)
     (record { tidy = moved-tidy old before base done slots is h.tidy; few = h.few }))
 
 -- where nothing is gray nothing is scanned in part

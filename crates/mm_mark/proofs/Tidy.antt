@@ -245,71 +245,77 @@ module _ (old new : Marker) (objects : ObjectsByBase) (base : ℕ) (object : Obj
 module _ (old new : Marker) (objects : ObjectsByBase) (entry : ℕ) (none : old.partly ≡ None)
     (some : 0 < length old.queue) (first : entry ≡ slice_index old.queue 0)
     (rest : new ≡ record old { queue = drop 1 old.queue }) (t : IsTidy (record { marker = old; objects = objects }))
-    where
-  whole-queue : old.queue ≡ entry ∷ drop 1 old.queue
-  whole-queue = split old.queue some first
-    where
-      split : (queue : List ℕ) → 0 < length queue → entry ≡ slice_index queue 0 → queue ≡ entry ∷ drop 1 queue
-      split [] h e = absurd (omega arith)
-      split (x ∷ xs) h e = ap (λ (n : ℕ). n ∷ xs) (sym e)
+  where
+    whole-queue : old.queue ≡ entry ∷ drop 1 old.queue
+    whole-queue = split old.queue some first
+      where
+        split : (queue : List ℕ) → 0 < length queue → entry ≡ slice_index queue 0 → queue ≡ entry ∷ drop 1 queue
+        split [] h e = absurd (omega arith)
+        split (x ∷ xs) h e = ap (λ (n : ℕ). n ∷ xs) (sym e)
 
-  distinct-queue : AreDistinctPlaces (length objects) (entry ∷ drop 1 old.queue)
-  distinct-queue =
-      subst (AreDistinctPlaces (length objects)) whole-queue
-      (subst (λ (p : Option PartlyScannedView). AreDistinctPlaces (length objects) (known_bases p old.queue)) none
-      t.distinct)
+    distinct-queue : AreDistinctPlaces (length objects) (entry ∷ drop 1 old.queue)
+    distinct-queue =
+        subst (AreDistinctPlaces (length objects)) whole-queue
+        (subst (λ (p : Option PartlyScannedView). AreDistinctPlaces (length objects) (known_bases p old.queue)) none
+        t.distinct)
 
-  unwhite-queue : (base : ℕ) (object : ObjectView) → Begins objects base object → object.colour ≡ White
-      → holds_base (entry ∷ drop 1 old.queue) base ≡ false
-  unwhite-queue base object begins white =
-      subst (λ (q : List ℕ). holds_base q base ≡ false) whole-queue
-      (subst (λ (p : Option PartlyScannedView). holds_base (known_bases p old.queue) base ≡ false) none
-      (t.unwhite base object begins white))
+    unwhite-queue : (base : ℕ) (object : ObjectView) → Begins objects base object → object.colour ≡ White
+        → holds_base (entry ∷ drop 1 old.queue) base ≡ false
+    unwhite-queue base object begins white =
+        subst (λ (q : List ℕ). holds_base q base ≡ false) whole-queue
+        (subst (λ (p : Option PartlyScannedView). holds_base (known_bases p old.queue) base ≡ false) none
+        (t.unwhite base object begins white))
 
-  -- without it the queue is tidy
-  pub dropped-tidy : IsTidy (record { marker = new; objects = objects })
-  dropped-tidy =
-      subst (λ (m : Marker). IsTidy (record { marker = m; objects = objects })) (sym rest)
-      (record {
-        room = t.room;
-        whole = t.whole;
-        distinct =
-            subst (λ (p : Option PartlyScannedView). AreDistinctPlaces (length objects)
-            (known_bases p (drop 1 old.queue)))
-            (sym none) distinct-queue.2;
-        unwhite = λ base object begins white.
-            subst (λ (p : Option PartlyScannedView). holds_base (known_bases p (drop 1 old.queue)) base ≡ false)
-            (sym none)
-            (not_rest entry (drop 1 old.queue) base (unwhite-queue base object begins white));
-      })
+    -- without it the queue is tidy
+    pub dropped-tidy : IsTidy (record { marker = new; objects = objects })
+    dropped-tidy =
+        subst (λ (m : Marker). IsTidy (record { marker = m; objects = objects })) (sym rest)
+        (record {
+          room = t.room;
+          whole = t.whole;
+          distinct =
+              subst (λ (p : Option PartlyScannedView). AreDistinctPlaces (length objects)
+              (known_bases p (drop 1 old.queue)))
+              (sym none) distinct-queue.2;
+          unwhite = λ base object begins white.
+              subst (λ (p : Option PartlyScannedView). holds_base (known_bases p (drop 1 old.queue)) base ≡ false)
+              (sym none)
+              (not_rest entry (drop 1 old.queue) base (unwhite-queue base object begins white));
+        })
 
-  -- and so it is once the entry's object is scanned in part
-  pub taken-tidy : (slots : ℕ) → IsTidy (record { marker = record new
-      { partly = Some (record { base = entry; slots_done = slots }) }; objects = objects })
-  taken-tidy slots =
-      subst (λ (m : Marker). IsTidy (record { marker = record m
-      { partly = Some (record { base = entry; slots_done = slots }) }; objects = objects }))
-      (sym rest)
-      (record { room = t.room; whole = t.whole; distinct = distinct-queue; unwhite = unwhite-queue })
+    -- and so it is once the entry's object is scanned in part
+    pub taken-tidy : (slots : ℕ) → IsTidy (record {
+      marker = record new
+          { partly = Some (record { base = entry; slots_done = slots }) };
+      objects = objects;
+    })
+    taken-tidy slots =
+        subst (λ (m : Marker). IsTidy (record {
+          marker = record m
+              { partly = Some (record { base = entry; slots_done = slots }) };
+          objects = objects;
+        }))
+        (sym rest)
+        (record { room = t.room; whole = t.whole; distinct = distinct-queue; unwhite = unwhite-queue })
 
-  stale-first : (b : Bool) → has_gray objects entry ≡ b
-      → stale_in objects old.queue ≡ (if b then 0 else 1) + stale_in objects new.queue
-  stale-first b told =
-      ap (stale_in objects) whole-queue
-      ∙ ap (λ (x : Bool). (if x then 0 else 1) + stale_in objects (drop 1 old.queue)) told
-      ∙ ap (λ (m : Marker). (if b then 0 else 1) + stale_in objects m.queue) (sym rest)
+    stale-first : (b : Bool) → has_gray objects entry ≡ b
+        → stale_in objects old.queue ≡ (if b then 0 else 1) + stale_in objects new.queue
+    stale-first b told =
+        ap (stale_in objects) whole-queue
+        ∙ ap (λ (x : Bool). (if x then 0 else 1) + stale_in objects (drop 1 old.queue)) told
+        ∙ ap (λ (m : Marker). (if b then 0 else 1) + stale_in objects m.queue) (sym rest)
 
-  -- a gray one wasn't stale
-  pub taken-stale : (object : ObjectView) → Begins objects entry object → object.colour ≡ Gray
-      → stale_in objects new.queue ≡ stale_in objects old.queue
-  taken-stale object begins gray =
-      let e = stale-first true (gray-entry objects entry object begins gray) in omega (arith, e)
+    -- a gray one wasn't stale
+    pub taken-stale : (object : ObjectView) → Begins objects entry object → object.colour ≡ Gray
+        → stale_in objects new.queue ≡ stale_in objects old.queue
+    taken-stale object begins gray =
+        let e = stale-first true (gray-entry objects entry object begins gray) in omega (arith, e)
 
-  -- and any other was
-  pub dropped-stale : ((object : ObjectView) → Begins objects entry object → object.colour ≢ Gray)
-      → stale_in objects new.queue + 1 ≡ stale_in objects old.queue
-  dropped-stale dark =
-      let e = stale-first false (none-entry objects (length objects) entry distinct-queue.0 dark) in omega (arith, e)
+    -- and any other was
+    pub dropped-stale : ((object : ObjectView) → Begins objects entry object → object.colour ≢ Gray)
+        → stale_in objects new.queue + 1 ≡ stale_in objects old.queue
+    dropped-stale dark =
+        let e = stale-first false (none-entry objects (length objects) entry distinct-queue.0 dark) in omega (arith, e)
 
 -- What was scanned in part is black now.
 module _ (old : Marker) (objects : ObjectsByBase) (p : PartlyScannedView) (object : ObjectView)
@@ -354,8 +360,11 @@ module _ (old : Marker) (objects : ObjectsByBase) (p : PartlyScannedView) (objec
 pub moved-tidy : (old : Marker) (objects : ObjectsByBase) (base done slots : ℕ)
     → old.partly ≡ Some (record { base = base; slots_done = done })
     → IsTidy (record { marker = old; objects = objects })
-    → IsTidy (record { marker = record old { partly = Some (record { base = base; slots_done = slots }) }; objects =
-    objects })
+    → IsTidy (record {
+      marker = record old { partly = Some (record { base = base; slots_done = slots }) };
+      objects =
+          objects;
+    })
 moved-tidy old objects base done slots is t = record {
   room = t.room;
   whole = t.whole;

@@ -1,16 +1,14 @@
-// What is read of an object: its colour, and its scanned slots.
-ghost use Rattle.std.specs.Prelude.{◌≡◌, ◌+◌, ℕ, length, slice_index, MatchOption, MatchBool};
+// The colours of objects.
+ghost use Rattle.std.specs.Prelude.{◌≡◌, ◌+◌, MatchOption, MatchBool};
 ghost use Rattle.mm_model.specs.declared.object.Colour.TheVariants.{Gray};
 ghost use Rattle.mm_model.specs.ByBase.{Begins};
 ghost use Rattle.mm_model.specs.Marking.{is_black, is_gray};
-ghost use Rattle.mm_model.specs.ObjectView.{scanned_words_of};
-ghost use Rattle.mm_model.specs.Words.{SlotKind};
-ghost use Rattle.mm_object.specs.Object.{StoredObject, view_of_stored, slot_with};
-ghost use Rattle.mm_object.specs.Heap.{IsObject, HasSlot};
+ghost use Rattle.mm_object.specs.Object.{StoredObject};
+ghost use Rattle.mm_object.specs.Heap.{IsObject};
 ghost use Rattle.mm_mark.specs.Colours.{HasColour, BeginsNone, IsNoneGrayAt};
 
-use mm_model::{Colour, Kind};
-use mm_object::{Heap, Slot};
+use mm_model::Colour;
+use mm_object::Heap;
 use mm_steps::Steps;
 use std::sync::ledger::Ledger;
 
@@ -72,37 +70,5 @@ fn is_gray(colour: Colour) -> bool
     match colour {
         Colour::Gray => true,
         Colour::White | Colour::Black => false,
-    }
-}
-
-/// How many slots of the object marking looks at.
-pub(crate) fn scanned_count<L: Ledger>(heap: &Heap, base: u32, steps: &mut Steps<L>) -> u32
-    requires { IsObject heap.now base }
-    ensures count { (object : StoredObject) → Begins heap.now.objects base object
-        → result ≡ length (scanned_words_of (view_of_stored object)) }
-    ensures cost { steps.new ≡ steps.old + 1 }
-{
-    let shape = heap.shape(base, steps);
-    match shape.kind {
-        Kind::Traced | Kind::Counted => shape.slots,
-        Kind::Leaf | Kind::Weak => 0,
-    }
-}
-
-/// The word of slot `s`, of whichever kind it is.
-pub(crate) fn slot_word<L: Ledger>(heap: &Heap, base: u32, s: u32, steps: &mut Steps<L>) -> u32
-    requires { HasSlot heap.now base s }
-    ensures word { (object : StoredObject) → Begins heap.now.objects base object
-        → result ≡ slice_index object.words s }
-    ensures cost { steps.new ≡ steps.old + 1 }
-{
-    word_of(heap.slot(base, s, steps))
-}
-
-fn word_of(slot: Slot) -> u32
-    ensures { (kind : SlotKind) (word : ℕ) → slot ≡ slot_with kind word → result ≡ word }
-{
-    match slot {
-        Slot::Count(word) | Slot::Word(word) | Slot::Raw(word) => word,
     }
 }

@@ -11,7 +11,6 @@ ghost use Rattle.mm_mark.specs.Colours.{IsGrayed, IsSameButColours, HasColour};
 ghost use Rattle.mm_mark.specs.Parts.{NoneIsGray, IsScanned, IsAdvanced, part_words, IsSameCycle, IsEnded, IsOfPartly};
 ghost use Rattle.mm_mark.specs.Stale.{IsTidy, HasFewStale, KeepsFewStale, IsPaid, stale_of, slots_of};
 
-use crate::colours::{scanned_count, slot_word};
 use crate::marker::{Marker, PartlyScanned};
 use mm_model::{Colour, Part};
 use mm_object::Heap;
@@ -94,7 +93,7 @@ impl Marker {
         ensures few { KeepsFewStale (marking self.old heap.old) (marking self.new heap.new) }
         ensures cost { steps.new ≤ steps.old + 2 + 2 * result.slots }
     {
-        let count = scanned_count(heap, from.base, steps);
+        let count = heap.scanned_count(from.base, steps);
         let slots = part_slots(count - from.slots_done);
         let end = from.slots_done + slots;
         self.shade_slots(heap, from, end, steps);
@@ -136,7 +135,7 @@ impl Marker {
         ensures cost { steps.new ≡ steps.old + 2 * (end - from.slots_done) }
     {
         for s in from.slots_done..end {
-            let word = slot_word(heap, from.base, s, steps);
+            let word = heap.slot_word(from.base, s, steps);
             self.shade(heap, word, steps);
         }
     }
