@@ -1,0 +1,14 @@
+pub mod Advancing
+pub mod Barred
+pub mod Chosen
+pub mod Drained
+pub mod Forgotten
+pub mod Grayed
+pub mod Keeping
+pub mod PartsDone
+pub mod Potential
+pub mod Reading
+pub mod Shaded
+pub mod Tidied
+pub mod Tidy
+pub mod Told

@@ -1,0 +1,5 @@
+pub mod Colours
+pub mod Draining
+pub mod Marker
+pub mod Parts
+pub mod Stale

@@ -1,0 +1,76 @@
+-- Entries of the queue at which no gray object begins, where the queue has room for every object.
+use Rattle.std.specs.Prelude.{◌≡◌, ◌+◌, ◌*◌, ◌/◌, ◌≤◌, ◌<◌, ℕ, Bool, false, ⊤, if◌then◌else◌, List, [], ◌∷◌, length, Option, Some, None, slice_get}
+use Rattle.mm_model.specs.declared.object.Colour.TheVariants.{White}
+use Rattle.mm_model.specs.declared.object.Part.{Part}
+use Rattle.mm_model.specs.ByBase.{Begins}
+use Rattle.mm_model.specs.ObjectView.{ObjectView, ObjectsByBase, holds_base}
+use Rattle.mm_model.specs.Marking.{is_gray}
+use Rattle.mm_model.specs.View.{PartlyScannedView}
+use Rattle.mm_mark.specs.Marker.{Marker, Marking}
+
+-- a gray object begins at a base
+abbrev pub is_gray_entry : Option (Option ObjectView) → Bool
+is_gray_entry None = false
+is_gray_entry (Some None) = false
+is_gray_entry (Some (Some object)) = is_gray object.colour
+
+abbrev pub has_gray : ObjectsByBase → ℕ → Bool
+has_gray objects base = is_gray_entry (slice_get objects (base / 16))
+
+-- how many of some entries are stale: no gray object begins there
+abbrev pub stale_in : ObjectsByBase → List ℕ → ℕ
+stale_in objects [] = 0
+stale_in objects (entry ∷ queue) = (if has_gray objects entry then 0 else 1) + stale_in objects queue
+
+abbrev pub stale_of : Marking → ℕ
+stale_of now = stale_in now.objects now.marker.queue
+
+-- a base in one of the pages but the first, where a list by base has so many entries
+pub record IsPlace (entries base : ℕ) : Type 0 where
+  pub grain : ℕ
+  pub aligned : base ≡ 16 * grain
+  pub from : 256 ≤ grain
+  pub below : grain < entries
+
+-- such bases, all different
+abbrev pub AreDistinctPlaces : ℕ → List ℕ → Type 0
+AreDistinctPlaces entries [] = ⊤
+AreDistinctPlaces entries (base ∷ bases) =
+    IsPlace entries base × (holds_base bases base ≡ false) × AreDistinctPlaces entries bases
+
+-- the base of what is scanned in part, and the entries
+abbrev pub known_bases : Option PartlyScannedView → List ℕ → List ℕ
+known_bases None queue = queue
+known_bases (Some partly) queue = partly.base ∷ queue
+
+-- The queue has room for an entry for each place of an object, and no overflow is noted. The entries and the base of
+-- what is scanned in part differ, and none is the base of a white object.
+pub record IsTidy (now : Marking) : Type 0 where
+  pub room : length now.objects ≤ now.marker.room + 256
+  pub whole : now.marker.overflowed ≡ false
+  pub distinct : AreDistinctPlaces (length now.objects) (known_bases now.marker.partly now.marker.queue)
+  pub unwhite : (base : ℕ) (object : ObjectView) → Begins now.objects base object → object.colour ≡ White
+      → holds_base (known_bases now.marker.partly now.marker.queue) base ≡ false
+
+-- and at most so many entries are stale
+pub record HasFewStale (now : Marking) (stale : ℕ) : Type 0 where
+  pub tidy : IsTidy now
+  pub few : stale_of now ≤ stale
+
+abbrev pub KeepsFewStale : Marking → Marking → Type 0
+KeepsFewStale before after = (stale : ℕ) → HasFewStale before stale → HasFewStale after stale
+
+-- so many entries are stale after a call, and what was paid for those that it took is within a bound
+pub record IsPaid (after : Marking) (steps bound : ℕ) : Type 0 where
+  pub left : ℕ
+  pub few : HasFewStale after left
+  pub paid : steps + 8 * left ≤ bound
+
+-- the slots of a part, if there is one
+abbrev pub slots_of : Option Part → ℕ
+slots_of None = 0
+slots_of (Some part) = part.slots
+
+-- this object is the one that is scanned in part, and none of its slots is done
+abbrev pub with_partly_at : Marker → ℕ → Marker
+with_partly_at marker base = record marker { partly = Some (record { base = base; slots_done = 0 }) }

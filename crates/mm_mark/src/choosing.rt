@@ -1,0 +1,150 @@
+// Which gray object is scanned next.
+ghost use Rattle.std.specs.Prelude.{◌≡◌, ◌+◌, ◌*◌, ◌≤◌, length, MatchOption, None, []};
+ghost use Rattle.std.specs.Option.{option_map};
+ghost use Rattle.mm_model.specs.declared.object.Colour.TheVariants.{Gray};
+ghost use Rattle.mm_object.specs.Object.{views_of};
+ghost use Rattle.mm_mark.specs.Marker.{view_of_partly, IsSameButQueue, AreKnown, KeepsGray, marking};
+ghost use Rattle.mm_mark.specs.Stale.{IsTidy, stale_of, with_partly_at};
+ghost use Rattle.mm_mark.specs.Colours.{HasColour};
+ghost use Rattle.mm_mark.specs.Parts.{NoneIsGray, IsTaken, IsChosen, IsSameCycle};
+
+use crate::colours::is_gray_at;
+use crate::marker::{Marker, PartlyScanned};
+use mm_model::Colour;
+use mm_object::Heap;
+use mm_steps::Steps;
+use std::sync::ledger::Ledger;
+
+impl Marker {
+    /// The object that is scanned next, which counts as scanned in part from now on.
+    pub(crate) fn choose<L: Ledger>(
+        &mut self,
+        heap: &Heap,
+        steps: &mut Steps<L>,
+    ) -> Option<PartlyScanned>
+        requires { KeepsGray self.old (views_of heap.now.objects) }
+        ensures next { MatchOption result (NoneIsGray (views_of heap.now.objects))
+            (λ next. IsChosen self.old (views_of heap.now.objects) (view_of_partly next)) }
+        ensures partly { self.new.partly ≡ option_map view_of_partly result }
+        ensures cycle { IsSameCycle self.old self.new }
+        ensures known { AreKnown self.new (views_of heap.now.objects) }
+        ensures tidy { IsTidy (marking self.old heap.now) → IsTidy (marking self.new heap.now) }
+        ensures paid { IsTidy (marking self.old heap.now)
+            → steps.new + 8 * stale_of (marking self.new heap.now)
+            ≤ steps.old + 2 + 8 * stale_of (marking self.old heap.now) }
+    {
+        match self.partly {
+            Some(partly) => Some(partly),
+            None => self.choose_another(heap, steps),
+        }
+    }
+
+    /// The same where none is scanned in part.
+    fn choose_another<L: Ledger>(
+        &mut self,
+        heap: &Heap,
+        steps: &mut Steps<L>,
+    ) -> Option<PartlyScanned>
+        requires none { self.old.partly ≡ None }
+        requires known { AreKnown self.old (views_of heap.now.objects) }
+        ensures next { MatchOption result (NoneIsGray (views_of heap.now.objects))
+            (λ next. IsChosen self.old (views_of heap.now.objects) (view_of_partly next)) }
+        ensures partly { self.new.partly ≡ option_map view_of_partly result }
+        ensures cycle { IsSameCycle self.old self.new }
+        ensures known { AreKnown self.new (views_of heap.now.objects) }
+        ensures tidy { IsTidy (marking self.old heap.now) → IsTidy (marking self.new heap.now) }
+        ensures paid { IsTidy (marking self.old heap.now)
+            → steps.new + 8 * stale_of (marking self.new heap.now)
+            ≤ steps.old + 2 + 8 * stale_of (marking self.old heap.now) }
+    {
+        match self.next_base(heap, steps) {
+            Some(base) => {
+                let next = PartlyScanned {
+                    base,
+                    slots_done: 0,
+                };
+                self.partly = Some(next);
+                Some(next)
+            }
+            None => None,
+        }
+    }
+
+    /// The base of a gray object that isn't scanned in part.
+    fn next_base<L: Ledger>(&mut self, heap: &Heap, steps: &mut Steps<L>) -> Option<u32>
+        requires none { self.old.partly ≡ None }
+        requires known { AreKnown self.old (views_of heap.now.objects) }
+        ensures base { MatchOption result (NoneIsGray (views_of heap.now.objects))
+            (λ base. IsTaken heap.now self.new base) }
+        ensures cycle { IsSameButQueue self.old self.new }
+        ensures tidy { IsTidy (marking self.old heap.now) → MatchOption result (IsTidy (marking self.new heap.now))
+            (λ base. IsTidy (marking (with_partly_at self.new base) heap.now)) }
+        ensures paid { IsTidy (marking self.old heap.now)
+            → steps.new + 8 * stale_of (marking self.new heap.now)
+            ≤ steps.old + 2 + 8 * stale_of (marking self.old heap.now) }
+    {
+        match self.next_queued(heap, steps) {
+            Some(base) => Some(base),
+            None => self.next_left_out(heap, steps),
+        }
+    }
+
+    /// Takes entries until a gray object begins at one.
+    fn next_queued<L: Ledger>(&mut self, heap: &Heap, steps: &mut Steps<L>) -> Option<u32>
+        requires none { self.old.partly ≡ None }
+        requires known { AreKnown self.old (views_of heap.now.objects) }
+        ensures base { MatchOption result (AreKnown self.new (views_of heap.now.objects) × (self.new.queue ≡ []))
+            (λ base. IsTaken heap.now self.new base) }
+        ensures cycle { IsSameButQueue self.old self.new }
+        ensures tidy { IsTidy (marking self.old heap.now) → MatchOption result (IsTidy (marking self.new heap.now))
+            (λ base. IsTidy (marking (with_partly_at self.new base) heap.now)) }
+        ensures paid { IsTidy (marking self.old heap.now)
+            → steps.new + 8 * stale_of (marking self.new heap.now)
+            ≤ steps.old + 2 + 8 * stale_of (marking self.old heap.now) }
+    {
+        'entries: while self.queue.depth() > 0 {
+            let base = self.take(steps);
+            if is_gray_at(heap, base, steps) {
+                return Some(base);
+            }
+        }
+        None
+    }
+
+    /// After an overflow the gray objects are found by their colour.
+    fn next_left_out<L: Ledger>(&mut self, heap: &Heap, steps: &mut Steps<L>) -> Option<u32>
+        requires none { self.old.partly ≡ None }
+        requires empty { self.old.queue ≡ [] }
+        requires known { AreKnown self.old (views_of heap.now.objects) }
+        ensures base { MatchOption result (NoneIsGray (views_of heap.now.objects))
+            (λ base. IsTaken heap.now self.new base) }
+        ensures cycle { IsSameButQueue self.old self.new }
+        ensures tidy { IsTidy (marking self.old heap.now)
+            → (result ≡ None) × (self.new ≡ self.old) × (steps.new ≡ steps.old) }
+    {
+        if !self.overflowed {
+            return None;
+        }
+        match self.walk(heap, steps) {
+            Some(base) => {
+                self.next = base;
+                Some(base)
+            }
+            None => {
+                self.overflowed = false;
+                None
+            }
+        }
+    }
+
+    /// The base of a gray object, from where the last walk ended on.
+    fn walk<L: Ledger>(&self, heap: &Heap, steps: &mut Steps<L>) -> Option<u32>
+        ensures { MatchOption result (NoneIsGray (views_of heap.now.objects))
+            (λ base. HasColour heap.now base Gray) }
+    {
+        match heap.next_of(self.next, Colour::Gray, steps) {
+            Some(base) => Some(base),
+            None => heap.next_of(0, Colour::Gray, steps),
+        }
+    }
+}

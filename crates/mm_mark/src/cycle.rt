@@ -1,0 +1,140 @@
+// The beginning and the end of a cycle.
+ghost use Rattle.std.specs.Prelude.{◌≡◌, ◌+◌, ◌*◌, ◌≤◌, ◌++◌, length, true, false, IfSome, MatchBool, None};
+ghost use Rattle.mm_model.specs.GoodView.{AreWhite};
+ghost use Rattle.mm_object.specs.Object.{views_of};
+ghost use Rattle.mm_object.specs.Heap.{IsSound};
+ghost use Rattle.mm_object.specs.Colours.{all_whitened};
+ghost use Rattle.mm_mark.specs.Marker.{IsSameButQueue, HasBegun, IsIdle, AreKnown, KeepsGray, HasStarted};
+ghost use Rattle.mm_mark.specs.Marker.{IsUnderScan, marking};
+ghost use Rattle.mm_mark.specs.Stale.{HasFewStale, KeepsFewStale};
+ghost use Rattle.mm_mark.specs.Parts.{IsUnderScanOrGone, IsFreed, HasForgotten};
+ghost use Rattle.mm_mark.specs.Colours.{IsGrayed};
+
+use crate::colours::is_free_at;
+use crate::marker::Marker;
+use mm_object::Heap;
+use mm_roots::Stack;
+use mm_steps::Steps;
+use std::sync::ledger::Ledger;
+
+impl Marker {
+    /// Begins a cycle: what a cell of the stack or one of the other words falls in becomes gray.
+    pub fn begin<L: Ledger>(
+        &mut self,
+        heap: &mut Heap,
+        stack: &Stack,
+        area_words: &[u32],
+        steps: &mut Steps<L>,
+    )
+        requires idle { self.old.running ≡ false }
+        requires white { AreWhite (views_of heap.old.objects) }
+        ensures grayed { IsGrayed heap.old heap.new (stack.now.words ++ area_words.now) }
+        ensures runs { HasBegun self.old self.new }
+        ensures keeps { KeepsGray self.new (views_of heap.new.objects) }
+        ensures sound { IsSound heap.old → IsSound heap.new }
+        ensures few { length heap.old.objects ≤ self.old.room + 256 → HasFewStale (marking self.new heap.new) 0 }
+        ensures cost { steps.new ≤ steps.old + 16 * (1 + length stack.now.words + length area_words.now) }
+    {
+        self.start();
+        self.shade_roots(heap, stack, area_words, steps);
+    }
+
+    /// Looks at the stack and the other words again, before a cycle ends.
+    pub fn rescan<L: Ledger>(
+        &mut self,
+        heap: &mut Heap,
+        stack: &Stack,
+        area_words: &[u32],
+        steps: &mut Steps<L>,
+    )
+        requires runs { self.old.running ≡ true }
+        requires keeps { KeepsGray self.old (views_of heap.old.objects) }
+        ensures grayed { IsGrayed heap.old heap.new (stack.now.words ++ area_words.now) }
+        ensures cycle { IsSameButQueue self.old self.new }
+        ensures keeps { KeepsGray self.new (views_of heap.new.objects) }
+        ensures sound { IsSound heap.old → IsSound heap.new }
+        ensures few { KeepsFewStale (marking self.old heap.old) (marking self.new heap.new) }
+        ensures cost { steps.new ≤ steps.old + 16 * (1 + length stack.now.words + length area_words.now) }
+    {
+        self.shade_roots(heap, stack, area_words, steps);
+    }
+
+    /// Makes every object white and ends the cycle, as if it had never begun.
+    pub fn abandon<L: Ledger>(&mut self, heap: &mut Heap, steps: &mut Steps<L>)
+        requires runs { self.old.running ≡ true }
+        ensures white { heap.new ≡ all_whitened heap.old }
+        ensures idle { IsIdle self.old self.new }
+        ensures sound { IsSound heap.new }
+        ensures cost { steps.new ≡ steps.old + heap.old.pages }
+    {
+        heap.whiten(steps);
+        self.end();
+    }
+
+    /// Ends the cycle, once what it left white is freed and what it kept is white.
+    pub fn end(&mut self)
+        requires runs { self.old.running ≡ true }
+        ensures idle { IsIdle self.old self.new }
+    {
+        self.running = false;
+        self.partly = None;
+    }
+
+    /// With an empty queue, and nothing scanned in part.
+    fn start(&mut self)
+        ensures { HasStarted self.old self.new }
+    {
+        self.queue.pop(self.queue.depth());
+        self.overflowed = false;
+        self.running = true;
+        self.partly = None;
+        self.next = 0;
+    }
+
+    fn shade_roots<L: Ledger>(
+        &mut self,
+        heap: &mut Heap,
+        stack: &Stack,
+        area_words: &[u32],
+        steps: &mut Steps<L>,
+    )
+        requires { AreKnown self.old (views_of heap.old.objects) }
+        ensures grayed { IsGrayed heap.old heap.new (stack.now.words ++ area_words.now) }
+        ensures cycle { IsSameButQueue self.old self.new }
+        ensures known { AreKnown self.new (views_of heap.new.objects) }
+        ensures sound { IsSound heap.old → IsSound heap.new }
+        ensures few { KeepsFewStale (marking self.old heap.old) (marking self.new heap.new) }
+        ensures cost { steps.new ≡ steps.old + 2 * length stack.now.words + length area_words.now }
+    {
+        self.shade_words(heap, stack.words(steps), steps);
+        self.shade_words(heap, area_words, steps);
+    }
+
+    /// Forgets the object that is scanned in part if it isn't there any more, after a phase freed objects.
+    pub fn forget_freed<L: Ledger>(&mut self, heap: &Heap, steps: &mut Steps<L>)
+        requires runs { self.old.running ≡ true }
+        requires known { AreKnown self.old (views_of heap.now.objects) }
+        requires partly { IfSome self.old.partly (IsUnderScanOrGone (views_of heap.now.objects)) }
+        ensures forgotten { HasForgotten self.old self.new (views_of heap.now.objects) }
+        ensures keeps { KeepsGray self.new (views_of heap.now.objects) }
+        ensures few { KeepsFewStale (marking self.old heap.now) (marking self.new heap.now) }
+        ensures cost { steps.new ≤ steps.old + 1 }
+    {
+        if self.is_freed(heap, steps) {
+            self.partly = None;
+        }
+    }
+
+    /// Whether the object that was scanned in part is gone.
+    fn is_freed<L: Ledger>(&self, heap: &Heap, steps: &mut Steps<L>) -> bool
+        requires { IfSome self.now.partly (IsUnderScanOrGone (views_of heap.now.objects)) }
+        ensures freed { MatchBool result (IsFreed self.now (views_of heap.now.objects))
+            (IfSome self.now.partly (IsUnderScan (views_of heap.now.objects))) }
+        ensures cost { steps.new ≤ steps.old + 1 }
+    {
+        match self.partly {
+            Some(partly) => is_free_at(heap, partly.base, steps),
+            None => false,
+        }
+    }
+}

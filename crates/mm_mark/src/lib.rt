@@ -1,0 +1,12 @@
+//! Marking, in parts and between the commands of a program.
+#![tactic(auto)]
+
+mod choosing;
+mod colours;
+mod cycle;
+mod draining;
+mod marker;
+mod scanning;
+mod shading;
+
+pub use marker::Marker;
