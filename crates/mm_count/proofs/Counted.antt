@@ -49,7 +49,8 @@ module _ (h h' : Heap) (f : Composite → Composite) (base : ℕ) (o : StoredObj
   abbrev now : Composite
   now = f (unplaced (composite_of o))
 
-  pub views-is : views_of h'.objects ≡ with_entry base (Some (view_of_stored (new h h' f base o begins e))) (views_of h.objects)
+  pub views-is : views_of h'.objects
+      ≡ with_entry base (Some (view_of_stored (new h h' f base o begins e))) (views_of h.objects)
   views-is =
       let n = new h h' f base o begins e in
       sym (seen-bare h'.objects) ∙ ap views_of (bared-is h h' f base o begins e)

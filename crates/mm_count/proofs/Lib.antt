@@ -1,9 +1,11 @@
 pub mod Apart
+pub mod Born
 pub mod ChangedEntries
 pub mod Changes
 pub mod Composites
 pub mod Counted
 pub mod Entries
+pub mod Leaving
 pub mod Lowering
 pub mod Null
 pub mod Places
@@ -12,6 +14,7 @@ pub mod Right
 pub mod Room
 pub mod Sticky
 pub mod Stored
+pub mod Tables
 pub mod Views
 pub mod Words
 pub mod Writing

@@ -1,6 +1,6 @@
 -- What the views, the heap besides, the pins and the table's members are once one object was given another composite.
-use Rattle.std.proofs.Common.{◌≡◌, ◌≢◌, ◌⊎◌, ⊎_elim, inl, inr, ℕ, ◌-◌, ◌/◌, Bool, true, false, cond, [], ◌∷◌, Option, Some}
-use Rattle.std.proofs.Common.{refl, sym, ap, ◌∙◌, subst, arith}
+use Rattle.std.proofs.Common.{◌⊎◌, ◌≡◌, ◌≢◌, ⊎_elim, inl, inr, ℕ, ◌-◌, ◌/◌, Bool, true, false, cond, [], ◌∷◌}
+use Rattle.std.proofs.Common.{Option, Some, refl, sym, ap, ◌∙◌, subst, arith}
 use Rattle.std.specs.Prelude.{◌==◌, ◌||◌, IsTrue}
 use Rattle.std.proofs.lemmas.Bool.{cases_eq}
 use Rattle.mm_model.specs.Object.{is_counted}

@@ -16,7 +16,7 @@ pub record AreDeadApart (dead : List ℕ) (objects : StoredObjects) : Type 0 whe
       → (composite_of object).sticky ≡ false → (composite_of object).count ≡ 0 → lists dead base ≡ false
       → (composite_of object).listed ≡ true
 
--- the same heap but for what its composite words say, which the model doesn't see
+-- the same heap but for composite words, in which the model sees no change
 pub record IsRecounted (before after : Heap) : Type 0 where
   pub views : views_of after.objects ≡ views_of before.objects
   pub objects : KeepsObjects before.objects after.objects

@@ -1,5 +1,5 @@
 -- Which objects are in the zero-count table, and which are pinned.
-use Rattle.std.specs.Prelude.{◌≡◌, ◌≢◌, ◌⊎◌, ℕ, true, false, IsTrue, List}
+use Rattle.std.specs.Prelude.{◌≡◌, ◌≢◌, ◌⊎◌, ℕ, Bool, true, false, IsTrue, List}
 use Rattle.mm_model.specs.Object.{is_counted}
 use Rattle.mm_model.specs.ByBase.{Begins}
 use Rattle.mm_model.specs.ObjectView.{holds_base}
@@ -38,3 +38,15 @@ pub record ListsNamed (words : List ℕ) (before after : StoredObjects) : Type 0
       → (composite_of now).listed ≡ true → ((composite_of object).listed ≡ true) ⊎ IsTrue (holds_base words base)
   pub zeros : (base : ℕ) (object now : StoredObject) → Begins before base object → Begins after base now
       → (composite_of now).count ≡ 0 → ((composite_of object).count ≡ 0) ⊎ ((composite_of now).listed ≡ true)
+
+-- The object at a base isn't in the table any more, and each other one is where it was before.
+pub record ListsOthers (left : ℕ) (before after : StoredObjects) : Type 0 where
+  pub own : (object : StoredObject) → Begins after left object → (composite_of object).listed ≡ false
+  pub others : (base : ℕ) (object now : StoredObject) → base ≢ left → Begins before base object
+      → Begins after base now → (composite_of now).listed ≡ (composite_of object).listed
+
+-- The object at a base is pinned now or isn't, and each other one is where it was before.
+pub record PinsOne (at : ℕ) (pinned : Bool) (before after : StoredObjects) : Type 0 where
+  pub own : (object : StoredObject) → Begins after at object → (composite_of object).pinned ≡ pinned
+  pub others : (base : ℕ) (object now : StoredObject) → base ≢ at → Begins before base object
+      → Begins after base now → (composite_of now).pinned ≡ (composite_of object).pinned

@@ -26,6 +26,10 @@ abbrev pub without_place : List ℕ → ℕ → List ℕ
 without_place entries place =
     take (length entries - 1) (slice_set entries place (slice_index entries (length entries - 1)))
 
+-- the same table, but for its entries
+abbrev pub IsSameTable : Table → Table → Type 0
+IsSameTable before after = after ≡ with_entries before after.entries
+
 -- what an object says of its count
 abbrev pub composite_of : StoredObject → Composite
 composite_of object = composite_in object.composite

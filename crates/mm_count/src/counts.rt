@@ -1,5 +1,5 @@
 // Counts of references, which are raised and lowered.
-ghost use Rattle.std.specs.Prelude.{◌≡◌, ◌≤◌, ◌<◌, ◌+◌, ◌^◌, ◌++◌, ◌∷◌, ℕ, [], false, length};
+ghost use Rattle.std.specs.Prelude.{◌≡◌, ◌≤◌, ◌<◌, ◌+◌, ◌^◌, ◌++◌, ◌∷◌, ℕ, List, [], false, length};
 ghost use Rattle.mm_model.specs.ByBase.{Begins};
 ghost use Rattle.mm_object.specs.Object.{StoredObject, views_of};
 ghost use Rattle.mm_object.specs.Heap.{IsObject, IsSound};
@@ -9,7 +9,8 @@ ghost use Rattle.mm_count.specs.Counts.{composite_at, IsCountedBy, one_more, cou
 ghost use Rattle.mm_count.specs.Counts.{left, changed_at, without_places, table_left, table_raised, table_lowered};
 ghost use Rattle.mm_count.specs.Counts.{KeepsObjects, HasReference};
 ghost use Rattle.mm_count.specs.Sticky.{with_sticky};
-ghost use Rattle.mm_count.specs.Listed.{AllListed, AllListedBut, NonePinned, KeepsPins, ListsNamed};
+ghost use Rattle.mm_count.specs.Listed.{AllListed, AllListedBut, NonePinned, KeepsPins, ListsNamed, ListsOthers};
+ghost use Rattle.mm_count.specs.Apart.{AreCountsApart};
 ghost use Rattle.mm_count.specs.Kept.{HasGap, gives, with_entry_word};
 
 use crate::composite::Composite;
@@ -195,6 +196,10 @@ impl ZeroTable {
         ensures rest { heap.new ≡ record heap.old { objects = heap.new.objects } }
         ensures views { views_of heap.new.objects ≡ views_of heap.old.objects }
         ensures unpinned { NonePinned heap.old.objects → NonePinned heap.new.objects }
+        ensures pins { KeepsPins heap.old.objects heap.new.objects }
+        ensures others { ListsOthers base heap.old.objects heap.new.objects }
+        ensures apart { (dropped : List ℕ) (outside : ℕ → ℕ) → AreCountsApart dropped heap.old.objects outside
+            → AreCountsApart dropped heap.new.objects outside }
         ensures right { IsRight self.new heap.new }
         ensures sound { IsSound heap.new }
         ensures cost { steps.new ≤ steps.old + 8 }

@@ -6,7 +6,7 @@ ghost use Rattle.mm_model.specs.ObjectView.{counted_words_of};
 ghost use Rattle.mm_model.specs.GoodView.{HoldTight};
 ghost use Rattle.mm_object.specs.Object.{StoredObject, view_of_stored, views_of};
 ghost use Rattle.mm_object.specs.Heap.{IsObject, IsSound};
-ghost use Rattle.mm_count.specs.Table.{IsRight};
+ghost use Rattle.mm_count.specs.Table.{IsRight, IsSameTable};
 ghost use Rattle.mm_count.specs.Counts.{KeepsObjects, NamesCounted, HasCountedSlot, HasReference};
 ghost use Rattle.mm_count.specs.Listed.{KeepsPins, ListsNamed};
 ghost use Rattle.mm_count.specs.Apart.{AreCountsApart, CanDrop};
@@ -29,6 +29,7 @@ impl ZeroTable {
         requires right { IsRight self.old heap.old }
         ensures lowered { (object : StoredObject) → Begins heap.old.objects base object
             → AreLowered heap.old heap.new (slice_index object.words s ∷ []) }
+        ensures table { IsSameTable self.old self.new }
         ensures right { IsRight self.new heap.new }
         ensures sound { IsSound heap.new }
         ensures cost { steps.new ≤ steps.old + 9 }
@@ -54,6 +55,7 @@ impl ZeroTable {
         ensures rest { heap.new ≡ record heap.old { objects = heap.new.objects } }
         ensures views { views_of heap.new.objects ≡ views_of heap.old.objects }
         ensures pins { KeepsPins heap.old.objects heap.new.objects }
+        ensures table { IsSameTable self.old self.new }
         ensures listed { (object : StoredObject) → Begins heap.old.objects base object
             → ListsNamed (counted_words_of (view_of_stored object)) heap.old.objects heap.new.objects }
         ensures right { IsRight self.new heap.new }

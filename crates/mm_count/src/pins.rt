@@ -1,9 +1,11 @@
 // Pins, which mark within a reap what the stack names.
-ghost use Rattle.std.specs.Prelude.{◌≡◌, ◌+◌, ◌≤◌, ℕ, true, false};
+ghost use Rattle.std.specs.Prelude.{◌≡◌, ◌+◌, ◌≤◌, ℕ, List, true, false};
 ghost use Rattle.mm_object.specs.Object.{views_of};
 ghost use Rattle.mm_object.specs.Heap.{IsSound};
 ghost use Rattle.mm_count.specs.Table.{IsCountedAt, IsRight};
 ghost use Rattle.mm_count.specs.Counts.{composite_at, IsCountedBy, with_pin, changed_at, without_places, KeepsObjects};
+ghost use Rattle.mm_count.specs.Listed.{AllListed, PinsOne};
+ghost use Rattle.mm_count.specs.Apart.{AreCountsApart};
 
 use crate::counts::{composite_of, set_composite};
 use crate::table::ZeroTable;
@@ -22,6 +24,10 @@ impl ZeroTable {
         ensures objects { KeepsObjects heap.old.objects heap.new.objects }
         ensures rest { heap.new ≡ record heap.old { objects = heap.new.objects } }
         ensures views { views_of heap.new.objects ≡ views_of heap.old.objects }
+        ensures pinned { PinsOne base pinned heap.old.objects heap.new.objects }
+        ensures listed { AllListed heap.old.objects → AllListed heap.new.objects }
+        ensures apart { (dropped : List ℕ) (outside : ℕ → ℕ) → AreCountsApart dropped heap.old.objects outside
+            → AreCountsApart dropped heap.new.objects outside }
         ensures right { IsRight self.now heap.new }
         ensures sound { IsSound heap.new }
         ensures cost { steps.new ≡ steps.old + 2 }

@@ -7,6 +7,7 @@ use Rattle.mm_count.proofs.Places.{keeps}
 use Rattle.mm_count.proofs.Counted.{counted-left}
 use Rattle.mm_count.proofs.Changes.{composite-said, place-within, leave-kept, leave-gives, left-gap}
 use Rattle.mm_count.proofs.Views.{rest-changed, left-views, left-unpinned}
+use Rattle.mm_count.proofs.Leaving.{left-apart, left-pins, left-others}
 use Rattle.mm_count.proofs.table.ZeroTable.leave.Goals as goal
 
 pub returns-then-not-composite-clause-heap : goal.returns-then-not-composite-clause-heap
@@ -95,3 +96,42 @@ returns-clause-unpinned g c =
     let k = c.requires.counted in
     let is = (c.requires.right.spelled c.args.base k.object k.begins).counted k.counted in
     left-unpinned c.args.heap.now c.close_gap.new.heap c.args.base k.object k.begins is (returns-clause-heap g c)
+
+pub returns-then-not-composite-clause-pins : goal.returns-then-not-composite-clause-pins
+returns-then-not-composite-clause-pins g c =
+    let k = c.requires.counted in
+    let is = (c.requires.right.spelled c.args.base k.object k.begins).counted k.counted in
+    left-pins c.args.heap.now c.args.heap.now c.args.base k.object k.begins is (returns-then-not-composite-clause-heap
+    g c)
+
+pub returns-then-not-composite-clause-others : goal.returns-then-not-composite-clause-others
+returns-then-not-composite-clause-others g c =
+    let k = c.requires.counted in
+    let is = (c.requires.right.spelled c.args.base k.object k.begins).counted k.counted in
+    left-others c.args.heap.now c.args.heap.now c.args.base k.object k.begins is
+    (returns-then-not-composite-clause-heap g c)
+
+pub returns-then-not-composite-clause-apart : goal.returns-then-not-composite-clause-apart
+returns-then-not-composite-clause-apart g c =
+    let k = c.requires.counted in
+    let is = (c.requires.right.spelled c.args.base k.object k.begins).counted k.counted in
+    left-apart c.args.heap.now c.args.heap.now c.args.base k.object k.begins is
+    (returns-then-not-composite-clause-heap g c)
+
+pub returns-clause-pins : goal.returns-clause-pins
+returns-clause-pins g c =
+    let k = c.requires.counted in
+    let is = (c.requires.right.spelled c.args.base k.object k.begins).counted k.counted in
+    left-pins c.args.heap.now c.close_gap.new.heap c.args.base k.object k.begins is (returns-clause-heap g c)
+
+pub returns-clause-others : goal.returns-clause-others
+returns-clause-others g c =
+    let k = c.requires.counted in
+    let is = (c.requires.right.spelled c.args.base k.object k.begins).counted k.counted in
+    left-others c.args.heap.now c.close_gap.new.heap c.args.base k.object k.begins is (returns-clause-heap g c)
+
+pub returns-clause-apart : goal.returns-clause-apart
+returns-clause-apart g c =
+    let k = c.requires.counted in
+    let is = (c.requires.right.spelled c.args.base k.object k.begins).counted k.counted in
+    left-apart c.args.heap.now c.close_gap.new.heap c.args.base k.object k.begins is (returns-clause-heap g c)

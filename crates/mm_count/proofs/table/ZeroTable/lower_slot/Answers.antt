@@ -1,8 +1,9 @@
 use Rattle.std.proofs.Common.{ℕ, [], ◌∷◌, sym, ◌∙◌, subst}
 use Rattle.mm_count.specs.Table.{IsCountedAt}
-use Rattle.mm_count.specs.Counts.{HasReference}
+use Rattle.mm_count.specs.Counts.{composite_at, HasReference}
 use Rattle.mm_count.specs.Kept.{AreLowered}
 use Rattle.mm_count.proofs.Lowering.{lowered-zero, totals-lowered}
+use Rattle.mm_count.proofs.Tables.{lowered-table}
 use Rattle.mm_count.proofs.table.ZeroTable.lower_slot.Goals as goal
 
 pub returns-then-word-eq0-clause-lowered : goal.returns-then-word-eq0-clause-lowered
@@ -43,3 +44,8 @@ returns-clause-lowered g c = λ object begins.
           totals-lowered c.args.heap.now c.lower.new.heap c.counted_word-word.result k.object k.begins composite
           k.counted c.lower.ensures.heap total before;
     })
+
+pub returns-clause-table : goal.returns-clause-table
+returns-clause-table g c =
+    lowered-table c.args.self.now c.lower.new.self
+    (composite_at c.args.heap.now.objects c.counted_word-word.result) c.counted_word-word.result c.lower.ensures.table

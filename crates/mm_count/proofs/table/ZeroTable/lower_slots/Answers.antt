@@ -1,4 +1,4 @@
-use Rattle.std.proofs.Common.{◌<◌, [], ◌∷◌, take, sym, ap, ◌∙◌, subst, arith}
+use Rattle.std.proofs.Common.{◌<◌, [], ◌∷◌, take, refl, sym, ap, ◌∙◌, subst, arith}
 use Rattle.std.proofs.lemmas.List.{take_all}
 use Rattle.mm_model.specs.ObjectView.{counted_words_of}
 use Rattle.mm_object.specs.Object.{view_of_stored}
@@ -7,11 +7,13 @@ use Rattle.mm_count.specs.Counts.{NamesCounted, HasReference}
 use Rattle.mm_count.specs.Kept.{AreLowered}
 use Rattle.mm_count.proofs.Lowering.{lowered-none, lowered-then, length-words, words-more, word, slot-now, word-now}
 use Rattle.mm_count.proofs.Lowering.{named-now, reference-now, apart-lowered}
+use Rattle.mm_count.proofs.Tables.{same-table}
 use Rattle.mm_count.proofs.table.ZeroTable.lower_slots.Goals as goal
 
 pub loop-s-init : goal.loop-s-init
 loop-s-init g c = record {
   lowered = λ object begins. lowered-none c.args.heap.now;
+  table = refl;
   right = c.requires.right;
   sound = c.shape-shape.ensures.sound;
   ticked = omega arith;
@@ -63,6 +65,8 @@ loop-s-preserved g c = record {
       (lowered-then c.args.heap.now c.loop-s.heap c.lower_slot.new.heap
       (take c.loop-s.s (counted_words_of (view_of_stored object))) (w ∷ []) lowers
       (c.lower_slot.ensures.lowered now k.1));
+  table = same-table c.args.self.now c.loop-s.self c.lower_slot.new.self c.loop-s.invariant.table
+      c.lower_slot.ensures.table;
   right = c.lower_slot.ensures.right;
   sound = c.lower_slot.ensures.sound;
   ticked = omega arith;

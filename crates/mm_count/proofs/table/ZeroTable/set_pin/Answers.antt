@@ -7,6 +7,7 @@ use Rattle.mm_count.proofs.Places.{keeps}
 use Rattle.mm_count.proofs.Counted.{counted-pinned}
 use Rattle.mm_count.proofs.Changes.{composite-said, pin-gives, kept-right}
 use Rattle.mm_count.proofs.Views.{rest-changed, pinned-views}
+use Rattle.mm_count.proofs.Leaving.{pinned-apart, pinned-one, pinned-listed}
 use Rattle.mm_count.proofs.table.ZeroTable.set_pin.Goals as goal
 
 pub set_composite-requires-clause-fits : goal.set_composite-requires-clause-fits
@@ -58,3 +59,24 @@ returns-clause-views g c =
     let is = (c.requires.right.spelled c.args.base k.object k.begins).counted k.counted in
     pinned-views c.args.heap.now c.set_composite.new.heap c.args.base k.object k.begins is c.args.pinned
     (returns-clause-heap g c)
+
+pub returns-clause-pinned : goal.returns-clause-pinned
+returns-clause-pinned g c =
+    let k = c.requires.counted in
+    let is = (c.requires.right.spelled c.args.base k.object k.begins).counted k.counted in
+    pinned-one c.args.heap.now c.set_composite.new.heap c.args.base k.object k.begins is
+    c.args.pinned (returns-clause-heap g c)
+
+pub returns-clause-listed : goal.returns-clause-listed
+returns-clause-listed g c =
+    let k = c.requires.counted in
+    let is = (c.requires.right.spelled c.args.base k.object k.begins).counted k.counted in
+    pinned-listed c.args.heap.now c.set_composite.new.heap c.args.base k.object k.begins is
+    c.args.pinned (returns-clause-heap g c) k.counted
+
+pub returns-clause-apart : goal.returns-clause-apart
+returns-clause-apart g c =
+    let k = c.requires.counted in
+    let is = (c.requires.right.spelled c.args.base k.object k.begins).counted k.counted in
+    pinned-apart c.args.heap.now c.set_composite.new.heap c.args.base k.object k.begins is
+    c.args.pinned (returns-clause-heap g c)

@@ -1,0 +1,13 @@
+pub mod Apart
+pub mod Changes
+pub mod Dropping
+pub mod Entries
+pub mod Filled
+pub mod Holders
+pub mod Leaving
+pub mod Lists
+pub mod Pinned
+pub mod Recounted
+pub mod Room
+pub mod Slots
+pub mod Whole

@@ -1,0 +1,4 @@
+pub mod Filled
+pub mod Found
+pub mod Pins
+pub mod Slots
