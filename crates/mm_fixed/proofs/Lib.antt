@@ -1,4 +1,5 @@
 pub mod Clear
 pub mod Kept
+pub mod Left
 pub mod Shown
 pub mod Sound

@@ -3,6 +3,8 @@
 
 mod block;
 mod fixed;
+#[cfg(test)]
+mod tests;
 
 pub use block::FixedBlock;
 pub use fixed::{Fixed, fixed_words};
