@@ -41,7 +41,8 @@ returns-in-Counted-clause-counts g c =
 
 pub returns-in-Counted-clause-table : goal.returns-in-Counted-clause-table
 returns-in-Counted-clause-table g c =
-    left-table c.args.count.now c.leave.new.self (composite_at c.args.heap.now.objects c.args.base) c.leave.ensures.table
+    left-table c.args.count.now c.leave.new.self (composite_at c.args.heap.now.objects c.args.base)
+    c.leave.ensures.table
 
 pub returns-in_default : goal.returns-in_default
 returns-in_default g c =
