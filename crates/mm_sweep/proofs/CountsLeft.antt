@@ -1,13 +1,12 @@
 -- Counts are right for the objects that a release leaves.
-use Rattle.std.proofs.Common.{◌≡◌, ℕ, ◌+◌, ◌/◌, ◌≤◌, Bool, true, false, List, [], ◌∷◌, ◌++◌, Option, Some, None, refl}
+use Rattle.std.proofs.Common.{◌≡◌, ℕ, ◌/◌, ◌≤◌, Bool, true, false, List, Option, Some, None, refl}
 use Rattle.std.proofs.Common.{sym, ap, subst, ◌∙◌, arith}
-use Rattle.std.specs.Prelude.{◌==◌, slice_get, if◌then◌else◌, IsTrue}
+use Rattle.std.specs.Prelude.{slice_get, if◌then◌else◌, IsTrue}
 use Rattle.std.specs.Option.{option_and_then}
-use Rattle.std.specs.List.{flat_map, count_by}
 use Rattle.mm_model.specs.Object.{is_counted}
 use Rattle.mm_model.specs.Phase.{lists}
-use Rattle.mm_model.specs.ByBase.{Begins, Based, based_from, changed_from, changed}
-use Rattle.mm_model.specs.ObjectView.{ObjectView, counted_words_of, references_in}
+use Rattle.mm_model.specs.ByBase.{Begins, changed}
+use Rattle.mm_model.specs.ObjectView.{ObjectView, references_in}
 use Rattle.mm_model.specs.SetsByBase.{count_at}
 use Rattle.mm_object.specs.Object.{StoredObject, StoredObjects, view_of_stored, views_of}
 use Rattle.mm_weak.specs.Links.{unlinked}

@@ -1,10 +1,9 @@
 -- White objects that are found one after another.
-use Rattle.std.proofs.Common.{◌≡◌, ℕ, zero, suc, ◌+◌, ◌*◌, ◌<◌, ◌≤◌, ◌⊎◌, Bool, true, false, List, [], ◌∷◌, ◌++◌}
+use Rattle.std.proofs.Common.{◌≡◌, ℕ, zero, suc, ◌+◌, ◌*◌, ◌<◌, ◌≤◌, Bool, true, false, List, [], ◌∷◌, ◌++◌}
 use Rattle.std.proofs.Common.{length, Option, Some, None, inl, inr, refl, ap, ◌∙◌, arith}
-use Rattle.std.specs.Prelude.{◌||◌, nat_lt, slice_get}
+use Rattle.std.specs.Prelude.{◌||◌, slice_get}
 use Rattle.std.specs.List.{AllByRecursion}
 use Rattle.std.proofs.lemmas.Bool.{cases_lt}
-use Rattle.std.proofs.lemmas.Bool.Decides.{nat_tests}
 use Rattle.mm_model.specs.declared.object.Colour.TheVariants.{White}
 use Rattle.mm_model.specs.Phase.{lists, IsAscending}
 use Rattle.mm_model.specs.ByBase.{Begins, based_from, based}

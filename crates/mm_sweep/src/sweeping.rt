@@ -9,7 +9,7 @@ ghost use Rattle.mm_model.specs.ViewEffect.{with_colour};
 ghost use Rattle.mm_words.specs.Location.{location_of};
 ghost use Rattle.mm_object.specs.Object.{views_of};
 ghost use Rattle.mm_object.specs.Heap.{IsObject, IsSound};
-ghost use Rattle.mm_count.specs.Table.{IsRight};
+ghost use Rattle.mm_count.specs.Table.{IsRight, IsSameTable};
 ghost use Rattle.mm_count.specs.Counts.{IsCountedBy};
 ghost use Rattle.mm_count.specs.Listed.{AllListed, NonePinned};
 ghost use Rattle.mm_count.specs.Apart.{AreCountsApart};
@@ -64,6 +64,7 @@ fn drop_counts<L: Ledger>(
     ensures heap { IsRecounted heap.old heap.new }
     ensures listed { AllListed heap.old.objects → AllListed heap.new.objects }
     ensures unpinned { NonePinned heap.old.objects → NonePinned heap.new.objects }
+    ensures table { IsSameTable count.old count.new }
     ensures right { IsRight count.new heap.new }
     ensures sound { IsSound heap.new }
     ensures cost { steps.new ≤ steps.old + 2 * k
@@ -85,6 +86,7 @@ fn leave_table<L: Ledger>(heap: &mut Heap, count: &mut ZeroTable, base: u32, ste
         → AreCountsApart dropped heap.new.objects outside }
     ensures heap { IsRecounted heap.old heap.new }
     ensures unpinned { NonePinned heap.old.objects → NonePinned heap.new.objects }
+    ensures table { IsSameTable count.old count.new }
     ensures right { IsRight count.new heap.new }
     ensures sound { IsSound heap.new }
     ensures cost { steps.new ≤ steps.old + 9 }
@@ -112,6 +114,7 @@ fn leave_all<L: Ledger>(
         → AreCountsApart dropped heap.new.objects outside }
     ensures heap { IsRecounted heap.old heap.new }
     ensures unpinned { NonePinned heap.old.objects → NonePinned heap.new.objects }
+    ensures table { IsSameTable count.old count.new }
     ensures right { IsRight count.new heap.new }
     ensures sound { IsSound heap.new }
     ensures cost { steps.new ≤ steps.old + 9 * k }
@@ -143,6 +146,7 @@ pub fn sweep<L: Ledger>(
         → AreCountsApart (take result dead.new.words) heap.new.objects outside }
     ensures apart { AreDeadApart (take result dead.new.words) heap.new.objects }
     ensures unpinned { NonePinned heap.new.objects }
+    ensures table { IsSameTable count.old count.new }
     ensures right { IsRight count.new heap.new }
     ensures views { views_of heap.new.objects ≡ changed (with_colour White) (views_of heap.old.objects) }
     ensures objects { KeepsWhitened heap.old.objects heap.new.objects }

@@ -1,4 +1,4 @@
-use Rattle.std.proofs.Common.{◌≡◌, ℕ, ◌<◌, List, [], ◌∷◌, ◌++◌, length, take, false, sym, ap, subst, arith}
+use Rattle.std.proofs.Common.{◌≡◌, ℕ, ◌<◌, List, [], ◌∷◌, ◌++◌, length, take, false, refl, sym, ap, subst, arith}
 use Rattle.std.specs.Prelude.{slice_index}
 use Rattle.mm_model.specs.Phase.{lists}
 use Rattle.mm_model.specs.ObjectView.{ObjectsByBase, counted_words_of}
@@ -9,6 +9,7 @@ use Rattle.mm_object.specs.Heap.{IsObject}
 use Rattle.mm_count.specs.Apart.{AreCountsApart}
 use Rattle.mm_count.proofs.Apart.{apart-none}
 use Rattle.mm_sweep.specs.Sweep.{counted_slots}
+use Rattle.mm_count.proofs.Tables.{same-table}
 use Rattle.mm_sweep.proofs.Bases.{each_at, take-next, lists-before}
 use Rattle.mm_sweep.proofs.Leaving.{recounted-same, recounted-then}
 use Rattle.mm_sweep.proofs.Dropping.{apart-last, kept-object, all_listed-named, unpinned-kept, counted_slots-next}
@@ -22,6 +23,7 @@ loop-i-init g c =
       heap = recounted-same c.args.heap.now;
       listed = λ all. all;
       unpinned = λ none. none;
+      table = refl;
       right = c.requires.right;
       sound = c.requires.sound;
       cost = omega arith;
@@ -90,6 +92,7 @@ loop-i-preserved g c =
           (inv.listed all);
       unpinned = λ none.
           unpinned-kept c.loop-i.heap.objects c.lower_slots.new.heap.objects low.objects low.pins (inv.unpinned none);
+      table = same-table c.args.count.now c.loop-i.count c.lower_slots.new.self inv.table low.table;
       right = low.right;
       sound = low.sound;
       cost = omega arith;

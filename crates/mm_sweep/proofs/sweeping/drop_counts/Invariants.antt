@@ -1,7 +1,7 @@
 use Rattle.std.proofs.Common.{◌+◌, ◌*◌, ◌≤◌, ℕ, take}
 use Rattle.mm_object.specs.Object.{views_of}
 use Rattle.mm_object.specs.Heap.{IsSound}
-use Rattle.mm_count.specs.Table.{IsRight}
+use Rattle.mm_count.specs.Table.{IsRight, IsSameTable}
 use Rattle.mm_count.specs.Counts.{IsCountedBy}
 use Rattle.mm_count.specs.Listed.{AllListed, NonePinned}
 use Rattle.mm_count.specs.Apart.{AreCountsApart}
@@ -17,6 +17,7 @@ invariant-loop-i g l =
       heap : IsRecounted l.fn.heap l.heap;
       listed : AllListed l.fn.heap.objects → AllListed l.heap.objects;
       unpinned : NonePinned l.fn.heap.objects → NonePinned l.heap.objects;
+      table : IsSameTable l.fn.count l.count;
       right : IsRight l.count l.heap;
       sound : IsSound l.heap;
       cost : l.steps ≤ l.fn.steps + 2 * l.i + 10 * counted_slots_of (views_of l.fn.heap.objects)

@@ -1,7 +1,8 @@
-use Rattle.std.proofs.Common.{ℕ, ◌<◌, List, [], ◌∷◌, ◌++◌, length, take, sym, subst, arith}
+use Rattle.std.proofs.Common.{ℕ, ◌<◌, List, [], ◌∷◌, ◌++◌, length, take, refl, sym, subst, arith}
 use Rattle.std.specs.Prelude.{slice_index}
 use Rattle.mm_object.specs.Heap.{IsObject}
 use Rattle.mm_count.specs.DeadApart.{AreDeadApart}
+use Rattle.mm_count.proofs.Tables.{same-table}
 use Rattle.mm_sweep.proofs.Bases.{each_at, take-next}
 use Rattle.mm_sweep.proofs.Leaving.{recounted-same, recounted-then}
 use Rattle.mm_sweep.proofs.Dropping.{kept-object}
@@ -14,6 +15,7 @@ loop-i-init g c =
       counts = λ dropped outside apart. apart;
       heap = recounted-same c.args.heap.now;
       unpinned = λ none. none;
+      table = refl;
       right = c.requires.right;
       sound = c.requires.sound;
       cost = omega arith;
@@ -44,6 +46,9 @@ loop-i-preserved g c =
           recounted-then c.args.heap.now c.loop-i.heap c.leave_table.new.heap c.loop-i.invariant.heap
           c.leave_table.ensures.heap;
       unpinned = λ none. c.leave_table.ensures.unpinned (c.loop-i.invariant.unpinned none);
+      table =
+          same-table c.args.count.now c.loop-i.count c.leave_table.new.count c.loop-i.invariant.table
+          c.leave_table.ensures.table;
       right = c.leave_table.ensures.right;
       sound = c.leave_table.ensures.sound;
       cost = omega (arith, c.loop-i.invariant.cost, c.leave_table.ensures.cost);

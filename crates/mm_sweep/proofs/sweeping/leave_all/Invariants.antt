@@ -1,6 +1,6 @@
 use Rattle.std.proofs.Common.{◌+◌, ◌*◌, ◌≤◌, ℕ, List, [], take}
 use Rattle.mm_object.specs.Heap.{IsSound}
-use Rattle.mm_count.specs.Table.{IsRight}
+use Rattle.mm_count.specs.Table.{IsRight, IsSameTable}
 use Rattle.mm_count.specs.Listed.{NonePinned}
 use Rattle.mm_count.specs.Apart.{AreCountsApart}
 use Rattle.mm_count.specs.DeadApart.{AreDeadApart, IsRecounted}
@@ -14,6 +14,7 @@ invariant-loop-i g l =
           → AreCountsApart dropped l.heap.objects outside;
       heap : IsRecounted l.fn.heap l.heap;
       unpinned : NonePinned l.fn.heap.objects → NonePinned l.heap.objects;
+      table : IsSameTable l.fn.count l.count;
       right : IsRight l.count l.heap;
       sound : IsSound l.heap;
       cost : l.steps ≤ l.fn.steps + 9 * l.i;

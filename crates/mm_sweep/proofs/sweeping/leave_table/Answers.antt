@@ -3,6 +3,8 @@ use Rattle.std.specs.Prelude.{not, IsTrue}
 use Rattle.mm_model.specs.declared.object.Kind.{Kind}
 use Rattle.mm_model.specs.declared.object.Kind.TheVariants.{Traced, Leaf, Counted, Weak}
 use Rattle.mm_model.specs.Object.{is_counted}
+use Rattle.mm_count.specs.Counts.{composite_at}
+use Rattle.mm_count.proofs.Tables.{left-table}
 use Rattle.mm_sweep.proofs.Leaving.{leaves-counted, leaves-other, dead-more, counts-more, recounted-same}
 use Rattle.mm_sweep.proofs.sweeping.leave_table.Goals as goal
 
@@ -37,6 +39,11 @@ returns-in-Counted-clause-counts g c =
     counts-more c.args.heap.now.objects c.leave.new.heap.objects c.args.base
     (leaves-counted c.args.heap.now c.leave.new.heap c.args.base o.0 o.1 c.leave.ensures.heap) c.leave.ensures.views
 
+pub returns-in-Counted-clause-table : goal.returns-in-Counted-clause-table
+returns-in-Counted-clause-table g c =
+    left-table c.args.count.now c.leave.new.self (composite_at c.args.heap.now.objects c.args.base)
+    c.leave.ensures.table
+
 pub returns-in_default : goal.returns-in_default
 returns-in_default g c =
     let o = c.requires.object in
@@ -50,6 +57,7 @@ returns-in_default g c =
       counts = λ dropped outside apart. apart;
       heap = recounted-same c.args.heap.now;
       unpinned = λ none. none;
+      table = refl;
       right = c.requires.right;
       sound = c.shape.ensures.sound;
       cost = omega (arith, c.shape.ensures.cost);

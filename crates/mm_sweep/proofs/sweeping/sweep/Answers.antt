@@ -10,6 +10,7 @@ use Rattle.mm_count.specs.Listed.{AllListed, NonePinned}
 use Rattle.mm_count.specs.Apart.{AreCountsApart}
 use Rattle.mm_count.specs.DeadApart.{AreDeadApart}
 use Rattle.mm_sweep.specs.Release.{AreObjects}
+use Rattle.mm_count.proofs.Tables.{same-table}
 use Rattle.mm_sweep.specs.Sweep.{IsWhiteAt, counted_slots_of}
 use Rattle.mm_sweep.proofs.Changed.{seen_begins}
 use Rattle.mm_sweep.proofs.Dropping.{kept-object}
@@ -76,6 +77,11 @@ pub returns-clause-right : goal.returns-clause-right
 returns-clause-right g c =
     subst (λ (h : Heap). IsRight c.leave_all.new.count h) (sym c.whiten.ensures.white)
     (right-whitened c.leave_all.new.count c.leave_all.new.heap c.leave_all.ensures.right)
+
+pub returns-clause-table : goal.returns-clause-table
+returns-clause-table g c =
+    same-table c.args.count.now c.drop_counts.new.count c.leave_all.new.count c.drop_counts.ensures.table
+    c.leave_all.ensures.table
 
 pub returns-clause-views : goal.returns-clause-views
 returns-clause-views g c =
