@@ -8,6 +8,7 @@ pub mod Keeping
 pub mod PartsDone
 pub mod Potential
 pub mod Reading
+pub mod RootWords
 pub mod Shaded
 pub mod Tidied
 pub mod Tidy

@@ -1,1 +1,14 @@
+pub mod Added
+pub mod Blocks
+pub mod CellWords
 pub mod Cells
+pub mod Changes
+pub mod Cleared
+pub mod Counts
+pub mod Kept
+pub mod Numbers
+pub mod ScannedWords
+pub mod Sound
+pub mod Tables
+pub mod Views
+pub mod Words

@@ -1,1 +1,4 @@
+pub mod Areas
+pub mod Kept
 pub mod Stack
+pub mod Views

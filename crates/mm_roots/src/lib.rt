@@ -1,8 +1,16 @@
-//! The roots of the memory manager: the stack of words.
+//! The roots of the memory manager: the stack of words, and the areas.
 #![tactic(auto)]
 
+mod adding;
+mod area_cells;
+mod area_shape;
+mod area_table;
+mod areas;
+mod scanned;
 mod stack;
 #[cfg(test)]
 mod tests;
 
+pub use area_shape::{AreaRefusal, AreaShape, ScannedArea};
+pub use areas::Areas;
 pub use stack::{Stack, StackFull};
