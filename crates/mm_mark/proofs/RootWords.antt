@@ -1,5 +1,5 @@
 -- The words of areas, which graying leaves as they are.
-use Rattle.std.proofs.Common.{◌≡◌, ℕ, zero, suc, ◌+◌, ◌*◌, ◌/◌, ◌<◌, ◌≤◌, ◌⊎◌, List, [], ◌∷◌, ◌++◌, length, Option, Some, None, refl, sym, ap, subst, ◌∙◌, arith, append_assoc, append-nil, length-append}
+use Rattle.std.proofs.Common.{◌≡◌, ℕ, zero, suc, ◌+◌, ◌*◌, ◌/◌, List, [], ◌++◌, length, Option, refl, sym, ap, subst, ◌∙◌, arith, append_assoc, append-nil, length-append}
 use Rattle.mm_object.specs.Heap.{Heap}
 use Rattle.mm_roots.specs.Areas.{Areas, IsBeside, ShareNoPage}
 use Rattle.mm_roots.specs.Views.{words_from, cell_words, scanned_words_from}
@@ -32,7 +32,8 @@ none-shaded areas h steps = record { words = []; grayed = nothing-grayed h; rest
 -- one area more
 pub area-shaded : (areas : Areas) (before mid after : Heap) (from next base cells : ℕ) (start spent steps : ℕ)
     → AreShaded areas before mid from start spent
-    → scanned_words_from areas before.raw from ≡ cell_words before.raw base cells ++ scanned_words_from areas before.raw next
+    → scanned_words_from areas before.raw from ≡ cell_words before.raw base cells ++ scanned_words_from areas
+    before.raw next
     → IsGrayed mid after (cell_words mid.raw base cells) → steps ≡ spent + 2 * cells
     → AreShaded areas before after next start steps
 area-shaded areas before mid after from next base cells start spent steps so_far is grayed cost =
@@ -59,6 +60,7 @@ pub all-shaded : (areas : Areas) (before after : Heap) (from start steps : ℕ)
     → IsGrayed before after words × (steps ≡ start + 2 * length words)
 all-shaded areas before after from start steps so_far none words all =
     let same : so_far.words ≡ words =
-    sym (append-nil so_far.words) ∙ ap (λ ws. so_far.words ++ ws) (sym none) ∙ so_far.rest ∙ all in
-    (subst (IsGrayed before after) same so_far.grayed,
-    (let paid = so_far.paid in let size = ap length same in omega (arith, paid, size)))
+    sym (append-nil so_far.words) ∙ ap (λ ws. so_far.words ++ ws) (sym none) ∙ so_far.rest ∙ all in (
+      subst (IsGrayed before after) same so_far.grayed,
+      (let paid = so_far.paid in let size = ap length same in omega (arith, paid, size)),
+    )

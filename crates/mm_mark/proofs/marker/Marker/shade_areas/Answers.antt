@@ -1,6 +1,6 @@
-use Rattle.std.proofs.Common.{◌≡◌, ◌+◌, ◌<◌, refl, sym, ap, ◌∙◌, arith}
+use Rattle.std.proofs.Common.{◌+◌, refl, arith}
 use Rattle.mm_mark.proofs.Grayed.{queue-then}
-use Rattle.mm_mark.proofs.RootWords.{beside-same, none-shaded, area-shaded, all-shaded}
+use Rattle.mm_mark.proofs.RootWords.{beside-same, none-shaded, area-shaded}
 use Rattle.mm_mark.proofs.marker.Marker.shade_areas.Goals as goal
 
 pub areas-init : goal.areas-init
@@ -23,7 +23,8 @@ areas-preserved g c = record {
       (c.in-Some.area.number + 1) c.in-Some.area.base c.in-Some.area.cells c.args.steps.now c.areas.steps
       c.shade_area.new.steps c.areas.invariant.shaded (c.in-Some.ensures.words c.args.heap.now.raw)
       c.shade_area.ensures.grayed c.shade_area.ensures.cost;
-  cycle = queue-then c.args.self.now c.areas.self c.shade_area.new.self c.areas.invariant.cycle c.shade_area.ensures.cycle;
+  cycle = queue-then c.args.self.now c.areas.self c.shade_area.new.self c.areas.invariant.cycle
+  c.shade_area.ensures.cycle;
   known = c.shade_area.ensures.known;
   sound = λ sound. c.shade_area.ensures.sound (c.areas.invariant.sound sound);
   few = λ stale h. c.shade_area.ensures.few stale (c.areas.invariant.few stale h);

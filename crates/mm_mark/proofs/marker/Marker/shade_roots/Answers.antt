@@ -1,4 +1,4 @@
-use Rattle.std.proofs.Common.{◌≡◌, ℕ, ◌+◌, ◌*◌, List, Option, length, ap, sym, subst, length-append, arith}
+use Rattle.std.proofs.Common.{◌≡◌, ℕ, List, Option, length, ap, subst, length-append, arith}
 use Rattle.std.specs.List.{flat_map}
 use Rattle.std.proofs.lemmas.List.{length-reverse}
 use Rattle.mm_model.specs.ViewWords.{scanned_cells_of}
@@ -11,7 +11,8 @@ use Rattle.mm_mark.proofs.marker.Marker.shade_roots.Goals as goal
 
 pub shade_areas-requires-clause-beside : goal.shade_areas-requires-clause-beside
 shade_areas-requires-clause-beside g c =
-    beside-same c.args.areas.now c.args.heap.now c.shade_words.new.heap c.shade_words.ensures.grayed.rest c.requires.beside
+    beside-same c.args.areas.now c.args.heap.now c.shade_words.new.heap c.shade_words.ensures.grayed.rest
+    c.requires.beside
 
 pub returns-clause-grayed : goal.returns-clause-grayed
 returns-clause-grayed g c =
@@ -32,7 +33,8 @@ pub returns-clause-cost : goal.returns-clause-cost
 returns-clause-cost g c =
     let raw : c.shade_words.new.heap.raw ≡ c.args.heap.now.raw =
     ap (λ (h : Heap). h.raw) c.shade_words.ensures.grayed.rest in
-    let same = ap (λ (r : List (Option ℕ)). length (flat_map scanned_cells_of (views_of_areas c.args.areas.now r))) raw in
+    let same = ap (λ (r : List (Option ℕ)). length (flat_map scanned_cells_of (views_of_areas c.args.areas.now r)))
+    raw in
     let all = length-append c.args.stack.now.words
     (flat_map scanned_cells_of (views_of_areas c.args.areas.now c.args.heap.now.raw)) in
     let lent = ap length c.words.ensures.words in
