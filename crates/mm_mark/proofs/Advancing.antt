@@ -17,7 +17,9 @@ use Rattle.mm_model.proofs.View.Entries.{get-changed, begins_same}
 use Rattle.mm_object.specs.Object.{StoredObject, view_of_stored, views_of}
 use Rattle.mm_object.specs.Heap.{Heap, HasSlot, with_object}
 use Rattle.mm_object.specs.Colours.{white_object}
-use Rattle.mm_mark.specs.Marker.{Marker, Marking, IsUnderScan, IsKnown, AreKnown}
+use Rattle.mm_mark.specs.Marker.{Marker, Marking, IsUnderScan, AreKnown}
+use Rattle.mm_mark.specs.Parts.{IsKnown}
+use Rattle.mm_mark.proofs.Known.{known-told, told-known, under-told}
 use Rattle.mm_mark.specs.Colours.{IsSameButColours, IsGrayed, HasColour}
 use Rattle.mm_mark.specs.Parts.{IsAdvanced, IsEnded, part_words, part_end}
 use Rattle.mm_mark.proofs.Told.{viewed-stored, stored-viewed}
@@ -157,16 +159,19 @@ known-blackened old new objects base object here queue left own known other entr
     black_not_gray (ap (λ (v : ObjectView). v.colour)
     (begins_same (with_entry base (Some black) objects) base black entry now
     (subst (λ (b : ℕ). Begins (with_entry base (Some black) objects) b entry) e begins)) ∙ gray) in
-    known-elsewhere old new base queue left own other apart
-    (known other entry (entry-apart objects base other object black entry here begins apart) gray)
+    known-told new other (known-elsewhere old new base queue left own other apart
+    (told-known old other
+    (known other entry (entry-apart objects base other object black entry here begins apart) gray)))
 
 -- and where it is scanned in part it is known by that
 pub known-partly : (old new : Marker) (objects : ObjectsByBase) (p : PartlyScannedView) → new.queue ≡ old.queue
     → new.overflowed ≡ old.overflowed → new.partly ≡ Some p → IfSome old.partly (λ q. q.base ≡ p.base)
     → AreKnown old objects → AreKnown new objects
 known-partly old new objects p queue left is own known base object begins gray = elim (cases_eq base p.base) [
-  | inl e ↦ IsKnown.Is_partly_scanned p is (sym e)
-  | inr d ↦ known-elsewhere old new p.base queue left own base d (known base object begins gray)
+  | inl e ↦ known-told new base (IsKnown.Is_partly_scanned p is (sym e))
+  | inr d ↦
+      known-told new base
+      (known-elsewhere old new p.base queue left own base d (told-known old base (known base object begins gray)))
 ]
 
 -- how many slots a part has
@@ -207,14 +212,14 @@ advanced-under objects from object after begins gray fits (IsAdvanced.Is_black w
 advanced-under objects from object after begins gray fits (IsAdvanced.Is_under_scan below now partly) =
     let size = length-part_words from object in
     subst (λ (p : Option PartlyScannedView). IfSome p (IsUnderScan after.objects)) (sym partly)
-    (record {
+    (under-told after.objects (record { base = from.base; slots_done = part_end from object }) (record {
       object = object;
       begins = subst (λ (os : ObjectsByBase). Begins os from.base object) (sym now)
           (gray-stays (part_words from object) objects from.base object begins gray);
       gray = gray;
       some_done = omega arith;
       some_left = below;
-    })
+    }))
 
 -- one more slot of a part
 pub take-next-slot : (xs : List ℕ) (from s : ℕ) → from ≤ s → s < length xs

@@ -11,7 +11,9 @@ use Rattle.mm_model.specs.ViewStep.{slots_done_of, may_go_on}
 use Rattle.mm_object.specs.Object.{view_of_stored, views_of}
 use Rattle.mm_object.specs.Heap.{Heap}
 use Rattle.mm_object.specs.Colours.{IsNextOf, NoneOfFrom}
-use Rattle.mm_mark.specs.Marker.{Marker, IsUnderScan, IsKnown, AreKnown}
+use Rattle.mm_mark.specs.Marker.{Marker, IsUnderScan, AreKnown}
+use Rattle.mm_mark.specs.Parts.{IsKnown, UnderScan}
+use Rattle.mm_mark.proofs.Known.{known-told, told-known, told-under}
 use Rattle.mm_mark.specs.Colours.{HasColour, IsNoneGrayAt}
 use Rattle.mm_mark.specs.Parts.{NoneIsGray, AreOthersKnown, IsTaken, IsChosen}
 use Rattle.mm_mark.proofs.Told.{stored-viewed}
@@ -46,7 +48,7 @@ none-known marker base empty none whole (IsKnown.Is_left_out is) =
 pub none-gray_known : (marker : Marker) (objects : ObjectsByBase) → marker.queue ≡ [] → marker.partly ≡ None
     → marker.overflowed ≡ false → AreKnown marker objects → NoneIsGray objects
 none-gray_known marker objects empty none whole known base object begins gray =
-    none-known marker base empty none whole (known base object begins gray)
+    none-known marker base empty none whole (told-known marker base (known base object begins gray))
 
 -- where an entry was left out each object is known
 pub left_out-taken : (h : Heap) (marker : Marker) (base : ℕ) → marker.overflowed ≡ true → HasColour h base Gray
@@ -81,7 +83,7 @@ module _ (old new : Marker) (entry : ℕ) (some : 0 < length old.queue) (first :
   pub entry-taken : (h : Heap) → HasColour h entry Gray → AreKnown old (views_of h.objects) → IsTaken h new entry
   entry-taken h gray known = record {
     gray = gray;
-    others = λ base object begins is apart. others-known base apart (known base object begins is);
+    others = λ base object begins is apart. others-known base apart (told-known old base (known base object begins is));
   }
 
   -- or none does
@@ -89,8 +91,9 @@ module _ (old new : Marker) (entry : ℕ) (some : 0 < length old.queue) (first :
       → AreKnown new (views_of h.objects)
   entry-dropped h none known base object begins is =
       let has = seen-coloured h base object begins in
-      others-known base (λ e. none has.object (subst (λ (b : ℕ). Begins h.objects b has.object) e has.begins)
-      (has.is ∙ is)) (known base object begins is)
+      known-told new base
+      (others-known base (λ e. none has.object (subst (λ (b : ℕ). Begins h.objects b has.object) e has.begins)
+      (has.is ∙ is)) (told-known old base (known base object begins is)))
 
 -- the object that is scanned in part goes on
 pub partly-chosen : (before : Marker) (objects : ObjectsByBase) (p : PartlyScannedView) → before.partly ≡ Some p
@@ -108,8 +111,8 @@ partly-chosen before objects p is scan = record {
     own : (p.base == p.base) ≡ true
     own = eq-eqb p.base p.base refl
 
-    under : IsUnderScan objects p
-    under = subst (λ (o : Option PartlyScannedView). IfSome o (IsUnderScan objects)) is scan
+    under : UnderScan objects p
+    under = told-under objects p (subst (λ (o : Option PartlyScannedView). IfSome o (IsUnderScan objects)) is scan)
 
 -- or a gray object of which no slot is done
 pub taken-chosen : (h : Heap) (before marker : Marker) (base : ℕ) → before.partly ≡ None → IsTaken h marker base
@@ -137,8 +140,8 @@ known-elsewhere old new base queue left own other apart (IsKnown.Is_left_out is)
 pub known-once_partly : (marker : Marker) (objects : ObjectsByBase) (p : PartlyScannedView) → marker.partly ≡ Some p
     → AreOthersKnown marker objects p.base → AreKnown marker objects
 known-once_partly marker objects p is others base object begins gray = elim (cases_eq base p.base) [
-  | inl e ↦ IsKnown.Is_partly_scanned p is (sym e)
-  | inr d ↦ others base object begins gray d
+  | inl e ↦ known-told marker base (IsKnown.Is_partly_scanned p is (sym e))
+  | inr d ↦ known-told marker base (others base object begins gray d)
 ]
 
 -- the same of one that is taken

@@ -6,7 +6,9 @@ use Rattle.mm_model.specs.ObjectView.{ObjectsByBase}
 use Rattle.mm_model.specs.View.{PartlyScannedView}
 use Rattle.mm_object.specs.Object.{view_of_stored, views_of}
 use Rattle.mm_object.specs.Heap.{Heap, IsObject}
-use Rattle.mm_mark.specs.Marker.{Marker, IsUnderScan, IsKnown, AreKnown}
+use Rattle.mm_mark.specs.Marker.{Marker, IsUnderScan, AreKnown}
+use Rattle.mm_mark.specs.Parts.{IsKnown}
+use Rattle.mm_mark.proofs.Known.{known-told, told-known}
 use Rattle.mm_mark.specs.Colours.{BeginsNone}
 use Rattle.mm_mark.specs.Parts.{IsUnderScanOrGone, IsFreed}
 use Rattle.mm_mark.proofs.Told.{viewed-stored, stored-viewed}
@@ -35,7 +37,8 @@ freed-told h marker p false is some scan =
 pub forgotten-known : (old new : Marker) (objects : ObjectsByBase) → IsFreed old objects
     → new ≡ record old { partly = None } → AreKnown old objects → AreKnown new objects
 forgotten-known old new objects freed is known base object begins gray =
-    subst (λ (m : Marker). IsKnown m base) (sym is) (split (known base object begins gray))
+    known-told new base
+    (subst (λ (m : Marker). IsKnown m base) (sym is) (split (told-known old base (known base object begins gray))))
   where
     split : IsKnown old base → IsKnown (record old { partly = None }) base
     split (IsKnown.Is_queued q) = IsKnown.Is_queued q

@@ -18,7 +18,9 @@ use Rattle.mm_model.proofs.View.Entries.{get-changed, same_entries}
 use Rattle.mm_object.specs.Object.{views_of}
 use Rattle.mm_object.specs.Heap.{Heap}
 use Rattle.mm_mark.specs.Marker.{Marker, IsSameButQueue, IsUnderScan, AreKnown, KeepsGray}
+use Rattle.mm_mark.specs.Parts.{UnderScan}
 use Rattle.mm_mark.specs.Colours.{IsGrayed}
+use Rattle.mm_mark.proofs.Known.{under-told, told-under}
 
 -- what some words gray, and others then, all of them gray
 pub grayed_at-twice : (words more : List ℕ) (base : ℕ) (object : ObjectView)
@@ -145,9 +147,9 @@ pub grayed_at-spares : (words : List ℕ) (base : ℕ) (object : ObjectView)
 grayed_at-spares words base object e = ap (λ (x : Bool). Some (if x then record object { colour = Gray } else object)) e
 
 -- an object that is scanned in part stays so
-pub grayed-under : (words : List ℕ) (objects : ObjectsByBase) (p : PartlyScannedView) → IsUnderScan objects p
-    → IsUnderScan (with_grayed_objects words objects) p
-grayed-under words objects p u = record {
+under-grayed : (words : List ℕ) (objects : ObjectsByBase) (p : PartlyScannedView) → UnderScan objects p
+    → UnderScan (with_grayed_objects words objects) p
+under-grayed words objects p u = record {
   object = u.object;
   begins = record {
     grain = u.begins.grain;
@@ -162,6 +164,11 @@ grayed-under words objects p u = record {
   some_done = u.some_done;
   some_left = u.some_left;
 }
+
+pub grayed-under : (words : List ℕ) (objects : ObjectsByBase) (p : PartlyScannedView) → IsUnderScan objects p
+    → IsUnderScan (with_grayed_objects words objects) p
+grayed-under words objects p u =
+    under-told (with_grayed_objects words objects) p (under-grayed words objects p (told-under objects p u))
 
 pub all-grayed-under : (words : List ℕ) (objects : ObjectsByBase) (p : Option PartlyScannedView)
     → IfSome p (IsUnderScan objects) → IfSome p (IsUnderScan (with_grayed_objects words objects))

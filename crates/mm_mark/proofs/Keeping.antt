@@ -10,7 +10,8 @@ use Rattle.mm_model.proofs.Lists.Truth.{no_other}
 use Rattle.mm_model.proofs.Lists.Keyed.{refuted}
 use Rattle.mm_mark.specs.Marker.{Marker, AreKnown}
 use Rattle.mm_mark.specs.Colours.{IsGrayAt, IsWhiteAt}
-use Rattle.mm_mark.specs.Stale.{is_gray_entry, has_gray, stale_in, IsPlace, AreDistinctPlaces, known_bases, IsTidy, HasFewStale}
+use Rattle.mm_mark.specs.Marker.{is_gray_entry, has_gray}
+use Rattle.mm_mark.specs.Stale.{stale_in, IsPlace, AreDistinctPlaces, known_bases, IsTidy, HasFewStale}
 use Rattle.mm_mark.proofs.Tidy.{gray-entry, not_rest, not_first}
 
 -- gray objects stay known where each was gray before

@@ -5,9 +5,12 @@ pub mod Drained
 pub mod Forgotten
 pub mod Grayed
 pub mod Keeping
+pub mod Known
 pub mod PartsDone
 pub mod Potential
+pub mod Propositions
 pub mod Reading
+pub mod RootWords
 pub mod Shaded
 pub mod Tidied
 pub mod Tidy

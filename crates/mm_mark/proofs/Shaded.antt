@@ -18,7 +18,9 @@ use Rattle.mm_model.proofs.View.Entries.{get-changed, same_entries}
 use Rattle.mm_object.specs.Object.{StoredObject, view_of_stored, views_of}
 use Rattle.mm_object.specs.Heap.{Heap, Covers, IsSound}
 use Rattle.mm_object.specs.Colours.{NoWhite, Shades, all_whitened, white_object}
-use Rattle.mm_mark.specs.Marker.{Marker, IsKnown, IsNoted, AreKnown}
+use Rattle.mm_mark.specs.Marker.{Marker, IsNoted, AreKnown, is_known}
+use Rattle.mm_mark.specs.Parts.{IsKnown}
+use Rattle.mm_mark.proofs.Known.{known-told, told-known}
 use Rattle.mm_mark.specs.Colours.{IsGrayed}
 use Rattle.mm_mark.proofs.Grayed.{grayed_at-marks, grayed_at-spares}
 use Rattle.mm_mark.proofs.Told.{viewed-stored, stored-viewed, one_covering}
@@ -163,11 +165,12 @@ module _ (before after : Heap) (word base : ℕ) (s : Shades before after word b
           (IsKnown.Is_queued (first b (eq-eqb base b (sym e))))
       now b e (IsNoted.Is_left_out full f) = subst (λ (m : Marker). IsKnown m b) (sym f) (IsKnown.Is_left_out refl)
 
-      known : (b : ℕ) (view : ObjectView) → Begins (views_of after.objects) b view → view.colour ≡ Gray → IsKnown new b
+      known : (b : ℕ) (view : ObjectView) → Begins (views_of after.objects) b view → view.colour ≡ Gray
+          → IsTrue (is_known new b)
       known b view begins is =
           let stored = viewed-stored after.objects b view begins in
           elim (cases_eq b base) [
-            | inl e ↦ now b e noted
+            | inl e ↦ known-told new b (now b e noted)
             | inr d ↦
                 let at = s.covers.begins.aligned in
                 let here = stored.begins.aligned in
@@ -177,7 +180,7 @@ module _ (before after : Heap) (word base : ℕ) (s : Shades before after word b
                   aligned = stored.begins.aligned;
                   is = sym (other stored.begins.grain apart) ∙ stored.begins.is;
                 } in
-                still b noted (was_known b (view_of_stored stored.object)
+                known-told new b (still b noted (told-known old b (was_known b (view_of_stored stored.object)
                 (stored-viewed before.objects b stored.object was)
-                (ap (λ (v : ObjectView). v.colour) stored.is ∙ is))
+                (ap (λ (v : ObjectView). v.colour) stored.is ∙ is))))
           ]

@@ -13,6 +13,7 @@ use Rattle.mm_object.specs.Colours.{Shades}
 use Rattle.mm_mark.specs.Marker.{Marker, marking, IsNoted, IsUnderScan}
 use Rattle.mm_mark.specs.Parts.{NoneIsGray, IsEnded}
 use Rattle.mm_mark.specs.Stale.{HasFewStale, KeepsFewStale}
+use Rattle.mm_mark.proofs.Known.{told-under}
 use Rattle.mm_mark.proofs.Told.{stored-viewed}
 use Rattle.mm_mark.proofs.Shaded.{at_gray, gray}
 use Rattle.mm_mark.proofs.Advancing.{recoloured-seen}
@@ -84,4 +85,5 @@ ended-few old new before after base done slots count is same (IsEnded.Is_under_s
 pub none-under : (objects : ObjectsByBase) (p : Option PartlyScannedView) → IfSome p (IsUnderScan objects)
     → NoneIsGray objects → slots_done p ≡ 0
 none-under objects None under none = refl
-none-under objects (Some p) under none = absurd (none p.base under.object under.begins under.gray)
+none-under objects (Some p) under none =
+    let there = told-under objects p under in absurd (none p.base there.object there.begins there.gray)

@@ -17,7 +17,8 @@ use Rattle.mm_model.proofs.Lists.Truth.{no_other}
 use Rattle.mm_model.proofs.Lists.Keyed.{refuted}
 use Rattle.mm_model.proofs.View.Entries.{begins_same}
 use Rattle.mm_mark.specs.Marker.{Marker, IsNoted}
-use Rattle.mm_mark.specs.Stale.{is_gray_entry, has_gray, stale_in, IsPlace, AreDistinctPlaces, known_bases, IsTidy, HasFewStale}
+use Rattle.mm_mark.specs.Marker.{is_gray_entry, has_gray}
+use Rattle.mm_mark.specs.Stale.{stale_in, IsPlace, AreDistinctPlaces, known_bases, IsTidy, HasFewStale}
 use Rattle.mm_mark.proofs.Reading.{white_not_gray, black_not_white}
 use Rattle.mm_mark.proofs.Advancing.{entry-here, entry-apart}
 
@@ -146,12 +147,10 @@ module _ (old new : Marker) (objects : ObjectsByBase) (base : ℕ) (object : Obj
   unheld = t.unwhite base object begins white
 
   place : IsPlace (length objects) base
-  place = record {
-    grain = begins.grain;
-    aligned = begins.aligned;
-    from = let at = begins.aligned in omega arith;
-    below = slice_get_within objects begins.grain (Some object) begins.is;
-  }
+  place =
+      let at = begins.aligned in
+      let within = slice_get_within objects begins.grain (Some object) begins.is in
+      record { aligned = omega arith; from = from; below = omega arith }
 
   size : length after ≡ length objects
   size = length-set objects (base / 16) (Some gray)

@@ -1,5 +1,7 @@
 -- What marking changes of a heap.
-use Rattle.std.specs.Prelude.{◌≡◌, ◌≢◌, ℕ, List}
+use Rattle.std.specs.Prelude.{◌≡◌, ◌≢◌, ℕ, List, ◌+◌, ◌*◌, ◌++◌, length}
+use Rattle.std.specs.List.{flat_map}
+use Rattle.mm_model.specs.ViewWords.{scanned_cells_of}
 use Rattle.mm_model.specs.declared.object.Colour.{Colour}
 use Rattle.mm_model.specs.declared.object.Colour.TheVariants.{White, Gray}
 use Rattle.mm_model.specs.ByBase.{Begins}
@@ -7,6 +9,9 @@ use Rattle.mm_model.specs.ObjectView.{ObjectView, ObjectsByBase}
 use Rattle.mm_model.specs.SetsByBase.{with_grayed_objects}
 use Rattle.mm_object.specs.Object.{StoredObject, views_of}
 use Rattle.mm_object.specs.Heap.{Heap}
+use Rattle.mm_roots.specs.Stack.{Cells}
+use Rattle.mm_roots.specs.Areas.{Areas}
+use Rattle.mm_roots.specs.Views.{views_of_areas, scanned_words_from}
 use Rattle.mm_object.specs.Colours.{all_whitened}
 
 -- colours alone differ: once all is white, the two are the same
@@ -41,3 +46,14 @@ pub record IsWhiteAt (objects : ObjectsByBase) (base : ℕ) : Type 0 where
 -- no gray object begins there
 abbrev pub IsNoneGrayAt : Heap → ℕ → Type 0
 IsNoneGrayAt h base = (object : StoredObject) → Begins h.objects base object → object.colour ≢ Gray
+
+-- the words of the stack, and those of the scanned areas
+abbrev pub root_words : Cells → Areas → Heap → List ℕ
+root_words stack areas heap = stack.words ++ flat_map scanned_cells_of (views_of_areas areas heap.raw)
+
+-- The scanned areas whose numbers are below one are shaded, two steps a word.
+pub record AreShaded (areas : Areas) (before after : Heap) (from start steps : ℕ) : Type 0 where
+  pub words : List ℕ
+  pub grayed : IsGrayed before after words
+  pub rest : words ++ scanned_words_from areas before.raw from ≡ scanned_words_from areas before.raw 0
+  pub paid : steps ≡ start + 2 * length words

@@ -1,5 +1,5 @@
 -- What callers see of a marker, and what it knows of the gray objects of a heap.
-use Rattle.std.specs.Prelude.{◌≡◌, ◌≤◌, ◌<◌, ◌==◌, ◌&&◌, ◌||◌, ℕ, Bool, true, false, not, IsTrue, List, [], ◌∷◌, length, Option, Some, None, IfSome}
+use Rattle.std.specs.Prelude.{◌≡◌, ◌≤◌, ◌<◌, ◌==◌, ◌&&◌, ◌||◌, ℕ, Bool, true, false, not, IsTrue, List, [], ◌∷◌, length, Option, Some, None, IfSome, ◌*◌, ◌/◌, slice_get}
 use Rattle.std.specs.List.{list_any}
 use Rattle.std.specs.Option.{option_map}
 use Rattle.mm_model.specs.declared.object.Colour.TheVariants.{Gray}
@@ -7,7 +7,7 @@ use Rattle.mm_model.specs.declared.object.Part.{Part}
 use Rattle.mm_model.specs.ByBase.{Begins}
 use Rattle.mm_model.specs.ObjectView.{ObjectView, ObjectsByBase, scanned_words_of, slot_kind_of}
 use Rattle.mm_model.specs.View.{View, CycleView, PartlyScannedView}
-use Rattle.mm_model.specs.Marking.{is_black, is_raw}
+use Rattle.mm_model.specs.Marking.{is_black, is_gray, is_raw}
 use Rattle.mm_model.specs.ViewStore.{is_slot_done}
 use Rattle.mm_model.specs.ViewStep.{view_part_slots, view_part_done, ViewMayScan, NoGray}
 use Rattle.mm_words.specs.Location.{Location}
@@ -45,25 +45,37 @@ marker_of queue overflowed running partly =
 abbrev pub IsSameButQueue : Marker → Marker → Type 0
 IsSameButQueue before after = after ≡ record before { queue = after.queue; overflowed = after.overflowed }
 
+-- a gray object begins at a base
+abbrev pub is_gray_entry : Option (Option ObjectView) → Bool
+is_gray_entry None = false
+is_gray_entry (Some None) = false
+is_gray_entry (Some (Some object)) = is_gray object.colour
+
+abbrev pub has_gray : ObjectsByBase → ℕ → Bool
+has_gray objects base = is_gray_entry (slice_get objects (base / 16))
+
 -- an object is gray, some of its slots are done and some aren't
 pub record IsUnderScan (objects : ObjectsByBase) (partly : PartlyScannedView) : Type 0 where
-  pub object : ObjectView
-  pub begins : Begins objects partly.base object
-  pub gray : object.colour ≡ Gray
+  pub aligned : partly.base ≡ 16 * (partly.base / 16)
+  pub gray : has_gray objects partly.base ≡ true
   pub some_done : 1 ≤ partly.slots_done
-  pub some_left : partly.slots_done < length (scanned_words_of object)
+  pub some_left : (object : ObjectView) → Begins objects partly.base object
+      → partly.slots_done < length (scanned_words_of object)
 
--- the marker can come to the gray object at a base
-pub data IsKnown (marker : Marker) (base : ℕ) : Type 0 where
-  Is_queued : IsTrue (list_any (λ entry. entry == base) marker.queue) → IsKnown marker base
-  Is_partly_scanned : (partly : PartlyScannedView) → marker.partly ≡ Some partly → partly.base ≡ base
-      → IsKnown marker base
-  Is_left_out : marker.overflowed ≡ true → IsKnown marker base
+-- the marker can come to the gray object at a base: it is in the queue or scanned in part, or an entry was left out
+abbrev pub is_partly_at : Option PartlyScannedView → ℕ → Bool
+is_partly_at None base = false
+is_partly_at (Some partly) base = partly.base == base
+
+abbrev pub is_known : Marker → ℕ → Bool
+is_known marker base =
+    list_any (λ entry. entry == base) marker.queue || (is_partly_at marker.partly base || marker.overflowed)
 
 -- each gray object is known
 abbrev pub AreKnown : Marker → ObjectsByBase → Type 0
 AreKnown marker objects =
-    (base : ℕ) (object : ObjectView) → Begins objects base object → object.colour ≡ Gray → IsKnown marker base
+    (base : ℕ) (object : ObjectView) → Begins objects base object → object.colour ≡ Gray
+    → IsTrue (is_known marker base)
 
 -- Each gray object is in the queue, or is scanned in part, or an overflow is noted. An entry of the queue counts only
 -- where a gray object begins there. This holds between the calls of a cycle.

@@ -1,5 +1,6 @@
 -- One part of the scan of a gray object: which object's turn it is, and what the part does.
-use Rattle.std.specs.Prelude.{◌≡◌, ◌≢◌, ◌+◌, ◌≤◌, ◌<◌, ℕ, IsTrue, List, length, take, drop, Option, Some, None, IfSome}
+use Rattle.std.specs.Prelude.{◌≡◌, ◌≢◌, ◌+◌, ◌≤◌, ◌<◌, ℕ, IsTrue, List, length, take, drop, Option, Some, None, IfSome, true, ◌==◌}
+use Rattle.std.specs.List.{list_any}
 use Rattle.mm_model.specs.declared.object.Colour.TheVariants.{Gray, Black}
 use Rattle.mm_model.specs.declared.object.Part.{Part}
 use Rattle.mm_model.specs.ByBase.{Begins, with_entry}
@@ -9,12 +10,27 @@ use Rattle.mm_model.specs.View.{PartlyScannedView}
 use Rattle.mm_model.specs.ViewStep.{slots_done_of, may_go_on}
 use Rattle.mm_object.specs.Object.{views_of}
 use Rattle.mm_object.specs.Heap.{Heap}
-use Rattle.mm_mark.specs.Marker.{Marker, Marking, IsKnown, IsUnderScan}
+use Rattle.mm_mark.specs.Marker.{Marker, Marking, IsUnderScan}
 use Rattle.mm_mark.specs.Colours.{HasColour}
 
 -- no object is gray
 abbrev pub NoneIsGray : ObjectsByBase → Type 0
 NoneIsGray objects = (base : ℕ) (object : ObjectView) → Begins objects base object → object.colour ≡ Gray → ⊥
+
+-- the same, by how it can be known
+pub data IsKnown (marker : Marker) (base : ℕ) : Type 0 where
+  Is_queued : IsTrue (list_any (λ entry. entry == base) marker.queue) → IsKnown marker base
+  Is_partly_scanned : (partly : PartlyScannedView) → marker.partly ≡ Some partly → partly.base ≡ base
+      → IsKnown marker base
+  Is_left_out : marker.overflowed ≡ true → IsKnown marker base
+
+-- an object is under scan, with the object
+pub record UnderScan (objects : ObjectsByBase) (partly : PartlyScannedView) : Type 0 where
+  pub object : ObjectView
+  pub begins : Begins objects partly.base object
+  pub gray : object.colour ≡ Gray
+  pub some_done : 1 ≤ partly.slots_done
+  pub some_left : partly.slots_done < length (scanned_words_of object)
 
 -- each gray object is known, but for one
 abbrev pub AreOthersKnown : Marker → ObjectsByBase → ℕ → Type 0

@@ -1,21 +1,11 @@
 -- Entries of the queue at which no gray object begins, where the queue has room for every object.
-use Rattle.std.specs.Prelude.{◌≡◌, ◌+◌, ◌*◌, ◌/◌, ◌≤◌, ◌<◌, ℕ, Bool, false, ⊤, if◌then◌else◌, List, [], ◌∷◌, length, Option, Some, None, slice_get}
+use Rattle.std.specs.Prelude.{◌≡◌, ◌+◌, ◌*◌, ◌/◌, ◌≤◌, ◌<◌, ℕ, false, ⊤, if◌then◌else◌, List, [], ◌∷◌, length, Option, Some, None}
 use Rattle.mm_model.specs.declared.object.Colour.TheVariants.{White}
 use Rattle.mm_model.specs.declared.object.Part.{Part}
 use Rattle.mm_model.specs.ByBase.{Begins}
 use Rattle.mm_model.specs.ObjectView.{ObjectView, ObjectsByBase, holds_base}
-use Rattle.mm_model.specs.Marking.{is_gray}
 use Rattle.mm_model.specs.View.{PartlyScannedView}
-use Rattle.mm_mark.specs.Marker.{Marker, Marking}
-
--- a gray object begins at a base
-abbrev pub is_gray_entry : Option (Option ObjectView) → Bool
-is_gray_entry None = false
-is_gray_entry (Some None) = false
-is_gray_entry (Some (Some object)) = is_gray object.colour
-
-abbrev pub has_gray : ObjectsByBase → ℕ → Bool
-has_gray objects base = is_gray_entry (slice_get objects (base / 16))
+use Rattle.mm_mark.specs.Marker.{Marker, Marking, has_gray}
 
 -- how many of some entries are stale: no gray object begins there
 abbrev pub stale_in : ObjectsByBase → List ℕ → ℕ
@@ -27,10 +17,9 @@ stale_of now = stale_in now.objects now.marker.queue
 
 -- a base in one of the pages but the first, where a list by base has so many entries
 pub record IsPlace (entries base : ℕ) : Type 0 where
-  pub grain : ℕ
-  pub aligned : base ≡ 16 * grain
-  pub from : 256 ≤ grain
-  pub below : grain < entries
+  pub aligned : base ≡ 16 * (base / 16)
+  pub from : 4096 ≤ base
+  pub below : base / 16 < entries
 
 -- such bases, all different
 abbrev pub AreDistinctPlaces : ℕ → List ℕ → Type 0

@@ -4,59 +4,62 @@ ghost use Rattle.mm_model.specs.GoodView.{AreWhite};
 ghost use Rattle.mm_object.specs.Object.{views_of};
 ghost use Rattle.mm_object.specs.Heap.{IsSound};
 ghost use Rattle.mm_object.specs.Colours.{all_whitened};
+ghost use Rattle.mm_roots.specs.Areas.{IsBeside};
 ghost use Rattle.mm_mark.specs.Marker.{IsSameButQueue, HasBegun, IsIdle, AreKnown, KeepsGray, HasStarted};
 ghost use Rattle.mm_mark.specs.Marker.{IsUnderScan, marking};
 ghost use Rattle.mm_mark.specs.Stale.{HasFewStale, KeepsFewStale};
 ghost use Rattle.mm_mark.specs.Parts.{IsUnderScanOrGone, IsFreed, HasForgotten};
-ghost use Rattle.mm_mark.specs.Colours.{IsGrayed};
+ghost use Rattle.mm_mark.specs.Colours.{IsGrayed, root_words};
 
 use crate::colours::is_free_at;
 use crate::marker::Marker;
 use mm_object::Heap;
-use mm_roots::Stack;
+use mm_roots::{Areas, Stack};
 use mm_steps::Steps;
 use std::sync::ledger::Ledger;
 
 impl Marker {
-    /// Begins a cycle: what a cell of the stack or one of the other words falls in becomes gray.
+    /// Begins a cycle: what a word of the stack or of a scanned area falls in becomes gray.
     pub fn begin<L: Ledger>(
         &mut self,
         heap: &mut Heap,
         stack: &Stack,
-        area_words: &[u32],
+        areas: &Areas,
         steps: &mut Steps<L>,
     )
         requires idle { self.old.running ≡ false }
+        requires beside { IsBeside areas.now heap.old }
         requires white { AreWhite (views_of heap.old.objects) }
-        ensures grayed { IsGrayed heap.old heap.new (stack.now.words ++ area_words.now) }
+        ensures grayed { IsGrayed heap.old heap.new (root_words stack.now areas.now heap.old) }
         ensures runs { HasBegun self.old self.new }
         ensures keeps { KeepsGray self.new (views_of heap.new.objects) }
         ensures sound { IsSound heap.old → IsSound heap.new }
         ensures few { length heap.old.objects ≤ self.old.room + 256 → HasFewStale (marking self.new heap.new) 0 }
-        ensures cost { steps.new ≤ steps.old + 16 * (1 + length stack.now.words + length area_words.now) }
+        ensures cost { steps.new ≤ steps.old + 16 * (1 + length (root_words stack.now areas.now heap.old)) }
     {
         self.start();
-        self.shade_roots(heap, stack, area_words, steps);
+        self.shade_roots(heap, stack, areas, steps);
     }
 
-    /// Looks at the stack and the other words again, before a cycle ends.
+    /// Looks at the stack and the scanned areas again, before a cycle ends.
     pub fn rescan<L: Ledger>(
         &mut self,
         heap: &mut Heap,
         stack: &Stack,
-        area_words: &[u32],
+        areas: &Areas,
         steps: &mut Steps<L>,
     )
         requires runs { self.old.running ≡ true }
+        requires beside { IsBeside areas.now heap.old }
         requires keeps { KeepsGray self.old (views_of heap.old.objects) }
-        ensures grayed { IsGrayed heap.old heap.new (stack.now.words ++ area_words.now) }
+        ensures grayed { IsGrayed heap.old heap.new (root_words stack.now areas.now heap.old) }
         ensures cycle { IsSameButQueue self.old self.new }
         ensures keeps { KeepsGray self.new (views_of heap.new.objects) }
         ensures sound { IsSound heap.old → IsSound heap.new }
         ensures few { KeepsFewStale (marking self.old heap.old) (marking self.new heap.new) }
-        ensures cost { steps.new ≤ steps.old + 16 * (1 + length stack.now.words + length area_words.now) }
+        ensures cost { steps.new ≤ steps.old + 16 * (1 + length (root_words stack.now areas.now heap.old)) }
     {
-        self.shade_roots(heap, stack, area_words, steps);
+        self.shade_roots(heap, stack, areas, steps);
     }
 
     /// Makes every object white and ends the cycle, as if it had never begun.
@@ -89,25 +92,6 @@ impl Marker {
         self.running = true;
         self.partly = None;
         self.next = 0;
-    }
-
-    fn shade_roots<L: Ledger>(
-        &mut self,
-        heap: &mut Heap,
-        stack: &Stack,
-        area_words: &[u32],
-        steps: &mut Steps<L>,
-    )
-        requires { AreKnown self.old (views_of heap.old.objects) }
-        ensures grayed { IsGrayed heap.old heap.new (stack.now.words ++ area_words.now) }
-        ensures cycle { IsSameButQueue self.old self.new }
-        ensures known { AreKnown self.new (views_of heap.new.objects) }
-        ensures sound { IsSound heap.old → IsSound heap.new }
-        ensures few { KeepsFewStale (marking self.old heap.old) (marking self.new heap.new) }
-        ensures cost { steps.new ≡ steps.old + 2 * length stack.now.words + length area_words.now }
-    {
-        self.shade_words(heap, stack.words(steps), steps);
-        self.shade_words(heap, area_words, steps);
     }
 
     /// Forgets the object that is scanned in part if it isn't there any more, after a phase freed objects.

@@ -6,6 +6,7 @@ mod colours;
 mod cycle;
 mod draining;
 mod marker;
+mod roots;
 mod scanning;
 mod shading;
 
