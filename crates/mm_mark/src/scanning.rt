@@ -34,6 +34,9 @@ impl Marker {
         requires keeps { KeepsGray self.old (views_of heap.old.objects) }
         ensures part { MatchOption result (HasNoGray (marking self.old heap.old))
             (λ part. IsPartDone (marking self.old heap.old) (marking self.new heap.new) part) }
+        // Where there is nothing to scan, nothing changes.
+        ensures stays { result ≡ None → heap.new ≡ heap.old }
+        ensures partly { result ≡ None → self.new.partly ≡ self.old.partly }
         ensures rest { IsSameButColours heap.old heap.new }
         ensures cycle { IsSameCycle self.old self.new }
         ensures keeps { KeepsGray self.new (views_of heap.new.objects) }

@@ -24,7 +24,7 @@ areas-preserved g c = record {
       c.shade_area.new.steps c.areas.invariant.shaded (c.in-Some.ensures.words c.args.heap.now.raw)
       c.shade_area.ensures.grayed c.shade_area.ensures.cost;
   cycle = queue-then c.args.self.now c.areas.self c.shade_area.new.self c.areas.invariant.cycle
-  c.shade_area.ensures.cycle;
+      c.shade_area.ensures.cycle;
   known = c.shade_area.ensures.known;
   sound = λ sound. c.shade_area.ensures.sound (c.areas.invariant.sound sound);
   few = λ stale h. c.shade_area.ensures.few stale (c.areas.invariant.few stale h);
