@@ -145,8 +145,9 @@ pub record ClearsCells (before after : Heap) (base cells : ℕ) : Type 0 where
   pub below : (place : ℕ) → place < base / 4 → slice_get after.raw place ≡ slice_get before.raw place
   pub above : (place : ℕ) → base / 4 + cells ≤ place → slice_get after.raw place ≡ slice_get before.raw place
 
--- one of the areas whose words are roots
+-- one of the areas whose words are roots, all of which are sound
 pub record IsScanned (a : Areas) (area : ScannedArea) : Type 0 where
+  pub sound : IsSoundAreas a
   pub shape : AreaShape
   pub lives : area_at a area.number ≡ Some shape
   pub scanned : shape.scanned ≢ false

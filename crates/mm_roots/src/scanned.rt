@@ -54,7 +54,6 @@ impl Areas {
         ensures sound { IsSoundAreas self.now }
         ensures cost { steps.new ≡ steps.old + 1 }
     {
-        let _ = &self.table;
         prove!(area.base / PAGE_BYTES < heap.size());
         heap.raw(area.base + CELL_BYTES * s, steps)
     }

@@ -1,6 +1,5 @@
 use Rattle.std.proofs.Common.{◌+◌, ◌*◌, ℕ, slice_index, sym, ap, ◌∙◌, subst, arith}
 use Rattle.mm_object.specs.Heap.{IsRaw}
-use Rattle.mm_roots.specs.Areas.{IsSoundAreas}
 use Rattle.mm_roots.specs.Views.{cell_words}
 use Rattle.mm_roots.proofs.CellWords.{cells-fit, block-end, block-below, cell-IsRaw, cell-word}
 use Rattle.mm_roots.proofs.areas.Areas.word.Goals as goal
@@ -8,7 +7,7 @@ use Rattle.mm_roots.proofs.areas.Areas.word.Goals as goal
 pub prove-unreachable-requires : goal.prove-unreachable-requires
 prove-unreachable-requires g c =
     let scanned = c.requires.scanned in
-    let sound = subst IsSoundAreas c.self.view_is c.self.invariant.sound in
+    let sound = scanned.sound in
     let below = block-below c.args.self.now sound c.args.area.number scanned.shape scanned.lives c.args.heap.now
     c.requires.beside in
     omega (arith, below, c.if-prove.true, c.size.ensures.value, scanned.base)
@@ -16,7 +15,7 @@ prove-unreachable-requires g c =
 pub overflow_mul-s : goal.overflow_mul-s
 overflow_mul-s g c =
     let scanned = c.requires.scanned in
-    let sound = subst IsSoundAreas c.self.view_is c.self.invariant.sound in
+    let sound = scanned.sound in
     omega (
       arith,
       c.requires.within,
@@ -28,7 +27,7 @@ overflow_mul-s g c =
 pub overflow_add-area : goal.overflow_add-area
 overflow_add-area g c =
     let scanned = c.requires.scanned in
-    let sound = subst IsSoundAreas c.self.view_is c.self.invariant.sound in
+    let sound = scanned.sound in
     omega (
       arith,
       c.requires.within,
@@ -41,7 +40,7 @@ overflow_add-area g c =
 pub raw-requires : goal.raw-requires
 raw-requires g c =
     let scanned = c.requires.scanned in
-    let sound = subst IsSoundAreas c.self.view_is c.self.invariant.sound in
+    let sound = scanned.sound in
     subst (λ (base : ℕ). (word : ℕ) × IsRaw c.args.heap.now (base + 4 * c.args.s) word) scanned.base
     (cell-IsRaw c.args.self.now sound c.args.area.number scanned.shape scanned.lives c.args.heap.now
     c.size.ensures.sound c.requires.beside c.args.s (omega (arith, c.requires.within, scanned.cells)))
@@ -49,7 +48,7 @@ raw-requires g c =
 pub returns-clause-word : goal.returns-clause-word
 returns-clause-word g c =
     let scanned = c.requires.scanned in
-    let sound = subst IsSoundAreas c.self.view_is c.self.invariant.sound in
+    let sound = scanned.sound in
     let raw = subst (λ (base : ℕ). IsRaw c.args.heap.now (base + 4 * c.args.s) c.raw.result) (sym scanned.base)
     c.raw.ensures.word in
     sym (ap (λ (base : ℕ). slice_index (cell_words c.args.heap.now.raw base c.args.area.cells) c.args.s)
@@ -60,4 +59,4 @@ returns-clause-word g c =
     c.size.ensures.sound c.requires.beside c.args.s (omega (arith, c.requires.within, scanned.cells)) c.raw.result raw)
 
 pub returns-clause-sound : goal.returns-clause-sound
-returns-clause-sound g c = subst IsSoundAreas c.self.view_is c.self.invariant.sound
+returns-clause-sound g c = c.requires.scanned.sound
