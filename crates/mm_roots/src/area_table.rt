@@ -17,8 +17,8 @@ use std::marker::Model;
 /// The bytes of a cell.
 pub(crate) const CELL_BYTES: u32 = 4;
 
-/// How many areas there may be.
-const MOST_AREAS: u32 = 1024;
+/// How many areas may live at once. Their numbers are below it.
+pub const MOST_AREAS: u32 = 1024;
 
 /// How many words a set of their numbers takes.
 const SET_WORDS: u32 = 36;

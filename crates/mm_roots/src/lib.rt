@@ -12,5 +12,6 @@ mod stack;
 mod tests;
 
 pub use area_shape::{AreaRefusal, AreaShape, ScannedArea};
+pub use area_table::MOST_AREAS;
 pub use areas::Areas;
 pub use stack::{Stack, StackFull};
