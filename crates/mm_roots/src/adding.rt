@@ -129,6 +129,7 @@ impl Areas {
             → AreAllParked self.new.fixed.runs others pages.new }
         ensures owns { OwnsAll self.old → OwnsAll self.new }
         ensures sound { IsSoundAreas self.new }
+        ensures pages_sound { IsSoundHeap pages.old → IsSoundHeap pages.new }
         ensures heap_sound { IfOk result (λ answer. IsSound heap.new) }
         ensures cost { IsQuick pages.old.pages (steps.old + run_length (size_of (area_bytes cells)) + cells) steps.new }
     {
@@ -181,6 +182,7 @@ impl Areas {
             → AreAllParked self.new.fixed.runs others pages.new }
         ensures beside { (heap : Heap) → IsBeside self.old heap → IsBeside self.new heap }
         ensures fits { (heap : Heap) → IsBeside self.old heap → FitsHeap heap pages.old → FitsHeap heap pages.new }
+        ensures pages_sound { IsSoundHeap pages.old → IsSoundHeap pages.new }
         ensures owns { OwnsAll self.old → OwnsAll self.new }
         ensures sound { IsSoundAreas self.new }
         ensures cost { IsQuick pages.old.pages steps.old steps.new }

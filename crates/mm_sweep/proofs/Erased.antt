@@ -11,7 +11,7 @@ use Rattle.mm_model.specs.ObjectView.{ObjectView, ObjectsByBase}
 use Rattle.mm_model.specs.GoodView.{ArePaired, IsPairedAt}
 use Rattle.mm_model.proofs.Lists.Replaced.{get-set_same, get-set_other, map-set}
 use Rattle.mm_model.proofs.View.Entries.{begins_same}
-use Rattle.mm_pages.specs.Pages.{Pages, with_parked}
+use Rattle.mm_pages.specs.Pages.{Pages, with_parked, IsSoundHeap}
 use Rattle.mm_pages.specs.Parked.{AreParked, HaveNoCommonRun, AreAllParked}
 use Rattle.mm_cells.specs.Cells as cells
 use Rattle.mm_cells.specs.Cells.{Cells}
@@ -210,8 +210,9 @@ module _ (h m f : Heap) (base : ℕ) (heap heap_after : Pages) (unlinked : IsUnl
       → ((object : StoredObject) → Begins m.objects base object → LeavesWords m.raw f.raw base object.extent)
       → ((runs : List ℕ) → slice_index runs (base / 4096) ≡ 0 → AreParked runs heap → AreParked runs heap_after)
       → ((others : List ℕ) → AreAllParked m.runs others heap → AreAllParked f.runs others heap_after)
+      → IsSoundHeap heap_after
       → Frees (base ∷ []) h f heap heap_after
-  erased-frees erased leaves others all_parked =
+  erased-frees erased leaves others all_parked pages_sound =
       record {
         objects = ap (λ (x : Heap). x.objects) erased ∙ unlinked.objects;
         rest =
@@ -231,4 +232,5 @@ module _ (h m f : Heap) (base : ℕ) (heap heap_after : Pages) (unlinked : IsUnl
             (base / 4096)) runs_same some_run)) are;
         all_parked = λ runs all.
             all_parked runs (subst (λ (rs : List ℕ). AreAllParked rs runs heap) (sym runs_same) all);
+        pages_sound = λ _. pages_sound;
       }

@@ -21,6 +21,7 @@ frees-none h pages =
       apart = λ runs apart. apart;
       others = λ runs apart are. are;
       all_parked = λ others all. all;
+      pages_sound = λ sound. sound;
     }
 
 pub frees-more : (bases more : List ℕ) (h m f : Heap) (p q r : Pages) → Frees bases h m p q → Frees more m f q r
@@ -37,6 +38,7 @@ frees-more bases more h m f p q r first next =
       apart = λ runs apart. next.apart runs (first.apart runs apart);
       others = λ runs apart are. next.others runs (first.apart runs apart) (first.others runs apart are);
       all_parked = λ others all. next.all_parked others (first.all_parked others all);
+      pages_sound = λ sound. next.pages_sound (first.pages_sound sound);
     }
 
 -- an object that isn't freed begins where it began

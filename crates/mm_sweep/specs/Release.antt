@@ -8,7 +8,7 @@ use Rattle.mm_model.specs.ByBase.{Based, changed}
 use Rattle.mm_model.specs.ObjectView.{ObjectView, ObjectsByBase}
 use Rattle.mm_model.specs.ViewWords.{object_at}
 use Rattle.mm_model.specs.ViewPhase.{view_final_lines}
-use Rattle.mm_pages.specs.Pages.{Pages}
+use Rattle.mm_pages.specs.Pages.{Pages, IsSoundHeap}
 use Rattle.mm_pages.specs.Parked.{AreParked, HaveNoCommonRun, AreAllParked}
 use Rattle.mm_object.specs.Object.{StoredObject}
 use Rattle.mm_object.specs.Heap.{Heap, IsObject}
@@ -58,3 +58,4 @@ pub record Frees (bases : List ℕ) (before after : Heap) (pages_before pages_af
       → AreParked runs pages_after
   pub all_parked : (others : List ℕ) → AreAllParked before.runs others pages_before
       → AreAllParked after.runs others pages_after
+  pub pages_sound : IsSoundHeap pages_before → IsSoundHeap pages_after

@@ -6,6 +6,7 @@ ghost use Rattle.mm_model.specs.Phase.{IsAscending, lists};
 ghost use Rattle.mm_model.specs.Spelling.{spelling_of};
 ghost use Rattle.mm_model.specs.View.{View};
 ghost use Rattle.mm_model.specs.ViewPhase.{view_phase_lines, view_after_release};
+ghost use Rattle.mm_pages.specs.Pages.{IsSoundHeap};
 ghost use Rattle.mm_pages.specs.Parked.{AreParked, HaveNoCommonRun, AreAllParked};
 ghost use Rattle.mm_object.specs.Object.{StoredObject, views_of};
 ghost use Rattle.mm_object.specs.Heap.{IsSound, FitsHeap};
@@ -66,6 +67,7 @@ pub fn release<J: Journal, L: Ledger>(
         → AreParked runs pages.new }
     ensures all_parked { (others : List ℕ) → AreAllParked heap.old.runs others pages.old
         → AreAllParked heap.new.runs others pages.new }
+    ensures pages_sound { IsSoundHeap pages.old → IsSoundHeap pages.new }
     ensures raw { KeepsRaw heap.old.raw heap.new.raw }
     ensures rest { heap.new ≡ record heap.old {
       objects = heap.new.objects;

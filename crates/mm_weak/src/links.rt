@@ -2,8 +2,8 @@
 ghost use Rattle.std.specs.Prelude.{◌≡◌, ◌≢◌, ◌+◌, ◌/◌, ◌≤◌, ℕ, List, IfSome, IfOk, OnErr, Some, None, true, false};
 ghost use Rattle.mm_model.specs.SizeClass.{size_of};
 ghost use Rattle.mm_model.specs.ByBase.{Begins};
-ghost use Rattle.mm_pages.specs.Pages.{with_parked};
-ghost use Rattle.mm_pages.specs.Parked.{AreParked};
+ghost use Rattle.mm_pages.specs.Pages.{with_parked, IsSoundHeap};
+ghost use Rattle.mm_pages.specs.Parked.{AreParked, AreAllParked};
 ghost use Rattle.mm_cells.specs.Placing.{IsPlaceFor, found_in};
 ghost use Rattle.mm_object.specs.Object.{StoredObject};
 ghost use Rattle.mm_object.specs.Heap.{cells_in, with_object, IsObject, IsSound, FitsHeap};
@@ -108,6 +108,9 @@ fn make_for<L: Ledger>(
     ensures linked { IsLinked heap.new }
     ensures fits { FitsHeap heap.new pages.new }
     ensures others { (runs : List ℕ) → AreParked runs pages.old → AreParked runs pages.new }
+    ensures all_parked { (others : List ℕ) → AreAllParked heap.old.runs others pages.old
+        → AreAllParked heap.new.runs others pages.new }
+    ensures pages_sound { IsSoundHeap pages.new }
     ensures sound { IsSound heap.new }
 {
     let w = heap.create(pages, WEAK_SHAPE, colour, steps)?;
@@ -137,6 +140,9 @@ pub fn weak_of<L: Ledger>(
     ensures linked { IsLinked heap.new }
     ensures fits { FitsHeap heap.new pages.new }
     ensures others { (runs : List ℕ) → AreParked runs pages.old → AreParked runs pages.new }
+    ensures all_parked { (others : List ℕ) → AreAllParked heap.old.runs others pages.old
+        → AreAllParked heap.new.runs others pages.new }
+    ensures pages_sound { IsSoundHeap pages.old → IsSoundHeap pages.new }
     ensures sound { IsSound heap.new }
 {
     match partner(heap, base, steps) {

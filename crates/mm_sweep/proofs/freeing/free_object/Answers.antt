@@ -15,7 +15,7 @@ returns-clause-frees g c =
       rest = c.unlink.ensures.rest;
     })
     c.unlink.ensures.sound c.erase.ensures.page c.erase.ensures.erased c.erase.ensures.raw
-    c.erase.ensures.others c.erase.ensures.all_parked
+    c.erase.ensures.others c.erase.ensures.all_parked c.erase.ensures.heap_sound
 
 pub returns-clause-linked : goal.returns-clause-linked
 returns-clause-linked g c =

@@ -1,5 +1,8 @@
+use Rattle.std.proofs.Common.{ℕ, List, sym, ap, subst}
 use Rattle.mm_model.specs.Effect.{weak_shape}
+use Rattle.mm_pages.specs.Parked.{AreAllParked}
 use Rattle.mm_object.specs.Object.{newly_stored}
+use Rattle.mm_object.specs.Heap.{Heap}
 use Rattle.mm_weak.proofs.Partners.{partner-none}
 use Rattle.mm_weak.proofs.Making.{IsBorn, begins-born, begins-target, born-apart, made-joined, fits-joined, linked-joined}
 use Rattle.mm_weak.proofs.links.make_for.Given as given
@@ -85,3 +88,14 @@ returns-clause-fits g c =
     target.begins)
     (begins-born c.args.heap.now c.create.new.self c.in_ok-w.w c.args.colour (born g c)))
     c.create.new.pages c.in_ok-w.ensures.fits
+
+pub returns-clause-all_parked : goal.returns-clause-all_parked
+returns-clause-all_parked g c =
+    λ others all.
+    let target = c.requires.target in
+    subst (λ (runs : List ℕ). AreAllParked runs others c.create.new.pages)
+    (sym (ap (λ (h : Heap). h.runs) (c.join.ensures.partners target.object (newly_stored weak_shape c.args.colour)
+    (begins-target c.args.heap.now c.create.new.self c.in_ok-w.w c.args.colour (born g c) c.args.base target.object
+    target.begins)
+    (begins-born c.args.heap.now c.create.new.self c.in_ok-w.w c.args.colour (born g c)))))
+    (c.in_ok-w.ensures.all_parked others all)
