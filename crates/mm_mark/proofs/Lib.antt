@@ -3,6 +3,7 @@ pub mod Barred
 pub mod Chosen
 pub mod Drained
 pub mod Forgotten
+pub mod Freed
 pub mod Grayed
 pub mod Keeping
 pub mod Known

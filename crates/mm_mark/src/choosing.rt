@@ -32,6 +32,8 @@ impl Marker {
         ensures paid { IsTidy (marking self.old heap.now)
             → steps.new + 8 * stale_of (marking self.new heap.now)
             ≤ steps.old + 2 + 8 * stale_of (marking self.old heap.now) }
+        ensures fewer { IsTidy (marking self.old heap.now)
+            → stale_of (marking self.new heap.now) ≤ stale_of (marking self.old heap.now) }
     {
         match self.partly {
             Some(partly) => Some(partly),
@@ -56,6 +58,8 @@ impl Marker {
         ensures paid { IsTidy (marking self.old heap.now)
             → steps.new + 8 * stale_of (marking self.new heap.now)
             ≤ steps.old + 2 + 8 * stale_of (marking self.old heap.now) }
+        ensures fewer { IsTidy (marking self.old heap.now)
+            → stale_of (marking self.new heap.now) ≤ stale_of (marking self.old heap.now) }
     {
         match self.next_base(heap, steps) {
             Some(base) => {
@@ -82,6 +86,8 @@ impl Marker {
         ensures paid { IsTidy (marking self.old heap.now)
             → steps.new + 8 * stale_of (marking self.new heap.now)
             ≤ steps.old + 2 + 8 * stale_of (marking self.old heap.now) }
+        ensures fewer { IsTidy (marking self.old heap.now)
+            → stale_of (marking self.new heap.now) ≤ stale_of (marking self.old heap.now) }
     {
         match self.next_queued(heap, steps) {
             Some(base) => Some(base),
@@ -101,6 +107,8 @@ impl Marker {
         ensures paid { IsTidy (marking self.old heap.now)
             → steps.new + 8 * stale_of (marking self.new heap.now)
             ≤ steps.old + 2 + 8 * stale_of (marking self.old heap.now) }
+        ensures fewer { IsTidy (marking self.old heap.now)
+            → stale_of (marking self.new heap.now) ≤ stale_of (marking self.old heap.now) }
     {
         'entries: while self.queue.depth() > 0 {
             let base = self.take(steps);

@@ -43,6 +43,7 @@ impl Marker {
         ensures sound { IsSound heap.old → IsSound heap.new }
         ensures few { (stale : ℕ) → HasFewStale (marking self.old heap.old) stale
             → IsPaid (marking self.new heap.new) steps.new (steps.old + 16 * (1 + slots_of result) + 8 * stale) }
+        ensures fewer { KeepsFewStale (marking self.old heap.old) (marking self.new heap.new) }
     {
         self.scan_next(heap, steps)
     }
@@ -65,6 +66,8 @@ impl Marker {
         ensures paid { IsTidy (marking self.old heap.old)
             → steps.new + 8 * stale_of (marking self.new heap.new)
             ≤ steps.old + 4 + 2 * slots_of result + 8 * stale_of (marking self.old heap.old) }
+        ensures fewer { IsTidy (marking self.old heap.old)
+            → stale_of (marking self.new heap.new) ≤ stale_of (marking self.old heap.old) }
     {
         match self.choose(heap, steps) {
             Some(next) => Some(self.scan_from(heap, next, steps)),

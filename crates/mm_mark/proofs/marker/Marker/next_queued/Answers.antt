@@ -2,8 +2,9 @@ use Rattle.std.proofs.Common.{◌<◌, Bool, length, sym, ap, subst, ◌∙◌, 
 use Rattle.std.specs.Prelude.{MatchBool}
 use Rattle.mm_model.specs.declared.object.Colour.TheVariants.{Gray}
 use Rattle.mm_object.specs.Object.{view_of_stored, views_of}
-use Rattle.mm_mark.specs.Marker.{Marker, IsSameButQueue}
+use Rattle.mm_mark.specs.Marker.{Marker, IsSameButQueue, marking}
 use Rattle.mm_mark.specs.Colours.{HasColour, IsNoneGrayAt}
+use Rattle.mm_mark.specs.Stale.{IsTidy}
 use Rattle.mm_mark.proofs.Told.{stored-viewed}
 use Rattle.mm_mark.proofs.Reading.{seen-coloured}
 use Rattle.mm_mark.proofs.Tidy.{dropped-tidy, dropped-stale, taken-tidy, taken-stale}
@@ -35,6 +36,12 @@ entries-preserved g c =
     subst (λ (b : Bool). MatchBool b (HasColour c.args.heap.now c.take-base.result Gray)
     (IsNoneGrayAt c.args.heap.now c.take-base.result))
     c.if-is_gray_at.false c.is_gray_at.ensures.gray in
+    let one_less = λ (tidy : IsTidy (marking c.args.self.now c.args.heap.now)).
+    dropped-stale c.entries.self c.take-base.new.self (views_of c.args.heap.now.objects) c.take-base.result none some
+    c.take-base.ensures.entry c.take-base.ensures.rest (c.entries.invariant.tidy tidy)
+    (λ object begins gray.
+    let has = seen-coloured c.args.heap.now c.take-base.result object begins in dark has.object has.begins
+    (has.is ∙ gray)) in
     record {
       cycle = queue-then c.args.self.now c.entries.self c.take-base.new.self c.entries.invariant.cycle step;
       tidy = λ tidy.
@@ -43,13 +50,12 @@ entries-preserved g c =
           c.take-base.ensures.entry c.take-base.ensures.rest (c.entries.invariant.tidy tidy);
       paid = λ tidy.
           let paid = c.entries.invariant.paid tidy in
-          let less = dropped-stale c.entries.self c.take-base.new.self
-          (views_of c.args.heap.now.objects) c.take-base.result none some
-          c.take-base.ensures.entry c.take-base.ensures.rest (c.entries.invariant.tidy tidy)
-          (λ object begins gray.
-          let has = seen-coloured c.args.heap.now c.take-base.result object begins in dark has.object has.begins
-          (has.is ∙ gray)) in
+          let less = one_less tidy in
           omega (arith, paid, less, c.take-base.ensures.cost, c.is_gray_at.ensures.cost);
+      fewer = λ tidy.
+          let fewer = c.entries.invariant.fewer tidy in
+          let less = one_less tidy in
+          omega (arith, fewer, less);
       known =
           entry-dropped c.entries.self c.take-base.new.self c.take-base.result some c.take-base.ensures.entry
           c.take-base.ensures.rest c.args.heap.now

@@ -10,6 +10,7 @@ invariant-entries g l = record {
   tidy : IsTidy (marking l.fn.self l.heap) → IsTidy (marking l.self l.heap);
   paid : IsTidy (marking l.fn.self l.heap)
       → l.steps + 8 * stale_of (marking l.self l.heap) ≤ l.fn.steps + 8 * stale_of (marking l.fn.self l.heap);
+  fewer : IsTidy (marking l.fn.self l.heap) → stale_of (marking l.self l.heap) ≤ stale_of (marking l.fn.self l.heap);
   known : AreKnown l.self (views_of l.heap.objects);
 }
 
