@@ -1,5 +1,5 @@
 // Which objects a reap frees.
-ghost use Rattle.std.specs.Prelude.{◌≡◌, ◌≤◌, ◌+◌, ◌-◌, ◌*◌, ℕ, false, length, take, drop, IsPermutation};
+ghost use Rattle.std.specs.Prelude.{◌≡◌, ◌≤◌, ◌<◌, ◌+◌, ◌-◌, ◌*◌, ℕ, false, length, take, drop, IsPermutation};
 ghost use Rattle.std.specs.List.Sorted.{IsNonDecreasing};
 ghost use Rattle.mm_model.specs.GoodView.{HoldTight};
 ghost use Rattle.mm_model.specs.SetsByBase.{IsReapableAt, AreBasesAt};
@@ -60,7 +60,7 @@ pub fn reap<L: Ledger>(
     ensures unpinned { NonePinned heap.new.objects }
     ensures right { IsRight count.new heap.new }
     ensures sound { IsSound heap.new }
-    ensures cost { steps.new ≤ steps.old + 32 * (1 + length stack.now.words + length count.old.entries
+    ensures cost { steps.new < steps.old + 32 * (1 + length stack.now.words + length count.old.entries
         + counted_slots_of (views_of heap.old.objects) (take result dead.new.words)) }
 {
     prove!(256 * (heap.size() - 1) <= dead.len());
