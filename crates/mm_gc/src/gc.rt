@@ -1,110 +1,190 @@
-// The heap as its callers see it.
-ghost use Rattle.std.specs.Prelude.{◌≡◌, ◌+◌, ◌-◌, ◌*◌, ◌<◌, ◌≤◌, ◌^◌, IfOk};
+// The whole heap, and what is told of it.
+ghost use Rattle.std.specs.Prelude.{◌≡◌, ◌+◌, ◌-◌, ◌*◌, ◌≤◌, IfOk};
 ghost use Rattle.mm_model.specs.State.{empty_state};
 ghost use Rattle.mm_model.specs.Limits.{IsWithinLimits};
-ghost use Rattle.mm_model.specs.FlatView.{FlatShows};
-ghost use Rattle.mm_gc.specs.Built.{IsBuilt};
-ghost use Rattle.mm_gc.specs.Execution.{Executes};
+ghost use Rattle.mm_model.specs.View.{Shows};
+ghost use Rattle.mm_model.specs.ViewWords.{view_region_pages};
+ghost use Rattle.mm_gc.specs.Gc.{view_of_gc, totals_in};
+ghost use Rattle.mm_gc.specs.Inside.{words_for};
+ghost use Rattle.mm_gc.specs.Kept.{KeepsCounts};
+ghost use Rattle.mm_gc.specs.Starting.{region_words, IsNewRegion};
 
-use crate::journal::Journal;
-use crate::object::Object;
-use mm_model::{Command, Reply, Settings, Totals};
-use mm_steps::Steps;
+use crate::region::Region;
+use mm_cells::{Cells, cells_words};
+use mm_count::ZeroTable;
+use mm_fixed::{Fixed, fixed_words};
+use mm_mark::Marker;
+use mm_model::{Settings, Totals};
+use mm_object::Heap;
+use mm_pages::{PageHeap, table_words};
+use mm_roots::{Areas, Stack};
+use mm_words::{Arena, Words};
 use std::alloc::{AllocError, Global};
 use std::marker::Model;
-use std::sync::ledger::Ledger;
 
-/// Want of memory.
+/// There was no memory.
 pub type NoMemory = AllocError;
 
-/// A heap: objects in a region of pages, and a stack of words. It must be spent by `close`.
+/// The words of the table of areas.
+const AREA_WORDS: u32 = 4096;
+
+/// The words of a page, and the most objects that begin in one.
+const PAGE_WORDS: u32 = 1024;
+
+const PAGE_OBJECTS: u32 = 256;
+
+/// A heap: objects and areas in a region of pages, a stack of words that are roots, counts, weak objects and cycles of
+/// marking.
 ///
-/// All its memory is found when it is made.
+/// All its memory is taken when it is made. It must be spent by `close`.
 pub struct Gc {
+    pub(crate) region: Region,
+    pub(crate) stack: Stack,
+    pub(crate) count: ZeroTable,
+    pub(crate) marker: Marker,
+    // Room for the bases of all objects that a phase frees.
+    pub(crate) dead: Words,
     pub(crate) settings: Settings,
-    // The words of the region.
-    pub(crate) memory: Vec<u32>,
-    // The live objects, in the order of birth.
-    pub(crate) objects: Vec<Object>,
-    // The words of the stack, with the top at the end.
-    pub(crate) stack: Vec<u32>,
-    // How many commands were carried out.
+    // At so many zero-count objects a command reaps at its end.
+    pub(crate) threshold: u32,
     pub(crate) commands: u32,
+    pub(crate) born: u32,
+    pub(crate) freed: u32,
+    // How many objects were gone when the cycle began.
+    pub(crate) gone_before: u32,
 }
 
 impl Model for Gc {
-    ghost use Rattle.mm_model.specs.FlatView.{FlatView};
+    ghost use Rattle.mm_gc.specs.Gc as heaps;
+    ghost use Rattle.mm_gc.specs.Inside.{gc_of};
+    ghost use Rattle.mm_gc.specs.Kept.{KeepsGc};
 
-    ghost Value = { FlatView };
+    ghost Value = { heaps.Gc };
 
-    ghost use Rattle.mm_gc.specs.Plain.{view_of, IsPlain};
+    ghost view = { gc_of };
 
-    ghost view = { view_of };
+    ghost invariant = { λ g. KeepsGc (gc_of g) };
+}
 
-    ghost invariant = { IsPlain };
+/// The words that a heap with these settings needs.
+fn words_for(settings: Settings) -> u32
+    requires { IsWithinLimits settings }
+    ensures { result ≡ words_for settings }
+{
+    let max = settings.max;
+    table_words(max)
+        + cells_words(max)
+        + fixed_words(max)
+        + AREA_WORDS
+        + settings.stack
+        + settings.queue
+        + 2 * PAGE_OBJECTS * (max - 1)
+        + PAGE_WORDS * max
+}
+
+/// A region without objects and areas. Its memory is cut last, so that it can grow.
+fn make_region(mut arena: Arena, least: u32, most: u32) -> Region
+    requires two { 2 ≤ least }
+    requires growing { least ≤ most }
+    requires most { most ≤ 4096 }
+    requires room { region_words most ≤ arena.spare }
+    requires within { arena.spare ≤ arena.total }
+    ensures { IsNewRegion arena least most result }
+{
+    let mut pages = PageHeap::make(arena.carve(table_words(most)), most);
+    let cells = Cells::make(arena.carve(cells_words(most)), most);
+    let fixed = Fixed::make(arena.carve(fixed_words(most)), most);
+    let areas = Areas::make(arena.carve(AREA_WORDS), fixed);
+    let heap = Heap::make(arena.carve(PAGE_WORDS * least), cells);
+    pages.set_limit(least);
+    Region {
+        arena,
+        pages,
+        heap,
+        areas,
+        least,
+        most,
+    }
 }
 
 impl Gc {
-    /// A heap without objects. An error comes only for want of memory.
+    /// A heap without objects, areas and stack cells. It is refused only where there is no memory.
     pub fn make(alloc: Global, settings: Settings) -> Result<Gc, NoMemory>
         requires { IsWithinLimits settings }
-        ensures { IfOk result (λ gc. FlatShows gc (empty_state settings)) }
+        ensures { IfOk result (λ gc. Shows (view_of_gc gc) (empty_state settings)) }
     {
-        let memory = vec![in alloc; 0; 1024 * settings.max as usize]?;
-        let objects = Vec::with_capacity(alloc, 256 * (settings.max as usize - 1))?;
-        let stack = Vec::with_capacity(alloc, settings.stack as usize)?;
+        let max = settings.max;
+        let mut arena = Arena::make(alloc, words_for(settings))?;
+        let stack = Stack::make(arena.carve(settings.stack), settings.stack);
+        let count = ZeroTable::make(arena.carve(PAGE_OBJECTS * (max - 1)), max);
+        let marker = Marker::make(arena.carve(settings.queue));
+        let dead = arena.carve(PAGE_OBJECTS * (max - 1));
+        let region = make_region(arena, settings.pages, max);
         Ok(Gc {
-            settings,
-            memory,
-            objects,
+            region,
             stack,
+            count,
+            marker,
+            dead,
+            settings,
+            threshold: settings.zct,
             commands: 0,
+            born: 0,
+            freed: 0,
+            gone_before: 0,
         })
-    }
-
-    /// Carries out a command, and tells the journal of all that it does before it replies.
-    ///
-    /// The journal is told nothing by the commands that are built so far.
-    pub fn execute<J: Journal, L: Ledger>(
-        &mut self,
-        command: &Command,
-        journal: &mut J,
-        steps: &mut Steps<L>,
-    ) -> Reply
-        requires built { IsBuilt command.now }
-        requires commands { self.old.totals.commands < 2 ^ 32 - 1 }
-        requires births { self.old.totals.born < 2 ^ 32 - 1 }
-        ensures step { Executes self.old self.new command.now result
-            (J.kept journal.old) (J.is_broken journal.old) (J.kept journal.new) (J.is_broken journal.new) }
-        ensures kept { J.keeps journal.old journal.new }
-    {
-        let commands = self.commands + 1;
-        let reply = self.carry_out(command);
-        self.commands = commands;
-        reply
     }
 
     /// How many commands were carried out, and how many objects were born, were freed and live.
     pub fn totals(&self) -> Totals
-        ensures { result ≡ self.now.totals }
+        ensures { result ≡ totals_in self.now }
     {
-        let live = self.objects.len() as u32;
         Totals {
             commands: self.commands,
-            born: live,
-            freed: 0,
-            live,
+            born: self.born,
+            freed: self.freed,
+            live: self.born - self.freed,
         }
     }
 
-    /// Gives all memory back. No finalizer runs.
-    pub fn close(self) {
-        let Gc {
-            settings: _,
-            memory: _,
-            objects: _,
-            stack: _,
-            commands: _,
-        } = self;
+    /// Its objects, to read.
+    pub fn heap(&self) -> &Heap
+        ensures { result.now ≡ self.now.region.heap }
+    {
+        &self.region.heap
+    }
+
+    pub fn stack(&self) -> &Stack
+        ensures { result.now ≡ self.now.stack }
+    {
+        &self.stack
+    }
+
+    pub fn areas(&self) -> &Areas
+        ensures { result.now ≡ self.now.region.areas }
+    {
+        &self.region.areas
+    }
+
+    /// At so many zero-count objects a command reaps at its end.
+    pub fn threshold(&self) -> u32
+        ensures value { result ≡ self.now.threshold }
+        ensures counts { KeepsCounts self.now }
+    {
+        self.threshold
+    }
+
+    /// How many pages the region has: at least those of the settings, and as many as its objects and areas need.
+    pub fn pages(&self) -> u32
+        ensures { result ≡ view_region_pages (view_of_gc self.now) }
+    {
+        self.region.heap.size()
+    }
+
+    /// Whether a cycle of marking runs.
+    pub fn running(&self) -> bool
+        ensures { result ≡ self.now.marker.running }
+    {
+        self.marker.running()
     }
 }

@@ -1,22 +1,22 @@
-//! The heap: it carries out commands, and each is a step of the model.
+//! The whole heap: it carries out commands, and each is a step of the model.
 #![tactic(auto)]
 
-mod calls;
-mod commands;
+mod area_cells;
+mod closing;
+mod cycles;
+mod execute;
+mod freeing;
 mod gc;
-mod journal;
-mod object;
-mod placement;
+mod making;
+mod phases;
+mod reading;
+mod region;
 mod reply;
-mod resolve;
+mod search;
 mod slots;
 mod stack;
-mod stage;
-mod stat;
-#[cfg(test)]
-mod tests;
+mod wanted;
 
 pub use gc::{Gc, NoMemory};
-pub use journal::{Finalizer, Journal};
 pub use mm_model::Settings;
-pub use stage::built;
+pub use mm_sweep::{Finalizer, Journal};

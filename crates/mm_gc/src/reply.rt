@@ -1,8 +1,8 @@
 // The replies that the answers of calls stand for.
 ghost use Rattle.std.specs.Prelude.{◌≡◌};
-ghost use Rattle.mm_gc.specs.BuiltView.{new_reply, done_reply, word_reply, put_reply, map_reply};
+ghost use Rattle.mm_gc.specs.Replies.{new_reply, done_reply, word_reply, put_reply, weak_reply, area_reply, map_reply};
 
-use mm_model::{Mapped, Put, Refusal, Reply};
+use mm_model::{AreaAnswer, Mapped, Put, Refusal, Reply, WeakAnswer};
 
 pub(crate) fn new_reply(answer: Result<u32, Refusal>) -> Reply
     ensures { result ≡ new_reply answer }
@@ -37,6 +37,25 @@ pub(crate) fn put_reply(answer: Result<Put, Refusal>) -> Reply
     match answer {
         Ok(Put::Tight) => Reply::Done,
         Ok(Put::Loose) => Reply::Loose,
+        Err(because) => Reply::Refused(because),
+    }
+}
+
+pub(crate) fn weak_reply(answer: Result<WeakAnswer, Refusal>) -> Reply
+    ensures { result ≡ weak_reply answer }
+{
+    match answer {
+        Ok(WeakAnswer::Made(base)) => Reply::New(base),
+        Ok(WeakAnswer::Kept(base)) => Reply::Word(base),
+        Err(because) => Reply::Refused(because),
+    }
+}
+
+pub(crate) fn area_reply(answer: Result<AreaAnswer, Refusal>) -> Reply
+    ensures { result ≡ area_reply answer }
+{
+    match answer {
+        Ok(area) => Reply::Area(area),
         Err(because) => Reply::Refused(because),
     }
 }

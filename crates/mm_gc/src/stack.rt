@@ -1,23 +1,61 @@
-// The stack of words, which grows at the end of its list.
-ghost use Rattle.std.specs.Prelude.{◌≡◌, ◌==◌, length, reverse, slice_get};
+// Commands on the stack alone.
+ghost use Rattle.std.specs.Prelude.{◌≡◌, ◌==◌, ◌<◌, ◌≤◌, length, nat_le, slice_index};
+ghost use Rattle.mm_model.specs.declared.command.Command.TheVariants as commands;
+ghost use Rattle.mm_gc.specs.Replies.{done_reply};
+ghost use Rattle.mm_gc.specs.Rows.{Answers};
+ghost use Rattle.mm_gc.specs.Refused.{CellAnswer, PushAnswer};
 
-use mm_model::Settings;
+use crate::gc::Gc;
+use mm_model::Refusal;
+use mm_steps::Steps;
+use std::sync::ledger::Ledger;
 
-/// The word of the cell with this index from the top.
-pub(crate) fn cell(stack: &[u32], index: u32) -> Option<u32>
-    ensures { result ≡ slice_get (reverse stack.now) index }
-{
-    let depth = stack.len();
-    let index = index as usize;
-    if depth <= index {
-        return None;
+impl Gc {
+    /// The word of a stack cell, named as everywhere by its index from the top.
+    pub(crate) fn cell<L: Ledger>(&self, i: u32, steps: &mut Steps<L>) -> Result<u32, Refusal>
+        ensures { CellAnswer self.now.stack.words i result }
+    {
+        if self.stack.depth() <= i {
+            return Err(Refusal::NoCell);
+        }
+        Ok(self.stack.cell(i, steps))
     }
-    Some(stack[depth - 1 - index])
-}
 
-/// Whether there is no room for one more cell.
-pub(crate) fn is_full(stack: &[u32], settings: &Settings) -> bool
-    ensures { result ≡ (length stack.now == settings.now.stack) }
-{
-    stack.len() == settings.stack as usize
+    /// Pushes a word, and answers it.
+    pub(crate) fn push_word(&mut self, word: u32) -> Result<u32, Refusal>
+        ensures { PushAnswer self.old self.new word result }
+    {
+        match self.stack.push(word) {
+            Ok(()) => Ok(word),
+            Err(_) => Err(Refusal::StackFull),
+        }
+    }
+
+    /// Pushes a word.
+    pub fn push(&mut self, w: u32) -> Result<(), Refusal>
+        ensures row { Answers self.old self.new (commands.Push w) (done_reply result) }
+    {
+        self.push_word(w)?;
+        Ok(())
+    }
+
+    /// Pushes a cell again.
+    pub fn dup<L: Ledger>(&mut self, i: u32, steps: &mut Steps<L>) -> Result<(), Refusal>
+        ensures row { Answers self.old self.new (commands.Dup i) (done_reply result) }
+    {
+        let word = self.cell(i, steps)?;
+        self.push_word(word)?;
+        Ok(())
+    }
+
+    /// Removes so many cells from the top.
+    pub fn pop(&mut self, k: u32) -> Result<(), Refusal>
+        ensures row { Answers self.old self.new (commands.Pop k) (done_reply result) }
+    {
+        if self.stack.depth() < k {
+            return Err(Refusal::NoCell);
+        }
+        self.stack.pop(k);
+        Ok(())
+    }
 }

@@ -1,7 +1,6 @@
 pub mod Cycle
 pub mod Decided
 pub mod Faithful
-pub mod FlatView
 pub mod Good
 pub mod Lists
 pub mod Places

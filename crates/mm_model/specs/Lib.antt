@@ -5,8 +5,6 @@ pub mod Count
 pub mod Course
 pub mod Effect
 pub mod Faithful
-pub mod FlatEffect
-pub mod FlatView
 pub mod Good
 pub mod GoodView
 pub mod Journal

@@ -84,7 +84,6 @@ fault_text faults.WordCount = codes "wrong number of words"
 fault_text faults.BadWord = codes "bad word"
 fault_text faults.BadNumber = codes "bad number"
 fault_text faults.LineTooLong = codes "line too long"
-fault_text faults.NotBuilt = codes "not built yet"
 
 -- the spelling of a log is that of its lines in order
 abbrev pub spelling_of : List Line → List ℕ

@@ -47,7 +47,4 @@ pub enum LineFault {
     BadNumber,
     #[error("line too long")]
     LineTooLong,
-    /// The line is a command that the manager can't carry out yet.
-    #[error("not built yet")]
-    NotBuilt,
 }

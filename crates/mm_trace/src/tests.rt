@@ -257,7 +257,6 @@ fn each_fault_has_its_text(rt: HostRuntime) {
         (LineFault::BadWord, "bad word"),
         (LineFault::BadNumber, "bad number"),
         (LineFault::LineTooLong, "line too long"),
-        (LineFault::NotBuilt, "not built yet"),
     ] {
         assert_eq!(rt; fault_text(fault), want);
     }

@@ -14,7 +14,6 @@ pub fn fault_text(fault: LineFault) -> &'static str
         LineFault::BadWord => "bad word",
         LineFault::BadNumber => "bad number",
         LineFault::LineTooLong => "line too long",
-        LineFault::NotBuilt => "not built yet",
     }
 }
 

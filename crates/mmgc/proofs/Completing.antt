@@ -2,14 +2,14 @@
 use Rattle.std.proofs.Common.{◌≡◌, ◌≢◌, ℕ, ◌≤◌, Bool, true, false, List, [], ◌∷◌, ◌++◌, codes, if◌then◌else◌, length, length-append, Option, Some, None, IsSome, refl, sym, ap, ◌∙◌, subst, append-nil, inl, inr, arith}
 use Rattle.std.specs.Prelude.{IfSome, ◌⊎◌}
 use Rattle.mm_model.specs.Trace.{lines_of, FaultAt}
-use Rattle.mm_model.specs.FlatView.{FlatView}
+use Rattle.mm_gc.specs.Gc.{Gc}
 use Rattle.mm_model.specs.declared.settings.Settings.{Settings}
 use Rattle.mm_io.specs.Faults.{Rose}
 use Rattle.mm_io.specs.Told.{Gives}
 use Rattle.mmgc.specs.Replaying.{reading_of, most_bytes}
-use Rattle.mmgc.specs.Completing.{IsTrace, IsUnhindered, IsComplete}
-use Rattle.mmgc.specs.Run.{Input, Output, NothingLeft, lines_seen, Replayed}
-use Rattle.mmgc.specs.Program.{Traffic, IsInput, Serves, Ran, status_of}
+use Rattle.mmgc.specs.Completing.{IsTrace, IsWholeInput, IsUnhindered, IsComplete}
+use Rattle.mmgc.specs.Run.{Input, Output, NothingLeft, lines_seen, IsWritten, Replayed}
+use Rattle.mmgc.specs.Program.{Traffic, Serves, Ran, status_of}
 use Rattle.clap.specs.Words.{takes}
 use Rattle.mmgc.specs.Words.{Choice, choice_of, choice_read, mmgc_app}
 use Rattle.mmgc.specs.declared.program.Outcome.{Outcome}
@@ -64,7 +64,7 @@ same_choice words read choice r of =
     read_by_values (takes mmgc_app (codes "mmgc" ∷ words)) (choice_of words) read choice r of
 
 -- Each end but that of a whole input needs what an unhindered replay doesn't have.
-module _ (settings : Settings) (input : Input) (output : Output) (heap : FlatView)
+module _ (settings : Settings) (input : Input) (output : Output) (heap : Gc)
     (trace : IfSome input.left IsTrace) (told : IsSome input.left_after) where
   ends_whole : (end : End) → Replayed end settings input output heap
       → (Rose input.faults input.faults_after → ⊥) → (Rose output.faults output.faults_after → ⊥) → status_of end ≡ 0
@@ -82,17 +82,33 @@ module _ (settings : Settings) (input : Input) (output : Output) (heap : FlatVie
       let over = r.cause.passes in
       absurd (omega (arith, fits, over))
 
+-- a total line that no write kept from its end
+generated_whole : (end : End) (output : Output) (text : List ℕ) → (Rose output.faults output.faults_after → ⊥)
+    → (end ≡ Whole) ⊎ (end ≡ WriteFailed) → IsWritten end output text → status_of end ≡ 0
+generated_whole end output text writes (inl whole) written = ap status_of whole
+generated_whole end output text writes (inr failed) written =
+    absurd (writes (subst (λ (e : End). IsWritten e output text) failed written).0)
+
 module _ (words : List (List ℕ)) (traffic : Traffic) (outcome : Outcome) (says : List ℕ → Type 0) where
+  -- what is known of the input that was asked for
+  input_of : (u : IsUnhindered words traffic) (choice : Choice) → u.choice ≡ choice → choice.generated ≡ None
+      → IsWholeInput choice.file traffic
+  input_of u choice same replays =
+      subst (λ (c : Choice). IsWholeInput c.file traffic) same
+      (u.input (ap (λ (c : Choice). c.generated) same ∙ replays))
+
   serves_complete : (choice : Choice) → choice_of words ≡ Some choice → Serves choice traffic outcome says
       → IsUnhindered words traffic → (outcome.status ≡ 0) ⊎ (outcome.status ≡ 5)
   serves_complete choice of (inl lacks) u = inr lacks.status
-  serves_complete choice of (inr (inl fails)) u = absurd (u.reads fails.cause)
-  serves_complete choice of (inr (inr r)) u =
-      let same : u.choice ≡ choice = same_choice words u.choice choice u.readable of in
-      let trace = u.trace r.bytes (subst (λ (c : Choice). IsInput c.file traffic.named traffic.input.left r.bytes)
-      (sym same) r.input) in
+  serves_complete choice of (inr (inl fails)) u =
+      let input = input_of u choice (same_choice words u.choice choice u.readable of) fails.replays in
+      absurd (input.reads fails.cause)
+  serves_complete choice of (inr (inr (inl r))) u =
+      let input = input_of u choice (same_choice words u.choice choice u.readable of) r.replays in
       inl (r.status ∙ ends_whole choice.settings (record traffic.input { left = r.bytes }) traffic.output r.heap
-      trace u.told r.end r.replayed u.reads u.writes)
+      (input.trace r.bytes r.input) input.told r.end r.replayed input.reads u.writes)
+  serves_complete choice of (inr (inr (inr r))) u =
+      inl (r.status ∙ generated_whole r.end traffic.output _ u.writes r.generated.ends.end_is r.generated.ends.written)
 
   -- nothing but want of memory keeps such a run from its end
   pub complete : Ran words traffic outcome says → IsComplete words traffic outcome.status

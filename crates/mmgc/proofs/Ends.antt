@@ -1,24 +1,23 @@
 -- Ends of a replay, as a whole and by turns.
 use Rattle.std.proofs.Common.{◌≡◌, ℕ, ◌+◌, ◌<◌, ◌≤◌, Bool, true, false, cond, List, [], ◌∷◌, ◌++◌, length, length-append, refl, sym, ap, ◌∙◌, subst, append-nil, ◌⊎◌, inl, inr, IsTrue, Option, Some, None, arith}
 use mathlib.Core.Path.{subst₂}
-use Rattle.mm_model.specs.declared.settings.Settings.{Settings}
 use Rattle.mm_model.specs.declared.line.Line.{Line}
 use Rattle.mm_model.specs.declared.line.Line.TheVariants as lines
 use Rattle.mm_model.specs.declared.line.Totals.{Totals}
 use Rattle.mm_model.specs.State.{State}
-use Rattle.mm_model.specs.FlatView.{FlatView}
 use Rattle.mm_model.specs.Journal.{Writes}
-use Rattle.mm_model.specs.Log.{IsLegal}
 use Rattle.mm_model.specs.Spelling.{spelling, spelling_of}
 use Rattle.mm_model.specs.Trace.{lines_of, complete_lines, FaultAt}
 use Rattle.mm_model.proofs.Text.Journals.{writes-append}
 use Rattle.mm_io.specs.Faults.{Rose}
 use Rattle.mm_io.specs.Told.{Appends, Gives}
 use Rattle.mm_io.proofs.ToldLemmas.{Gives-append}
-use Rattle.mm_gc.specs.Built.{Step}
+use Rattle.mm_gc.specs.Gc.{Gc, totals_in}
+use Rattle.mm_gc.specs.Rows.{Kept}
 use Rattle.mmgc.specs.Writing.{kept_bytes, Grows}
-use Rattle.mmgc.specs.Replaying.{reading_of, most_bytes, Kept, Grew, GrewSince, Start, Moment, Stopped, Progress}
+use Rattle.mmgc.specs.Replaying.{reading_of, most_bytes, Grew, GrewSince, Start, Moment, Stopped, Progress}
 use Rattle.mmgc.specs.Run.{Input, Output, Reach, lines_in, NothingLeft, HasCause, IsFaultOf, IsLogOf, IsWritten, Replayed, Ended, Logged}
+use Rattle.mmgc.specs.Generating.{EndsWritten}
 use Rattle.mmgc.specs.declared.replay.End.{End}
 use Rattle.mmgc.specs.declared.replay.End.TheVariants.{Whole, Fault, ReadFailed, WriteFailed, TooLong}
 use Rattle.mmgc.proofs.Replays.{spelling_of-append, progress-stopped}
@@ -32,7 +31,7 @@ rose-since earlier before now l h = omega arith
 module _ {start : Start} {bytes : List ℕ} {input : Input} {now : Moment}
     (given : Gives input.left input.left_after []) (nothing_left : NothingLeft input.left_after)
     (clean : input.faults_after ≡ input.faults) where
-  pub ended-whole : Stopped start (lines_of bytes) None now.view now.kept → Ended Whole start bytes input now
+  pub ended-whole : Stopped start (lines_of bytes) None now.heap now.kept → Ended Whole start bytes input now
   ended-whole s =
       record {
         reach = record { read = bytes; over = []; at_end = true };
@@ -47,7 +46,7 @@ module _ {start : Start} {bytes : List ℕ} {input : Input} {now : Moment}
         stopped = s;
       }
 
-  pub ended-last_fault : (fault : FaultAt) → Stopped start (lines_of bytes) (Some fault) now.view now.kept →
+  pub ended-last_fault : (fault : FaultAt) → Stopped start (lines_of bytes) (Some fault) now.heap now.kept →
       Ended (Fault fault.line fault.fault) start bytes input now
   ended-last_fault fault s =
       record {
@@ -66,7 +65,7 @@ module _ {start : Start} {bytes : List ℕ} {input : Input} {now : Moment}
 -- A piece of an input has a line with a fault, or is too much.
 module _ {start : Start} {bytes : List ℕ} {input : Input} {now : Moment} (piece : List ℕ)
     (given : Gives input.left input.left_after piece) (clean : input.faults_after ≡ input.faults) where
-  pub ended-fault : (fault : FaultAt) → Stopped start (complete_lines (bytes ++ piece)) (Some fault) now.view now.kept →
+  pub ended-fault : (fault : FaultAt) → Stopped start (complete_lines (bytes ++ piece)) (Some fault) now.heap now.kept →
       Ended (Fault fault.line fault.fault) start bytes input now
   ended-fault fault s =
       record {
@@ -176,75 +175,76 @@ ended-since {end} {bytes = bytes} {input = input} left faults given e ended =
     }
 
 -- the total line makes a legal log whole
-pub logged-whole : {start : Start} (reach : Reach) {view : FlatView} {kept after : Kept} (totals : Totals) →
-    Stopped start (lines_in reach) None view kept → totals ≡ view.totals →
+pub logged-whole : {start : Start} (reach : Reach) {heap : Gc} {kept after : Kept} (totals : Totals) →
+    Stopped start (lines_in reach) None heap kept → totals ≡ totals_in heap →
     Grew kept after (spelling (lines.Total totals)) →
-    Logged (IsLogOf Whole start.settings reach) start view after
+    Logged Whole start reach heap after
 logged-whole {start} reach {after = after} totals s t w =
     let line = lines.Total totals in
     let text : spelling_of s.log ++ spelling line ≡ spelling_of (s.log ++ line ∷ []) =
     ap (λ x. spelling_of s.log ++ x) (sym (append-nil (spelling line)))
     ∙ sym (spelling_of-append s.log (line ∷ [])) in
     record {
-      log = s.log ++ line ∷ [];
+      groups = s.log;
       state = s.carried.state;
-      logged = record {
-        groups = s.log;
-        legal = s.carried.legal;
-        total = ap (λ (x : Totals). s.log ++ lines.Total x ∷ []) (t ∙ s.carried.shows.totals);
-      };
+      legal = s.carried.legal;
       good = s.carried.good;
       shows = s.carried.shows;
+      log = s.log ++ line ∷ [];
+      log_is = ap (λ (x : Totals). s.log ++ lines.Total x ∷ []) (t ∙ s.carried.shows.totals);
       written = subst (GrewSince start after) text
           (writes-append (spelling_of s.log) (spelling line) s.written w);
     }
 
--- a legal log is that of every other end
-legal_is : (end : End) (settings : Settings) (reach : Reach) (log : List Line) (state : State) →
-    (end ≡ Whole → ⊥) → IsLegal Step settings (reading_of (lines_in reach)).commands log state →
-    IsLogOf end settings reach log state
-legal_is Whole settings reach log state other l = absurd (other refl)
-legal_is (Fault line fault) settings reach log state other l = l
-legal_is ReadFailed settings reach log state other l = l
-legal_is WriteFailed settings reach log state other l = inl l
-legal_is TooLong settings reach log state other l = l
+-- the lines of the commands are the log of every other end
+log_is-other : (end : End) (reach : Reach) (groups : List Line) (state : State) → (end ≡ Whole → ⊥) →
+    IsLogOf end reach groups state groups
+log_is-other Whole reach groups state other = absurd (other refl)
+log_is-other (Fault line fault) reach groups state other = refl
+log_is-other ReadFailed reach groups state other = refl
+log_is-other WriteFailed reach groups state other = inl refl
+log_is-other TooLong reach groups state other = refl
 
-pub logged-other : (end : End) {start : Start} (reach : Reach) {fault : Option FaultAt} {view : FlatView} {kept : Kept} →
-    (end ≡ Whole → ⊥) → Stopped start (lines_in reach) fault view kept →
-    Logged (IsLogOf end start.settings reach) start view kept
+pub logged-other : (end : End) {start : Start} (reach : Reach) {fault : Option FaultAt} {heap : Gc} {kept : Kept} →
+    (end ≡ Whole → ⊥) → Stopped start (lines_in reach) fault heap kept →
+    Logged end start reach heap kept
 logged-other end {start} reach other s =
     record {
-      log = s.log;
+      groups = s.log;
       state = s.carried.state;
-      logged = legal_is end start.settings reach s.log s.carried.state other s.carried.legal;
+      legal = s.carried.legal;
       good = s.carried.good;
       shows = s.carried.shows;
+      log = s.log;
+      log_is = log_is-other end reach s.log s.carried.state other;
       written = s.written;
     }
 
 -- a journal that writes nothing more
-pub logged-settled : {is_log : List Line → State → Type 0} {start : Start} {view : FlatView} {kept after : Kept} →
-    Logged is_log start view kept → Grew kept after [] → Logged is_log start view after
+pub logged-settled : {end : End} {start : Start} {reach : Reach} {heap : Gc} {kept after : Kept} →
+    Logged end start reach heap kept → Grew kept after [] → Logged end start reach heap after
 logged-settled {start = start} {after = after} l w =
     record {
-      log = l.log;
+      groups = l.groups;
       state = l.state;
-      logged = l.logged;
+      legal = l.legal;
       good = l.good;
       shows = l.shows;
+      log = l.log;
+      log_is = l.log_is;
       written = subst (GrewSince start after) (append-nil (spelling_of l.log))
           (writes-append (spelling_of l.log) [] l.written w);
     }
 
 -- the log of any end is one that a failed write may have cut short
-cut_short : (end : End) (settings : Settings) (reach : Reach) (input : Input) (log : List Line) (state : State) →
+cut_short : (end : End) (reach : Reach) (input : Input) (groups : List Line) (state : State) (log : List Line) →
     HasCause end reach input → IsFaultOf end (reading_of (lines_in reach)).fault →
-    IsLogOf end settings reach log state → IsLogOf WriteFailed settings reach log state
-cut_short Whole settings reach input log state cause none l = inr (cause.0, none, l)
-cut_short (Fault line fault) settings reach input log state cause found l = inl l
-cut_short ReadFailed settings reach input log state cause none l = inl l
-cut_short WriteFailed settings reach input log state cause any l = l
-cut_short TooLong settings reach input log state cause none l = inl l
+    IsLogOf end reach groups state log → IsLogOf WriteFailed reach groups state log
+cut_short Whole reach input groups state log cause none l = inr (cause.0, none, l)
+cut_short (Fault line fault) reach input groups state log cause found l = inl l
+cut_short ReadFailed reach input groups state log cause none l = inl l
+cut_short WriteFailed reach input groups state log cause any l = l
+cut_short TooLong reach input groups state log cause none l = inl l
 
 all_written : (end : End) (output : Output) (text : List ℕ) → (end ≡ WriteFailed → ⊥) →
     output.faults_after ≡ output.faults → Appends output.taken output.taken_after text → IsWritten end output text
@@ -264,14 +264,14 @@ abbrev kept_at : Option (List ℕ) → Bool → List ℕ → Kept
 kept_at taken broken pending = record { bytes = kept_bytes taken broken pending; broken = broken }
 
 -- what is known of the journal and its sink, where the log was finished
-pub record Finished (output : Output) (start : Start) (broken : Bool) (pending : List ℕ) : Type 0 where
-  pub started : start.kept ≡ kept_bytes output.taken false []
+pub record Finished (output : Output) (kept : Option (List ℕ)) (broken : Bool) (pending : List ℕ) : Type 0 where
+  pub started : kept ≡ kept_bytes output.taken false []
   pub nothing_pending : broken ≡ false → pending ≡ []
   pub grows : Grows output.taken output.taken_after
   pub cause : IsTrue broken → Rose output.faults output.faults_after
   pub clean : broken ≡ false → output.faults_after ≡ output.faults
 
-module _ {end : End} {start : Start} {input : Input} {now : Moment} (output : Output) (view : FlatView)
+module _ {end : End} {start : Start} {input : Input} {now : Moment} (output : Output) (heap : Gc)
     (ended : Ended end start [] input now) where
   given_all : Gives input.left input.left_after (ended.reach.read ++ ended.reach.over)
   given_all = subst (Gives input.left input.left_after) (sym ended.bytes_are) ended.given
@@ -281,38 +281,42 @@ module _ {end : End} {start : Start} {input : Input} {now : Moment} (output : Ou
 
   -- by whether the journal is broken in the end
   pub replayed : (broken : Bool) (pending : List ℕ) (result : End) → result ≡ cond broken WriteFailed end →
-      (end ≡ WriteFailed → IsTrue broken) → Finished output start broken pending →
-      Logged (IsLogOf end start.settings ended.reach) start view (kept_at output.taken_after broken pending) →
-      Replayed result start.settings input output view
+      (end ≡ WriteFailed → IsTrue broken) → Finished output start.kept broken pending →
+      Logged end start ended.reach heap (kept_at output.taken_after broken pending) →
+      Replayed result start.settings input output heap
   replayed false pending result is still f l =
-      subst (λ r. Replayed r start.settings input output view) (sym is) (record {
+      subst (λ r. Replayed r start.settings input output heap) (sym is) (record {
         reach = ended.reach;
         given = given_all;
         nothing_left = ended.nothing_left;
         cause = ended.cause;
         fault_is = fault_is;
-        log = l.log;
+        groups = l.groups;
         state = l.state;
-        logged = l.logged;
+        legal = l.legal;
         good = l.good;
         shows = l.shows;
+        log = l.log;
+        log_is = l.log_is;
         written = all_written end output (spelling_of l.log) (λ e. let lost = still e in cc lost) (f.clean refl)
             (settled output.taken output.taken_after (spelling_of l.log)
             (subst₂ (λ x y. Writes x false y false (spelling_of l.log)) f.started
             (ap (kept_bytes output.taken_after false) (f.nothing_pending refl)) l.written));
       })
   replayed true pending result is still f l =
-      subst (λ r. Replayed r start.settings input output view) (sym is) (record {
+      subst (λ r. Replayed r start.settings input output heap) (sym is) (record {
         reach = ended.reach;
         given = given_all;
         nothing_left = ended.nothing_left;
         cause = tt;
         fault_is = tt;
-        log = l.log;
+        groups = l.groups;
         state = l.state;
-        logged = cut_short end start.settings ended.reach input l.log l.state ended.cause fault_is l.logged;
+        legal = l.legal;
         good = l.good;
         shows = l.shows;
+        log = l.log;
+        log_is = cut_short end ended.reach input l.groups l.state l.log ended.cause fault_is l.log_is;
         written = (
           f.cause refl,
           broken_front output.taken output.taken_after pending (spelling_of l.log)
@@ -320,3 +324,28 @@ module _ {end : End} {start : Start} {input : Input} {now : Moment} (output : Ou
               f.started l.written) f.grows,
         );
       })
+
+-- A text that was written alone, by whether the journal is broken in the end.
+pub text_written : (output : Output) (kept : Option (List ℕ)) (text : List ℕ) (broken : Bool) (pending : List ℕ)
+    (end : End) → end ≡ cond broken WriteFailed Whole → Finished output kept broken pending →
+    Writes kept false (kept_bytes output.taken_after broken pending) broken text → EndsWritten end output text
+text_written output kept text false pending end is f w =
+    subst (λ e. EndsWritten e output text) (sym is) (record {
+      end_is = inl refl;
+      written = (
+        f.clean refl,
+        settled output.taken output.taken_after text
+            (subst₂ (λ x y. Writes x false y false text) f.started
+            (ap (kept_bytes output.taken_after false) (f.nothing_pending refl)) w),
+      );
+    })
+text_written output kept text true pending end is f w =
+    subst (λ e. EndsWritten e output text) (sym is) (record {
+      end_is = inr refl;
+      written = (
+        f.cause refl,
+        broken_front output.taken output.taken_after pending text
+            (subst (λ x. Writes x false (kept_bytes output.taken_after true pending) true text) f.started w)
+            f.grows,
+      );
+    })

@@ -1,8 +1,10 @@
 pub mod Completing
 pub mod Ends
 pub mod FrontFaults
+pub mod GeneratedTraces
 pub mod Reading
 pub mod Replays
+pub mod StepNumbers
 pub mod Telling
 pub mod Unhindered
 pub mod WritingLemmas

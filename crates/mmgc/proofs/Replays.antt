@@ -6,43 +6,38 @@ use Rattle.std.proofs.lemmas.List.{length_push, length-take-le, drop_more, take_
 use Rattle.std.proofs.lemmas.List.Concat.{flat_map-append}
 use Rattle.std.specs.Prelude.{nat_lt}
 use Rattle.mm_model.specs.declared.command.Command.{Command}
-use Rattle.mm_model.specs.declared.command.Command.TheVariants as commands
 use Rattle.mm_model.specs.declared.refusal.LineFault.{LineFault}
 use Rattle.mm_model.specs.declared.refusal.LineFault.TheVariants.{LineTooLong}
 use Rattle.mm_model.specs.declared.reply.Reply.{Reply}
 use Rattle.mm_model.specs.declared.line.Line.{Line}
 use Rattle.mm_model.specs.declared.line.Line.TheVariants as lines
-use Rattle.mm_model.specs.declared.refusal.Refusal.{Refusal}
 use Rattle.mm_model.specs.declared.line.Totals.{Totals}
-use Rattle.mm_model.specs.SizeClass.{object_bytes}
-use Rattle.mm_model.specs.Place.{Objects}
-use Rattle.mm_model.specs.Search.{place_grown}
-use Rattle.mm_model.specs.Refusing.{refusal}
-use Rattle.mm_model.specs.Effect.{Effect}
 use Rattle.mm_model.specs.State.{State, empty_state}
 use Rattle.mm_model.specs.Good.{IsGood}
 use Rattle.mm_model.specs.Log.{Steps, IsRun}
-use Rattle.mm_model.specs.FlatView.{FlatView, FlatShows}
+use Rattle.mm_model.specs.View.{Shows}
+use Rattle.mm_model.specs.Step.{IsStep}
+use Rattle.mm_model.specs.After.{after}
 use Rattle.mm_model.specs.Spelling.{spelling, spelling_of}
 use Rattle.mm_model.specs.Trace.{line_reading, words_reading, words_of, is_comment, complete_lines, lines_of, Reading, FaultAt}
 use Rattle.mm_model.proofs.Good.Starting.{empty_is_good}
-use Rattle.mm_model.proofs.Good.Numbers.{BearsFew, bears_few-new, bears_few-plain}
 use Rattle.mm_model.proofs.Text.Journals.{writes-none, writes-append}
 use Rattle.mm_model.proofs.Text.Traces.{Cuts, Cuts-none, Cuts-byte, Cuts-newline}
 use Rattle.mm_model.proofs.Text.Faults.{fault_at_end, reading-end-none, reading-end-nothing, reading-end-command, complete_lines-held, fault_at_newline, fault_too_long, reading-next-nothing, reading-next-command, lines-fewer, commands-fewer}
 use Rattle.mm_trace.specs.Held.{Held, nothing_held, at_end, with_byte}
-use Rattle.mm_gc.specs.Built.{Step, carried_effect, unless_refused, built_effect, after}
-use Rattle.mm_gc.specs.Execution.{IsStep, Executes}
+use Rattle.mm_gc.specs.Gc.{Gc, view_of_gc, totals_in}
+use Rattle.mm_gc.specs.Rows.{IsStepOf, Executes, Kept}
 use Rattle.mm_model.specs.declared.settings.Settings.{Settings}
-use Rattle.mmgc.specs.Replaying.{built_reading, only_built, reading_of, CarriedOut, Stopped, Progress, DoesLine, CarriesOut, GoesOn, IsUnderWay, most_bytes, Kept, Grew, GrewSince, Start, Moment, IsNew}
+use Rattle.mmgc.specs.Replaying.{reading_of, CarriedOut, Stopped, Progress, DoesLine, CarriesOut, GoesOn, IsUnderWay, most_bytes, Grew, GrewSince, Start, Moment, IsNew}
+use Rattle.mmgc.proofs.StepNumbers.{step_counts_one}
 
 -- one log after another
 pub spelling_of-append : (xs ys : List Line) → spelling_of (xs ++ ys) ≡ spelling_of xs ++ spelling_of ys
 spelling_of-append xs ys = flat_map-append spelling xs ys
 
 -- a command was executed, and its reply was written
-pub carries_out : {old new : FlatView} {command : Command} {reply : Reply} {before between after : Kept} →
-    Executes old new command reply before.bytes before.broken between.bytes between.broken →
+pub carries_out : {old new : Gc} {command : Command} {reply : Reply} {before between after : Kept} →
+    Executes old new command reply before between →
     Grew between after (spelling (lines.Reply reply)) → CarriesOut old new command before after
 carries_out {reply = reply} {before = before} {after = after} e w =
     let text : spelling_of e.before_reply ++ spelling (lines.Reply reply) ≡ spelling_of
@@ -77,32 +72,19 @@ run-push Step a (c ∷ commands) log b command group d run step = (
   run-push Step run.2 commands run.1 b command group d run.5 step,
 )
 
--- a built command bears at most one object and counts no command
-few_unless : (a : State) (effect : Effect) → BearsFew a effect → (because : Option Refusal) →
-    BearsFew a (unless_refused because a effect)
-few_unless a effect few None = few
-few_unless a effect few (Some because) = record { births = omega arith; commands = refl; settings = refl }
-
-few_carried : (a : State) (command : Command) → BearsFew a (carried_effect a command)
-few_carried a (commands.New shape) = bears_few-new a shape (place_grown a Objects (object_bytes shape.slots))
-few_carried a command = bears_few-plain a command
-
-few_built : (a : State) (command : Command) → BearsFew a (built_effect a command)
-few_built a command = few_unless a (carried_effect a command) (few_carried a command) (refusal a command)
-
 -- the commands so far and one more
-pub carried_out-push : {settings : Settings} {commands : List Command} {log : List Line} {old new : FlatView}
+pub carried_out-push : {settings : Settings} {commands : List Command} {log : List Line} {old new : Gc}
     {command : Command} {group : List Line} →
     CarriedOut settings commands log old →
-    ((a : State) → IsGood a → FlatShows old a → IsStep new command group a) →
+    ((a : State) → IsGood a → Shows (view_of_gc old) a → IsStepOf (view_of_gc new) command group a) →
     CarriedOut settings (commands ++ command ∷ []) (log ++ group) new
 carried_out-push {settings} {commands} {log} {command = command} {group = group} c step =
     let s = step c.state c.good c.shows in
     let more = length_push commands command in
-    let few = few_built c.state command in
+    let few = step_counts_one c.state command group (after c.state command group) s.step in
     record {
       state = after c.state command group;
-      legal = run-push Step (empty_state settings) commands log c.state command group
+      legal = run-push IsStep (empty_state settings) commands log c.state command group
           (after c.state command group) c.legal s.step;
       good = s.good;
       shows = s.shows;
@@ -110,13 +92,13 @@ carried_out-push {settings} {commands} {log} {command = command} {group = group}
       births = omega (arith, more, few.births, c.births);
     }
 
--- how the numbers of a view stand to its commands
-pub record Counted (view : FlatView) (commands : List Command) : Type 0 where
-  pub commands_are : view.totals.commands ≡ length commands
-  pub births_are : view.totals.born ≤ length commands
+-- how the numbers of a heap stand to its commands
+pub record Counted (heap : Gc) (commands : List Command) : Type 0 where
+  pub commands_are : (totals_in heap).commands ≡ length commands
+  pub births_are : (totals_in heap).born ≤ length commands
 
-pub counted : {settings : Settings} {commands : List Command} {log : List Line} {view : FlatView} →
-    CarriedOut settings commands log view → Counted view commands
+pub counted : {settings : Settings} {commands : List Command} {log : List Line} {heap : Gc} →
+    CarriedOut settings commands log heap → Counted heap commands
 counted {commands = commands} c =
     record {
       commands_are = ap (λ (totals : Totals). totals.commands) c.shows.totals ∙ c.counted;
@@ -131,15 +113,15 @@ cuts p = record { whole = p.whole; lines_clean = p.done_clean; held_clean = p.he
 
 -- the numbers that a replay counts have room for what may still come
 pub record HasRoom (now : Moment) (more : ℕ) : Type 0 where
-  pub commands : now.view.totals.commands + more ≤ most_bytes
-  pub births : now.view.totals.born + more ≤ most_bytes
+  pub commands : (totals_in now.heap).commands + more ≤ most_bytes
+  pub births : (totals_in now.heap).born + more ≤ most_bytes
   pub lines : now.lines + more ≤ most_bytes
 
 pub has_room : {now : Moment} {more : ℕ} → IsUnderWay now more → HasRoom now more
 has_room {now} {more} way =
     let p = way.progress in
     let few = lines-fewer way.bytes p.done now.held.bytes (cuts p) in
-    let fewer = commands-fewer built_reading 1 p.done in
+    let fewer = commands-fewer line_reading 1 p.done in
     let c = counted p.stopped.carried in
     record {
       commands = omega (arith, few, fewer, c.commands_are, way.room);
@@ -148,16 +130,16 @@ has_room {now} {more} way =
     }
 
 -- the same log for the same reading
-stopped-reading : {start : Start} {lines more : List (List ℕ)} {fault : Option FaultAt} {view : FlatView}
+stopped-reading : {start : Start} {lines more : List (List ℕ)} {fault : Option FaultAt} {heap : Gc}
     {kept : Kept} →
-    Stopped start lines None view kept →
+    Stopped start lines None heap kept →
     reading_of more ≡ record { commands = (reading_of lines).commands; fault = fault } →
-    Stopped start more fault view kept
-stopped-reading {start} {view = view} s e =
+    Stopped start more fault heap kept
+stopped-reading {start} {heap = heap} s e =
     record {
       fault_is = ap (λ (r : Reading). r.fault) e;
       log = s.log;
-      carried = subst (λ commands. CarriedOut start.settings commands s.log view)
+      carried = subst (λ commands. CarriedOut start.settings commands s.log heap)
           (sym (ap (λ (r : Reading). r.commands) e)) s.carried;
       written = s.written;
     }
@@ -191,37 +173,36 @@ progress-byte {bytes = bytes} {now = now} byte p other room =
     }
 
 -- a line that is too long
-pub too_long : (line : List ℕ) → 1024 < length line → built_reading line ≡ Err LineTooLong
-unfolding built_reading line_reading
+pub too_long : (line : List ℕ) → 1024 < length line → line_reading line ≡ Err LineTooLong
+unfolding line_reading
 too_long line long =
     let passes : nat_lt 1024 (length line) ≡ true = grind (arith, nat_tests) in
-    ap (λ b. only_built (cond b (Err LineTooLong) (cond (is_comment line) (Ok None)
-    (words_reading (words_of line))))) passes
+    ap (λ b. cond b (Err LineTooLong) (cond (is_comment line) (Ok None) (words_reading (words_of line)))) passes
 
 pub stopped-too_long : {start : Start} {bytes : List ℕ} {now : Moment} (byte : ℕ) (rest : List ℕ) →
     Progress start bytes now → byte ≢ 10 → length now.held.bytes ≡ 1024 →
     Stopped start (complete_lines (bytes ++ byte ∷ rest))
-    (Some (record { line = now.lines + 1; fault = LineTooLong })) now.view now.kept
+    (Some (record { line = now.lines + 1; fault = LineTooLong })) now.heap now.kept
 stopped-too_long {bytes = bytes} {now = now} byte rest p other full =
-    stopped-reading p.stopped (fault_too_long built_reading bytes p.done now.held.bytes byte rest (cuts p)
+    stopped-reading p.stopped (fault_too_long line_reading bytes p.done now.held.bytes byte rest (cuts p)
     p.stopped.fault_is full other too_long
     ∙ fault_next LineTooLong p)
 
 -- a whole line with a fault
 pub stopped-line : {start : Start} {bytes : List ℕ} {now : Moment} (fault : LineFault) (rest : List ℕ) →
-    Progress start bytes now → built_reading now.held.bytes ≡ Err fault →
+    Progress start bytes now → line_reading now.held.bytes ≡ Err fault →
     Stopped start (complete_lines (bytes ++ 10 ∷ rest))
-    (Some (record { line = now.lines + 1; fault = fault })) now.view now.kept
+    (Some (record { line = now.lines + 1; fault = fault })) now.heap now.kept
 stopped-line {bytes = bytes} {now = now} fault rest p e =
-    stopped-reading p.stopped (fault_at_newline built_reading bytes p.done now.held.bytes rest fault (cuts p)
+    stopped-reading p.stopped (fault_at_newline line_reading bytes p.done now.held.bytes rest fault (cuts p)
     p.stopped.fault_is e
     ∙ fault_next fault p)
 
 -- one more line that went well
-next_line : {start : Start} {bytes : List ℕ} {now : Moment} {view : FlatView} {kept : Kept}
-    (p : Progress start bytes now) → Stopped start (p.done ++ now.held.bytes ∷ []) None view kept →
+next_line : {start : Start} {bytes : List ℕ} {now : Moment} {heap : Gc} {kept : Kept}
+    (p : Progress start bytes now) → Stopped start (p.done ++ now.held.bytes ∷ []) None heap kept →
     Progress start (bytes ++ 10 ∷ [])
-    (record { view = view; held = nothing_held; lines = now.lines + 1; kept = kept })
+    (record { heap = heap; held = nothing_held; lines = now.lines + 1; kept = kept })
 next_line {bytes = bytes} {now = now} p s =
     let more = length_push p.done now.held.bytes in
     let cut = Cuts-newline bytes p.done now.held.bytes (cuts p) in
@@ -237,9 +218,9 @@ next_line {bytes = bytes} {now = now} p s =
     }
 
 -- a command was carried out after these lines
-pub stopped-command : {start : Start} {lines more : List (List ℕ)} {command : Command} {view new : FlatView}
+pub stopped-command : {start : Start} {lines more : List (List ℕ)} {command : Command} {heap new : Gc}
     {kept after : Kept} →
-    Stopped start lines None view kept → CarriesOut view new command kept after →
+    Stopped start lines None heap kept → CarriesOut heap new command kept after →
     reading_of more ≡ record { commands = (reading_of lines).commands ++ command ∷ []; fault = None } →
     Stopped start more None new after
 stopped-command {start} {new = new} {after = after} s c e =
@@ -253,29 +234,29 @@ stopped-command {start} {new = new} {after = after} s c e =
     }
 
 -- What a whole line, or the rest of the input as a line, came to.
-module _ {start : Start} {bytes : List ℕ} {now : Moment} {view : FlatView} {kept : Kept}
-    {Unchanged : Type 0} (same : Unchanged → (view ≡ now.view) × (kept ≡ now.kept))
+module _ {start : Start} {bytes : List ℕ} {now : Moment} {heap : Gc} {kept : Kept}
+    {Unchanged : Type 0} (same : Unchanged → (heap ≡ now.heap) × (kept ≡ now.kept))
     (p : Progress start bytes now) (result : Result (Unit {0}) LineFault) where
   abbrev Did : Result (Option Command) LineFault → Type 0
-  Did reading = DoesLine reading result Unchanged (λ command. CarriesOut now.view view command now.kept kept)
+  Did reading = DoesLine reading result Unchanged (λ command. CarriesOut now.heap heap command now.kept kept)
 
   -- where a fault leaves all as it was
   unchanged : {lines : List (List ℕ)} {fault : Option FaultAt} → Unchanged →
-      Stopped start lines fault now.view now.kept → Stopped start lines fault view kept
+      Stopped start lines fault now.heap now.kept → Stopped start lines fault heap kept
   unchanged {lines} {fault} u s =
       let e = same u in
       subst (λ v. Stopped start lines fault v kept) (sym e.0)
-      (subst (Stopped start lines fault now.view) (sym e.1) s)
+      (subst (Stopped start lines fault now.heap) (sym e.1) s)
 
   abbrev More : ℕ → Held → ℕ → Type 0
   More byte held lines = Progress start (bytes ++ byte ∷ [])
-      (record { view = view; held = held; lines = lines; kept = kept })
+      (record { heap = heap; held = held; lines = lines; kept = kept })
 
   abbrev Fault : ℕ → ℕ → LineFault → Type 0
   Fault byte lines fault = (rest : List ℕ) →
-      Stopped start (complete_lines (bytes ++ byte ∷ rest)) (Some (record { line = lines; fault = fault })) view kept
+      Stopped start (complete_lines (bytes ++ byte ∷ rest)) (Some (record { line = lines; fault = fault })) heap kept
 
-  line_read : (reading : Result (Option Command) LineFault) → built_reading now.held.bytes ≡ reading → Did reading →
+  line_read : (reading : Result (Option Command) LineFault) → line_reading now.held.bytes ≡ reading → Did reading →
       GoesOn result (More 10 nothing_held (now.lines + 1)) (Fault 10 (now.lines + 1))
   line_read (Err fault) is d =
       subst (λ r. GoesOn r (More 10 nothing_held (now.lines + 1)) (Fault 10 (now.lines + 1))) (sym d.0)
@@ -283,46 +264,46 @@ module _ {start : Start} {bytes : List ℕ} {now : Moment} {view : FlatView} {ke
   line_read (Ok None) is d =
       subst (λ r. GoesOn r (More 10 nothing_held (now.lines + 1)) (Fault 10 (now.lines + 1))) (sym d.0)
       (next_line p (unchanged d.1 (stopped-reading p.stopped
-      (reading-next-nothing built_reading p.done now.held.bytes p.stopped.fault_is is))))
+      (reading-next-nothing line_reading p.done now.held.bytes p.stopped.fault_is is))))
   line_read (Ok (Some command)) is d =
       subst (λ r. GoesOn r (More 10 nothing_held (now.lines + 1)) (Fault 10 (now.lines + 1))) (sym d.0)
       (next_line p (stopped-command p.stopped d.1
-      (reading-next-command built_reading p.done now.held.bytes command p.stopped.fault_is is)))
+      (reading-next-command line_reading p.done now.held.bytes command p.stopped.fault_is is)))
 
   pub goes-on-line : (byte lines : ℕ) (pushed next : Held) → byte ≡ 10 → pushed ≡ at_end now.held →
-      next ≡ nothing_held → lines ≡ now.lines + 1 → Did (built_reading pushed.bytes) →
+      next ≡ nothing_held → lines ≡ now.lines + 1 → Did (line_reading pushed.bytes) →
       GoesOn result (More byte next lines) (Fault byte lines)
   goes-on-line byte lines pushed next b e n l d =
-      let read = subst (λ (h : Held). Did (built_reading h.bytes)) e d in
+      let read = subst (λ (h : Held). Did (line_reading h.bytes)) e d in
       subst₃ (λ b n l. GoesOn result (More b n l) (Fault b l)) (sym b) (sym n) (sym l)
-      (line_read (built_reading now.held.bytes) refl read)
+      (line_read (line_reading now.held.bytes) refl read)
 
   abbrev AtEnd : Type 0
-  AtEnd = Stopped start (lines_of bytes) None view kept
+  AtEnd = Stopped start (lines_of bytes) None heap kept
 
   abbrev FaultAtEnd : ℕ → LineFault → Type 0
-  FaultAtEnd lines fault = Stopped start (lines_of bytes) (Some (record { line = lines; fault = fault })) view kept
+  FaultAtEnd lines fault = Stopped start (lines_of bytes) (Some (record { line = lines; fault = fault })) heap kept
 
   rest_read : 0 < length now.held.bytes → (reading : Result (Option Command) LineFault) →
-      built_reading now.held.bytes ≡ reading → Did reading → GoesOn result AtEnd (FaultAtEnd (now.lines + 1))
+      line_reading now.held.bytes ≡ reading → Did reading → GoesOn result AtEnd (FaultAtEnd (now.lines + 1))
   rest_read some (Err fault) is d =
       subst (λ r. GoesOn r AtEnd (FaultAtEnd (now.lines + 1))) (sym d.0)
-      (unchanged d.1 (stopped-reading p.stopped (fault_at_end built_reading bytes p.done now.held.bytes fault (cuts p)
+      (unchanged d.1 (stopped-reading p.stopped (fault_at_end line_reading bytes p.done now.held.bytes fault (cuts p)
       p.stopped.fault_is some is
       ∙ fault_next fault p)))
   rest_read some (Ok None) is d =
       subst (λ r. GoesOn r AtEnd (FaultAtEnd (now.lines + 1))) (sym d.0)
-      (unchanged d.1 (stopped-reading p.stopped (reading-end-nothing built_reading bytes p.done now.held.bytes (cuts p)
+      (unchanged d.1 (stopped-reading p.stopped (reading-end-nothing line_reading bytes p.done now.held.bytes (cuts p)
       p.stopped.fault_is some is)))
   rest_read some (Ok (Some command)) is d =
       subst (λ r. GoesOn r AtEnd (FaultAtEnd (now.lines + 1))) (sym d.0)
-      (stopped-command p.stopped d.1 (reading-end-command built_reading bytes p.done now.held.bytes command (cuts p)
+      (stopped-command p.stopped d.1 (reading-end-command line_reading bytes p.done now.held.bytes command (cuts p)
       p.stopped.fault_is some is))
 
   pub goes-to-end : 0 < length now.held.bytes → (lines : ℕ) → lines ≡ now.lines + 1 →
-      Did (built_reading now.held.bytes) → GoesOn result AtEnd (FaultAtEnd lines)
+      Did (line_reading now.held.bytes) → GoesOn result AtEnd (FaultAtEnd lines)
   goes-to-end some lines l d = subst (λ n. GoesOn result AtEnd (FaultAtEnd n)) (sym l)
-      (rest_read some (built_reading now.held.bytes) refl d)
+      (rest_read some (line_reading now.held.bytes) refl d)
 
 -- a piece that is taken byte by byte, behind the bytes before it
 pub piece_room : (bytes piece : List ℕ) (i : ℕ) → i < length piece → length bytes + length piece ≤ most_bytes →
@@ -347,9 +328,9 @@ piece_more bytes piece i below =
 
 -- nothing is held at the end
 pub stopped-none : {start : Start} {bytes : List ℕ} {now : Moment} →
-    Progress start bytes now → now.held.bytes ≡ [] → Stopped start (lines_of bytes) None now.view now.kept
+    Progress start bytes now → now.held.bytes ≡ [] → Stopped start (lines_of bytes) None now.heap now.kept
 stopped-none {bytes = bytes} p none =
-    stopped-reading p.stopped (reading-end-none built_reading bytes p.done (subst (Cuts bytes p.done) none (cuts p))
+    stopped-reading p.stopped (reading-end-none line_reading bytes p.done (subst (Cuts bytes p.done) none (cuts p))
     ∙ ap (λ f. record { commands = (reading_of p.done).commands; fault = f }) p.stopped.fault_is)
 
 -- there is room for one more line where some of it is held
@@ -357,7 +338,7 @@ pub has_room-held : {now : Moment} → IsUnderWay now 0 → 0 < length now.held.
 has_room-held {now} way some =
     let p = way.progress in
     let few = lines-fewer way.bytes p.done now.held.bytes (cuts p) in
-    let fewer = commands-fewer built_reading 1 p.done in
+    let fewer = commands-fewer line_reading 1 p.done in
     let c = counted p.stopped.carried in
     record {
       commands = omega (arith, few, fewer, c.commands_are, way.room, some);
@@ -367,15 +348,15 @@ has_room-held {now} way some =
 
 -- where more may come, what was read stops at the last whole line
 pub progress-stopped : {start : Start} {bytes : List ℕ} {now : Moment} →
-    Progress start bytes now → Stopped start (complete_lines bytes) None now.view now.kept
+    Progress start bytes now → Stopped start (complete_lines bytes) None now.heap now.kept
 progress-stopped {start} {bytes} {now} p =
-    subst (λ lines. Stopped start lines None now.view now.kept)
+    subst (λ lines. Stopped start lines None now.heap now.kept)
     (sym (complete_lines-held bytes p.done now.held.bytes (cuts p) p.fits)) p.stopped
 
 -- a journal that writes nothing more
-pub stopped-settled : {start : Start} {lines : List (List ℕ)} {fault : Option FaultAt} {view : FlatView}
+pub stopped-settled : {start : Start} {lines : List (List ℕ)} {fault : Option FaultAt} {heap : Gc}
     {kept after : Kept} →
-    Stopped start lines fault view kept → Grew kept after [] → Stopped start lines fault view after
+    Stopped start lines fault heap kept → Grew kept after [] → Stopped start lines fault heap after
 stopped-settled {start} {after = after} s w =
     record {
       fault_is = s.fault_is;
@@ -400,11 +381,11 @@ progress-settled p w =
     }
 
 -- nothing was read yet
-pub progress-none : (settings : Settings) (view : FlatView) (kept : Option (List ℕ)) →
-    IsNew settings view →
+pub progress-none : (settings : Settings) (heap : Gc) (kept : Option (List ℕ)) →
+    IsNew settings heap →
     Progress (record { settings = settings; kept = kept }) []
-    (record { view = view; held = nothing_held; lines = 0; kept = record { bytes = kept; broken = false } })
-progress-none settings view kept shows =
+    (record { heap = heap; held = nothing_held; lines = 0; kept = record { bytes = kept; broken = false } })
+progress-none settings heap kept shows =
     record {
       done = [];
       whole = refl;
@@ -429,11 +410,11 @@ progress-none settings view kept shows =
     }
 
 -- the same, in the words of what was made
-pub progress-began : (settings : Settings) (view : FlatView) (held : Held) (lines : ℕ) (kept : Kept) →
-    held ≡ nothing_held → lines ≡ 0 → kept.broken ≡ false → IsNew settings view →
+pub progress-began : (settings : Settings) (heap : Gc) (held : Held) (lines : ℕ) (kept : Kept) →
+    held ≡ nothing_held → lines ≡ 0 → kept.broken ≡ false → IsNew settings heap →
     Progress (record { settings = settings; kept = kept.bytes }) []
-    (record { view = view; held = held; lines = lines; kept = kept })
-progress-began settings view held lines kept h n whole shows =
+    (record { heap = heap; held = held; lines = lines; kept = kept })
+progress-began settings heap held lines kept h n whole shows =
     subst₃ (λ h n b. Progress (record { settings = settings; kept = kept.bytes }) []
-    (record { view = view; held = h; lines = n; kept = record { bytes = kept.bytes; broken = b } }))
-    (sym h) (sym n) (sym whole) (progress-none settings view kept.bytes shows)
+    (record { heap = heap; held = h; lines = n; kept = record { bytes = kept.bytes; broken = b } }))
+    (sym h) (sym n) (sym whole) (progress-none settings heap kept.bytes shows)

@@ -2,9 +2,14 @@
 use Rattle.std.proofs.Common.{◌≡◌, ℕ, List, Option, None, Some, IsSome, option_map, Bor, refl, sym, subst, ◌⊎◌, inl, inr}
 use Rattle.mm_model.specs.declared.settings.Settings.{Settings}
 use Rattle.mm_io.specs.Told.{NamedFile}
+use Rattle.mmgc.specs.declared.generator.GeneratedTrace.{GeneratedTrace}
 use Rattle.mmgc.specs.declared.program.Outcome.{Outcome}
-use Rattle.mmgc.specs.Run.{Replayed}
 use Rattle.mmgc.specs.Program.{Traffic, IsInput, Serves}
+use Rattle.mmgc.specs.Words.{Choice}
+
+-- a trace that is read
+abbrev pub a_replay : Settings → Option (List ℕ) → Choice
+a_replay settings file = record { settings = settings; file = file; generated = None }
 
 -- what stays as it was, or as it was opened, is the input that was opened
 opened_stays : (file : Option (List ℕ)) (named : Option NamedFile) (left opened after : Option (List ℕ)) →
@@ -12,27 +17,23 @@ opened_stays : (file : Option (List ℕ)) (named : Option NamedFile) (left opene
 opened_stays file named left opened after i (inl e) = subst (IsInput file named left) (sym e) i
 opened_stays file named left opened after i (inr e) = subst (IsInput file named left) (sym e) i
 
+-- the same, from a source before it turned to a file
+abbrev from_source : Option NamedFile → Option (List ℕ) → ℕ → Traffic → Traffic
+from_source named left faults traffic =
+    record { named = named; input = record traffic.input { left = left; faults = faults }; output = traffic.output }
+
 -- a name that is asked for
 pub asked_name : (file : Option (Bor (List ℕ))) → IsSome file → IsSome (option_map (λ name. name.now) file)
 asked_name None some = cc some
 asked_name (Some name) some = refl
 
 -- what came of a source that turned to the file that was asked for
-pub serves-opened : (settings : Settings) (file : Option (List ℕ)) (named : Option NamedFile)
-    (left : Option (List ℕ)) (faults : ℕ) (traffic : Traffic) (outcome : Outcome) (says : List ℕ → Type 0) →
-    traffic.named ≡ named → IsInput file named left traffic.input.left → traffic.input.faults ≡ faults →
-    Serves (record { settings = settings; file = None }) traffic outcome says →
-    Serves (record { settings = settings; file = file }) (record {
-      named = named;
-      input = record {
-        left = left;
-        left_after = traffic.input.left_after;
-        faults = faults;
-        faults_after = traffic.input.faults_after;
-      };
-      output = traffic.output;
-    }) outcome says
-serves-opened settings file named left faults traffic outcome says n i f (inl lacks) =
+serves_there : (settings : Settings) (file : Option (List ℕ)) (named : Option NamedFile) (left : Option (List ℕ))
+    (traffic : Traffic) (outcome : Outcome) (says : List ℕ → Type 0) →
+    IsInput file named left traffic.input.left →
+    Serves (a_replay settings None) traffic outcome says →
+    Serves (a_replay settings file) (from_source named left traffic.input.faults traffic) outcome says
+serves_there settings file named left traffic outcome says i (inl lacks) =
     inl (record {
       status = lacks.status;
       no_heap = lacks.no_heap;
@@ -40,10 +41,11 @@ serves-opened settings file named left faults traffic outcome says n i f (inl la
       unread = inr (opened_stays file named left traffic.input.left traffic.input.left_after i lacks.unread);
       unwritten = lacks.unwritten;
     })
-serves-opened settings file named left faults traffic outcome says n i f (inr (inl fails)) =
-    let none = fails.asked in cc none
-serves-opened settings file named left faults traffic outcome says n i f (inr (inr r)) =
-    inr (inr (record {
+serves_there settings file named left traffic outcome says i (inr (inl fails)) = let none = fails.asked in cc none
+serves_there settings file named left traffic outcome says i (inr (inr (inr g))) = let none = g.generates in cc none
+serves_there settings file named left traffic outcome says i (inr (inr (inl r))) =
+    inr (inr (inl (record {
+      replays = refl;
       end = r.end;
       heap = r.heap;
       bytes = r.bytes;
@@ -51,10 +53,25 @@ serves-opened settings file named left faults traffic outcome says n i f (inr (i
       status = r.status;
       heap_back = r.heap_back;
       text = r.text;
-      replayed = subst (λ n. Replayed r.end settings (record {
-        left = r.bytes;
-        left_after = traffic.input.left_after;
-        faults = n;
-        faults_after = traffic.input.faults_after;
-      }) traffic.output r.heap) f r.replayed;
-    }))
+      replayed = r.replayed;
+      faithful = r.faithful;
+    })))
+
+pub serves-opened : (settings : Settings) (file : Option (List ℕ)) (named : Option NamedFile)
+    (left : Option (List ℕ)) (faults : ℕ) (traffic : Traffic) (outcome : Outcome) (says : List ℕ → Type 0) →
+    traffic.named ≡ named → IsInput file named left traffic.input.left → traffic.input.faults ≡ faults →
+    Serves (a_replay settings None) traffic outcome says →
+    Serves (a_replay settings file) (from_source named left faults traffic) outcome says
+serves-opened settings file named left faults traffic outcome says n i f served =
+    subst (λ faults. Serves (a_replay settings file) (from_source named left faults traffic)
+    outcome says) f (serves_there settings file named left traffic outcome says i served)
+
+-- what is asked for, by another name
+pub serves-asked : (settings : Settings) (file : Option (List ℕ)) (asked generated : Option GeneratedTrace)
+    (traffic : Traffic) (outcome : Outcome) (says : List ℕ → Type 0) → asked ≡ generated →
+    Serves (record { settings = settings; file = file; generated = generated }) traffic outcome says →
+    Serves (record { settings = settings; file = file; generated = asked }) traffic outcome says
+serves-asked settings file asked generated traffic outcome says is served =
+    subst
+    (λ generated. Serves (record { settings = settings; file = file; generated = generated }) traffic outcome says)
+    (sym is) served

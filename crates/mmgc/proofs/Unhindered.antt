@@ -9,7 +9,12 @@ use Rattle.mmgc.specs.Words.{Choice, choice_read}
 
 -- what holds where no word stands
 abbrev pub no_words : Choice
-no_words = record { settings = record { pages = 1024; max = 1024; zct = 256; queue = 256; stack = 1024 }; file = None }
+no_words =
+    record {
+      settings = record { pages = 1024; max = 1024; zct = 256; queue = 256; stack = 1024 };
+      file = None;
+      generated = None;
+    }
 
 pub no_words-read : choice_read [] ≡ Some no_words
 unfolding clap_on_literals
@@ -23,9 +28,11 @@ unhindered traffic bytes trace told left reads writes =
     record {
       choice = no_words;
       readable = no_words-read;
-      trace = λ input is. subst (λ (o : Option (List ℕ)). IfSome o IsTrace) (sym (is ∙ left)) trace;
-      told = told;
-      reads = reads;
+      input = λ none. record {
+        trace = λ input is. subst (λ (o : Option (List ℕ)). IfSome o IsTrace) (sym (is ∙ left)) trace;
+        told = told;
+        reads = reads;
+      };
       writes = writes;
     }
 

@@ -1,8 +1,9 @@
 -- The commands of a generated trace.
-use Rattle.std.specs.Prelude.{ℕ, ◌+◌, ◌*◌, ◌/◌, ◌%◌, ◌^◌, nat_lt, ◌==◌, if◌then◌else◌, false}
+use Rattle.std.specs.Prelude.{ℕ, zero, suc, ◌+◌, ◌*◌, ◌/◌, ◌%◌, ◌^◌, nat_lt, ◌==◌, if◌then◌else◌, false, List, [], ◌∷◌, ◌++◌}
 use Rattle.mm_model.specs.declared.command.Command.{Command}
 use Rattle.mm_model.specs.declared.command.Command.TheVariants as commands
 use Rattle.mm_model.specs.declared.object.Kind.TheVariants.{Traced, Leaf, Counted}
+use Rattle.mmgc.specs.declared.generator.GeneratedTrace.{GeneratedTrace}
 
 -- the state after a draw
 abbrev pub next : ℕ → ℕ
@@ -36,3 +37,29 @@ abbrev pub generated_by : ℕ → ℕ → ℕ → Command × ℕ
 generated_by seed number state =
     if number == 1 then (commands.Root 4 8, seed)
     else (drawn (next state / 65536) (next (next state) / 65536), next (next state))
+
+-- the two apart
+abbrev pub generated_command : ℕ → ℕ → ℕ → Command
+generated_command seed number state = (generated_by seed number state).0
+
+abbrev pub next_state : ℕ → ℕ → ℕ → ℕ
+next_state seed number state = (generated_by seed number state).1
+
+-- the state of the generator behind so many commands
+abbrev pub state_after : ℕ → ℕ → ℕ
+state_after seed zero = 0
+state_after seed (suc n) = next_state seed (n + 1) (state_after seed n)
+
+-- so many commands, from number 1 on
+abbrev pub generated_commands : ℕ → ℕ → List Command
+generated_commands seed zero = []
+generated_commands seed (suc n) =
+    generated_commands seed n ++ generated_command seed (n + 1) (state_after seed n) ∷ []
+
+-- the commands of a generated trace
+abbrev pub commands_of : GeneratedTrace → List Command
+commands_of trace = generated_commands trace.seed trace.count
+
+-- so many commands can be asked for
+abbrev pub most_generated : ℕ
+most_generated = 4000000

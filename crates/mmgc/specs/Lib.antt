@@ -1,4 +1,5 @@
 pub mod Completing
+pub mod Generating
 pub mod Generator
 pub mod Keeping
 pub mod Logging

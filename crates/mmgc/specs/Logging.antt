@@ -1,17 +1,18 @@
 -- A log writer and a replay as contracts see them, by what the sink counts and has taken.
 use Rattle.std.specs.Prelude.{ℕ, List, Option}
-use Rattle.mm_model.specs.FlatView.{FlatView}
+use Rattle.mm_gc.specs.Gc.{Gc}
+use Rattle.mm_gc.specs.Rows.{Kept}
 use Rattle.mmgc.specs.declared.log.LogWriter.{LogWriter}
 use Rattle.mmgc.specs.declared.replay.Replay.{Replay}
 use Rattle.mmgc.specs.Writing.{kept_bytes, Keeps}
-use Rattle.mmgc.specs.Replaying.{Kept, Moment}
+use Rattle.mmgc.specs.Replaying.{Moment}
 
 abbrev pub kept_by : {K : Type 0} → (K → Option (List ℕ)) → LogWriter K → Kept
 kept_by taken log = record { bytes = kept_bytes (taken log.sink.now) log.broken log.pending.items; broken = log.broken }
 
-abbrev pub moment_of : {K : Type 0} → (K → Option (List ℕ)) → FlatView → Replay → LogWriter K → Moment
-moment_of taken view replay log =
-    record { view = view; held = replay.cutter; lines = replay.lines; kept = kept_by taken log }
+abbrev pub moment_of : {K : Type 0} → (K → Option (List ℕ)) → Gc → Replay → LogWriter K → Moment
+moment_of taken heap replay log =
+    record { heap = heap; held = replay.cutter; lines = replay.lines; kept = kept_by taken log }
 
 -- what calls of a log writer never undo
 abbrev pub KeepsOn : {K : Type 0} → (K → ℕ) → (K → Option (List ℕ)) → LogWriter K → LogWriter K → Type 0

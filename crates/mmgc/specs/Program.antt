@@ -1,12 +1,16 @@
 -- What a run promises of each of its ends.
 use Rattle.std.specs.Prelude.{◌≡◌, ℕ, ◌⊎◌, List, Option, None, Some, IsSome, codes}
-use Rattle.mm_model.specs.FlatView.{FlatView}
+use Rattle.mm_model.specs.Faithful.{IsFaithful}
 use Rattle.mm_io.specs.Faults.{Rose}
 use Rattle.mm_io.specs.Told.{NamedFile, Chooses}
+use Rattle.mm_gc.specs.Gc.{Gc}
 use Rattle.mmgc.specs.declared.program.Outcome.{Outcome}
 use Rattle.mmgc.specs.declared.replay.End.{End}
 use Rattle.mmgc.specs.declared.replay.End.TheVariants.{Whole, Fault, ReadFailed, WriteFailed, TooLong}
-use Rattle.mmgc.specs.Run.{Input, Output, Replayed}
+use Rattle.mmgc.specs.Run.{Input, Output, Replayed, commands_in}
+use Rattle.mmgc.specs.declared.generator.GeneratedTrace.{GeneratedTrace}
+use Rattle.mmgc.specs.Generator.{commands_of}
+use Rattle.mmgc.specs.Generating.{Generated}
 use Rattle.mmgc.specs.Telling.{end_text}
 use Rattle.mmgc.specs.Words.{Choice, choice_of, choice_read}
 
@@ -47,6 +51,7 @@ pub record LacksMemory (choice : Choice) (traffic : Traffic) (outcome : Outcome)
 -- The file that is asked for couldn't be opened.
 pub record FailsToOpen (choice : Choice) (traffic : Traffic) (outcome : Outcome) (says : List ℕ → Type 0) :
     Type 0 where
+  pub replays : choice.generated ≡ None
   pub asked : IsSome choice.file
   pub status : outcome.status ≡ 3
   pub no_heap : outcome.heap ≡ None
@@ -55,22 +60,44 @@ pub record FailsToOpen (choice : Choice) (traffic : Traffic) (outcome : Outcome)
   pub unread : traffic.input.left_after ≡ traffic.input.left
   pub unwritten : IsUnwritten traffic.output
 
--- The input was replayed to this end, on the heap that is handed back.
+-- The input was replayed to this end, on the heap that is handed back. The lines of the commands that were carried out
+-- are legal and keep what is promised of logs.
 pub record Replays (choice : Choice) (traffic : Traffic) (outcome : Outcome) (says : List ℕ → Type 0) : Type 0 where
+  pub replays : choice.generated ≡ None
   pub end : End
-  pub heap : FlatView
+  pub heap : Gc
   pub bytes : Option (List ℕ)
   pub input : IsInput choice.file traffic.named traffic.input.left bytes
   pub status : outcome.status ≡ status_of end
   pub heap_back : outcome.heap ≡ Some heap
   pub text : says (end_text end)
   pub replayed : Replayed end choice.settings (record traffic.input { left = bytes }) traffic.output heap
+  pub faithful : IsFaithful choice.settings (commands_in replayed.reach) replayed.groups
+
+-- nothing was read, and no fault was counted there
+pub record IsUnread (input : Input) : Type 0 where
+  pub left : input.left_after ≡ input.left
+  pub faults : input.faults_after ≡ input.faults
+
+-- A generated trace was carried out to its end, on the heap that is handed back. Nothing was read, and of its whole log
+-- the total line alone was written. The lines of its commands keep what is promised of logs.
+pub record Generates (choice : Choice) (traffic : Traffic) (outcome : Outcome) (says : List ℕ → Type 0) : Type 0 where
+  pub trace : GeneratedTrace
+  pub generates : choice.generated ≡ Some trace
+  pub end : End
+  pub heap : Gc
+  pub unread : IsUnread traffic.input
+  pub status : outcome.status ≡ status_of end
+  pub heap_back : outcome.heap ≡ Some heap
+  pub text : says (end_text end)
+  pub generated : Generated end choice.settings trace traffic.output heap
+  pub faithful : IsFaithful choice.settings (commands_of trace) generated.whole.groups
 
 -- what a run comes to for this choice
 abbrev pub Serves : Choice → Traffic → Outcome → (List ℕ → Type 0) → Type 0
 Serves choice traffic outcome says =
-    LacksMemory choice traffic outcome says ⊎ FailsToOpen choice traffic outcome says ⊎ Replays choice traffic
-    outcome says
+    LacksMemory choice traffic outcome says ⊎ FailsToOpen choice traffic outcome says
+    ⊎ Replays choice traffic outcome says ⊎ Generates choice traffic outcome says
 
 -- The words can't be read. Nothing was read or written.
 pub record Refuses (words : List (List ℕ)) (traffic : Traffic) (outcome : Outcome) (says : List ℕ → Type 0) :

@@ -1,44 +1,30 @@
 -- How the bytes of a trace are carried out, line by line.
-use Rattle.std.specs.Prelude.{◌≡◌, ◌≢◌, ℕ, ◌+◌, ◌-◌, ◌^◌, ◌≤◌, Bool, false, if◌then◌else◌, List, ◌++◌, ◌∷◌, [], length, flat_map, Option, Some, None, Result, Ok, Err}
+use Rattle.std.specs.Prelude.{◌≡◌, ◌≢◌, ℕ, ◌+◌, ◌-◌, ◌^◌, ◌≤◌, false, List, ◌++◌, ◌∷◌, [], length, flat_map, Option, Some, None, Result, Ok, Err}
 use Rattle.std.specs.List.{All}
 use Rattle.mm_model.specs.Limits.{IsWithinLimits}
 use Rattle.mm_model.specs.declared.command.Command.{Command}
 use Rattle.mm_model.specs.declared.refusal.LineFault.{LineFault}
-use Rattle.mm_model.specs.declared.refusal.LineFault.TheVariants.{NotBuilt}
 use Rattle.mm_model.specs.declared.line.Line.{Line}
 use Rattle.mm_model.specs.declared.settings.Settings.{Settings}
 use Rattle.mm_model.specs.State.{State, empty_state}
 use Rattle.mm_model.specs.Good.{IsGood}
 use Rattle.mm_model.specs.Log.{IsLegal}
-use Rattle.mm_model.specs.FlatView.{FlatView, FlatShows}
+use Rattle.mm_model.specs.Step.{IsStep}
+use Rattle.mm_model.specs.View.{Shows}
 use Rattle.mm_model.specs.Journal.{Writes}
 use Rattle.mm_model.specs.Spelling.{spelling_of}
 use Rattle.mm_model.specs.Trace.{line_reading, reading_from, Reading, FaultAt}
 use Rattle.mm_trace.specs.Held.{Held}
-use Rattle.mm_gc.specs.Built.{Step, is_built}
-use Rattle.mm_gc.specs.Execution.{IsStep}
-
--- A line in the grammar whose command isn't built yet counts as one outside it.
-abbrev pub only_built : Result (Option Command) LineFault → Result (Option Command) LineFault
-only_built (Err fault) = Err fault
-only_built (Ok None) = Ok None
-only_built (Ok (Some command)) = if is_built command then Ok (Some command) else Err NotBuilt
-
-unfoldable pub built_reading : List ℕ → Result (Option Command) LineFault
-built_reading line = only_built (line_reading line)
+use Rattle.mm_gc.specs.Gc.{Gc, view_of_gc}
+use Rattle.mm_gc.specs.Rows.{IsStepOf, Kept}
 
 -- what these lines say, from line 1 on
 abbrev pub reading_of : List (List ℕ) → Reading
-reading_of lines = reading_from built_reading 1 lines
+reading_of lines = reading_from line_reading 1 lines
 
 -- all bytes that may come and all commands that they hold can be counted
 abbrev pub most_bytes : ℕ
 most_bytes = 2 ^ 32 - 1
-
--- a journal at one moment: the bytes that it keeps, where it tells them
-pub record Kept : Type 0 where
-  pub bytes : Option (List ℕ)
-  pub broken : Bool
 
 -- from one moment to the next a journal was given these bytes to write
 abbrev pub Grew : Kept → Kept → List ℕ → Type 0
@@ -55,31 +41,31 @@ GrewSince start kept bytes = Writes start.kept false kept.bytes kept.broken byte
 
 -- a replay at one moment: its heap, the piece of a line that it holds, the lines that it read, and its journal
 pub record Moment : Type 0 where
-  pub view : FlatView
+  pub heap : Gc
   pub held : Held
   pub lines : ℕ
   pub kept : Kept
 
 -- a heap to which nothing was done yet, made with settings within their limits
-pub record IsNew (settings : Settings) (view : FlatView) : Type 0 where
+pub record IsNew (settings : Settings) (heap : Gc) : Type 0 where
   pub limits : IsWithinLimits settings
-  pub shows : FlatShows view (empty_state settings)
+  pub shows : Shows (view_of_gc heap) (empty_state settings)
 
 -- The commands were carried out with this log, which is legal, and the heap shows the state after it.
-pub record CarriedOut (settings : Settings) (commands : List Command) (log : List Line) (view : FlatView) : Type 0 where
+pub record CarriedOut (settings : Settings) (commands : List Command) (log : List Line) (heap : Gc) : Type 0 where
   pub state : State
-  pub legal : IsLegal Step settings commands log state
+  pub legal : IsLegal IsStep settings commands log state
   pub good : IsGood state
-  pub shows : FlatShows view state
+  pub shows : Shows (view_of_gc heap) state
   pub counted : state.commands ≡ length commands
   pub births : length state.objects ≤ length commands
 
 -- What these lines say was carried out up to the first fault, and the log went to the journal.
-pub record Stopped (start : Start) (lines : List (List ℕ)) (fault : Option FaultAt) (view : FlatView) (kept : Kept) :
+pub record Stopped (start : Start) (lines : List (List ℕ)) (fault : Option FaultAt) (heap : Gc) (kept : Kept) :
     Type 0 where
   pub fault_is : (reading_of lines).fault ≡ fault
   pub log : List Line
-  pub carried : CarriedOut start.settings (reading_of lines).commands log view
+  pub carried : CarriedOut start.settings (reading_of lines).commands log heap
   pub written : GrewSince start kept (spelling_of log)
 
 -- bytes within a line
@@ -95,7 +81,7 @@ pub record Progress (start : Start) (bytes : List ℕ) (now : Moment) : Type 0 w
   pub going_on : now.held.ended ≡ false
   pub fits : length now.held.bytes ≤ 1024
   pub lines_are : now.lines ≡ length done
-  pub stopped : Stopped start done None now.view now.kept
+  pub stopped : Stopped start done None now.heap now.kept
 
 -- What a line says was done: nothing, or its command, or neither because of a fault.
 abbrev pub DoesLine : Result (Option Command) LineFault → Result (Unit {0}) LineFault → Type 0 →
@@ -105,9 +91,9 @@ DoesLine (Ok None) result unchanged carried = (result ≡ Ok tt) × unchanged
 DoesLine (Ok (Some command)) result unchanged carried = (result ≡ Ok tt) × carried command
 
 -- a command was carried out, and its lines were written
-pub record CarriesOut (old new : FlatView) (command : Command) (before after : Kept) : Type 0 where
+pub record CarriesOut (old new : Gc) (command : Command) (before after : Kept) : Type 0 where
   pub group : List Line
-  pub step : (a : State) → IsGood a → FlatShows old a → IsStep new command group a
+  pub step : (a : State) → IsGood a → Shows (view_of_gc old) a → IsStepOf (view_of_gc new) command group a
   pub written : Grew before after (spelling_of group)
 
 -- What one more byte, or several, made of the progress: more of it, or a fault at this line.

@@ -1,11 +1,23 @@
 -- Values and requests as contracts see them.
-use Rattle.std.specs.Prelude.{option_map}
+use Rattle.std.specs.Prelude.{◌≤◌, IfSome, option_map}
+use Rattle.mm_model.specs.Limits.{IsWithinLimits}
 use Rattle.mmgc.specs.declared.words.Request.{Request}
 use Rattle.mmgc.specs.declared.words.Given.{Given}
+use Rattle.mmgc.specs.Generator.{most_generated}
 use Rattle.mmgc.specs.Words.{Choice, Values}
 
 abbrev pub asked_by : Request → Choice
-asked_by request = record { settings = request.settings; file = option_map (λ name. name.now) request.file }
+asked_by request =
+    record {
+      settings = request.settings;
+      file = option_map (λ name. name.now) request.file;
+      generated = request.generated;
+    }
+
+-- the heap can have the settings, and not too many commands are asked for
+pub record IsAllowed (request : Request) : Type 0 where
+  pub settings : IsWithinLimits request.settings
+  pub count : IfSome request.generated (λ trace. trace.count ≤ most_generated)
 
 abbrev pub values_by : Given → Values
 values_by given =

@@ -1,17 +1,21 @@
 -- How a replay ends, and what it then has read and written.
-use Rattle.std.specs.Prelude.{◌≡◌, ℕ, ◌<◌, ◌≤◌, Bool, true, false, IsTrue, ◌⊎◌, List, [], ◌++◌, length, Option, Some, None, IfSome, Result, Ok, Err, ⊤}
+use Rattle.std.specs.Prelude.{◌≡◌, ℕ, ◌<◌, ◌≤◌, Bool, true, false, IsTrue, ◌⊎◌, List, [], ◌∷◌, ◌++◌, length, Option, Some, None, IfSome, Result, Ok, Err, ⊤}
+use Rattle.mm_model.specs.declared.command.Command.{Command}
 use Rattle.mm_model.specs.declared.line.Line.{Line}
+use Rattle.mm_model.specs.declared.line.Line.TheVariants as lines
 use Rattle.mm_model.specs.declared.settings.Settings.{Settings}
-use Rattle.mm_model.specs.State.{State}
+use Rattle.mm_model.specs.State.{State, totals_of}
 use Rattle.mm_model.specs.Good.{IsGood}
-use Rattle.mm_model.specs.Log.{IsLegal, IsWhole}
-use Rattle.mm_model.specs.FlatView.{FlatView, FlatShows}
+use Rattle.mm_model.specs.Log.{IsLegal}
+use Rattle.mm_model.specs.Step.{IsStep}
+use Rattle.mm_model.specs.View.{Shows}
 use Rattle.mm_model.specs.Spelling.{spelling_of}
 use Rattle.mm_model.specs.Trace.{lines_of, complete_lines, FaultAt}
 use Rattle.mm_io.specs.Faults.{Rose}
 use Rattle.mm_io.specs.Told.{Appends, AppendsFront, Gives}
-use Rattle.mm_gc.specs.Built.{Step}
-use Rattle.mmgc.specs.Replaying.{reading_of, most_bytes, Kept, Start, GrewSince, Moment, Stopped, Progress}
+use Rattle.mm_gc.specs.Gc.{Gc, view_of_gc}
+use Rattle.mm_gc.specs.Rows.{Kept}
+use Rattle.mmgc.specs.Replaying.{reading_of, most_bytes, Start, GrewSince, Moment, Stopped, Progress}
 use Rattle.mmgc.specs.declared.replay.End.{End}
 use Rattle.mmgc.specs.declared.replay.End.TheVariants.{Whole, Fault, ReadFailed, WriteFailed, TooLong}
 
@@ -42,6 +46,10 @@ lines_seen false bytes = complete_lines bytes
 
 abbrev pub lines_in : Reach → List (List ℕ)
 lines_in reach = lines_seen reach.at_end reach.read
+
+-- the commands that these lines say, up to the first fault
+abbrev pub commands_in : Reach → List Command
+commands_in reach = (reading_of (lines_in reach)).commands
 
 -- where the source tells its bytes, none are left
 abbrev pub NothingLeft : Option (List ℕ) → Type 0
@@ -74,15 +82,18 @@ IsFaultOf (Fault line fault) found = found ≡ Some (record { line = line; fault
 IsFaultOf WriteFailed found = ⊤
 IsFaultOf _ found = found ≡ None
 
--- The log of an end: a whole one where all was carried out, and else a legal one of the commands up to the first fault.
--- Where a write failed, it was meant to be whole only if the input was read to its end and has no fault.
-abbrev pub IsLogOf : End → Settings → Reach → List Line → State → Type 0
-IsLogOf Whole settings reach log state = IsWhole Step settings (reading_of (lines_in reach)).commands log state
-IsLogOf WriteFailed settings reach log state =
-    IsLegal Step settings (reading_of (lines_in reach)).commands log state
-    ⊎ ((reach.at_end ≡ true) × ((reading_of (lines_in reach)).fault ≡ None)
-    × IsWhole Step settings (reading_of (lines_in reach)).commands log state)
-IsLogOf _ settings reach log state = IsLegal Step settings (reading_of (lines_in reach)).commands log state
+-- the lines of the commands, followed by the totals of the state after them
+abbrev pub with_total : List Line → State → List Line
+with_total groups state = groups ++ lines.Total (totals_of state) ∷ []
+
+-- The log of an end, by the lines of its commands: a total line follows them where all was carried out, and else none.
+-- Where a write failed, it was meant to follow only if the input was read to its end and has no fault.
+abbrev pub IsLogOf : End → Reach → List Line → State → List Line → Type 0
+IsLogOf Whole reach groups state log = log ≡ with_total groups state
+IsLogOf WriteFailed reach groups state log =
+    (log ≡ groups) ⊎ ((reach.at_end ≡ true) × ((reading_of (lines_in reach)).fault ≡ None)
+    × (log ≡ with_total groups state))
+IsLogOf _ reach groups state log = log ≡ groups
 
 -- All of the text was written and no fault counted, or a front of it and a fault.
 abbrev pub IsWritten : End → Output → List ℕ → Type 0
@@ -92,17 +103,20 @@ IsWritten _ output text =
     (output.faults_after ≡ output.faults) × Appends output.taken output.taken_after text
 
 -- How a replay ended, by what the source gave, what the sink took, and what the heap shows.
-pub record Replayed (end : End) (settings : Settings) (input : Input) (output : Output) (heap : FlatView) : Type 0 where
+pub record Replayed (end : End) (settings : Settings) (input : Input) (output : Output) (heap : Gc) : Type 0 where
   pub reach : Reach
   pub given : Gives input.left input.left_after (reach.read ++ reach.over)
   pub nothing_left : reach.at_end ≡ true → NothingLeft input.left_after
   pub cause : HasCause end reach input
   pub fault_is : IsFaultOf end (reading_of (lines_in reach)).fault
-  pub log : List Line
+  -- the lines of the commands, and the state after them
+  pub groups : List Line
   pub state : State
-  pub logged : IsLogOf end settings reach log state
+  pub legal : IsLegal IsStep settings (commands_in reach) groups state
   pub good : IsGood state
-  pub shows : FlatShows heap state
+  pub shows : Shows (view_of_gc heap) state
+  pub log : List Line
+  pub log_is : IsLogOf end reach groups state log
   pub written : IsWritten end output (spelling_of log)
 
 -- A replay that had taken these bytes came to its end with the next piece, or with none.
@@ -116,7 +130,7 @@ pub record Ended (end : End) (start : Start) (bytes : List ℕ) (input : Input) 
   pub fault : Option FaultAt
   pub fault_is : IsFaultOf end fault
   pub broken : end ≡ WriteFailed → IsTrue now.kept.broken
-  pub stopped : Stopped start (lines_in reach) fault now.view now.kept
+  pub stopped : Stopped start (lines_in reach) fault now.heap now.kept
 
 -- A replay that had taken these bytes took the next piece of so many bytes, without a fault.
 pub record Took (n : ℕ) (start : Start) (bytes : List ℕ) (input : Input) (now : Moment) : Type 0 where
@@ -132,11 +146,13 @@ abbrev pub Turns : Result ℕ End → Start → List ℕ → Input → Moment �
 Turns (Ok n) start bytes input now = Took n start bytes input now
 Turns (Err end) start bytes input now = Ended end start bytes input now
 
--- A log of some kind went to the journal, and the heap shows the state after it.
-pub record Logged (is_log : List Line → State → Type 0) (start : Start) (view : FlatView) (kept : Kept) : Type 0 where
-  pub log : List Line
+-- The log of an end went to the journal, and the heap shows the state after it.
+pub record Logged (end : End) (start : Start) (reach : Reach) (heap : Gc) (kept : Kept) : Type 0 where
+  pub groups : List Line
   pub state : State
-  pub logged : is_log log state
+  pub legal : IsLegal IsStep start.settings (commands_in reach) groups state
   pub good : IsGood state
-  pub shows : FlatShows view state
+  pub shows : Shows (view_of_gc heap) state
+  pub log : List Line
+  pub log_is : IsLogOf end reach groups state log
   pub written : GrewSince start kept (spelling_of log)

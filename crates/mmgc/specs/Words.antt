@@ -1,5 +1,5 @@
 -- What the words behind the program's name ask for.
-use Rattle.std.specs.Prelude.{◌&&◌, ℕ, true, if◌then◌else◌, nat_le, is_some, List, ◌∷◌, Option, None, Some, Result, Ok, Err, codes}
+use Rattle.std.specs.Prelude.{◌&&◌, ℕ, ◌-◌, ◌^◌, true, if◌then◌else◌, nat_le, List, ◌∷◌, Option, None, Some, Result, Ok, Err, codes}
 use Rattle.std.specs.Prelude.{option_and_then}
 use Rattle.std.specs.Str.{bytes_eq}
 use Rattle.clap.specs.Words.{App, Row, Rule, Text, first_of, matches_of, new_app, new_rule, takes, with_rule}
@@ -7,11 +7,15 @@ use Rattle.clap.specs.Simple.{on_top}
 use Rattle.mm_model.specs.declared.refusal.LineFault.{LineFault}
 use Rattle.mm_model.specs.declared.settings.Settings.{Settings}
 use Rattle.mm_model.specs.Trace.{number_of}
+use Rattle.mmgc.specs.declared.generator.GeneratedTrace.{GeneratedTrace}
+use Rattle.mmgc.specs.Generator.{most_generated}
 
--- the settings of the heap, and the file to read, where one is named
+-- The settings of the heap, the file to read, where one is named, and the generated trace that takes the place of the
+-- input, where one is asked for.
 pub record Choice : Type 0 where
   pub settings : Settings
   pub file : Option (List ℕ)
+  pub generated : Option GeneratedTrace
 
 -- an option with one value
 abbrev pub option_rule : Text → Rule
@@ -95,11 +99,29 @@ abbrev pub file_of : Option Text → Option Text
 file_of None = None
 file_of (Some name) = if bytes_eq name (codes "-") then None else Some name
 
--- Generated traces aren't built yet.
+-- a seed and a number of commands
+abbrev pub trace_of : Text → Text → Option GeneratedTrace
+trace_of seed count =
+    option_and_then (λ seed. option_and_then (λ count. Some (record { seed = seed; count = count }))
+    (setting_of (limits 0 most_generated 0) (Some count)))
+    (setting_of (limits 0 (2 ^ 32 - 1) 0) (Some seed))
+
+-- with a generated trace no file is read
+abbrev pub generating : Settings → Option GeneratedTrace → Option Choice
+generating settings None = None
+generating settings (Some trace) = Some (record { settings = settings; file = None; generated = Some trace })
+
+-- `--gen` and `--count` stand together or not at all, and neither stands beside FILE.
+abbrev pub choice_with : Settings → Option Text → Option Text → Option Text → Option Choice
+choice_with settings None None file =
+    Some (record { settings = settings; file = file_of file; generated = None })
+choice_with settings (Some seed) (Some count) None = generating settings (trace_of seed count)
+choice_with settings seed count file = None
+
+-- what the values ask for
 abbrev pub choice_from : Values → Option Choice
-choice_from values = if is_some values.generated then None else (if is_some values.count then None
-    else option_and_then (λ settings. Some (record { settings = settings; file = file_of values.file }))
-    (settings_of values))
+choice_from values =
+    option_and_then (λ settings. choice_with settings values.generated values.count values.file) (settings_of values)
 
 -- what the values ask for that the program's command gives for a list, whose first word is the program's name
 abbrev pub choice_in : List Text → Option Choice

@@ -4,6 +4,13 @@ ghost use Rattle.mmgc.specs.Generator.{drawn, generated_by, next, seldom};
 
 use mm_model::{Command, Kind, Shape};
 
+/// A generated trace: its seed, and how many commands it has.
+#[derive(Clone, Copy, Debug, PartialEq, Eq)]
+pub(crate) struct GeneratedTrace {
+    pub(crate) seed: u32,
+    pub(crate) count: u32,
+}
+
 /// The state after a draw, which gives its upper 16 bits.
 fn next_state(state: u32) -> u32
     ensures { result ≡ next state }

@@ -3,10 +3,11 @@
 
 ghost use Rattle.std.specs.Prelude.{◌≡◌, ◌≢◌, Option, map, string_bytes};
 ghost use Rattle.std.specs.IoError.{error_kind};
-ghost use Rattle.mm_model.specs.FlatView.{FlatView};
+ghost use Rattle.mm_gc.specs.Gc.{Gc};
 ghost use Rattle.mmgc.specs.Program.{Ran};
 ghost use Rattle.mmgc.specs.Telling.{IsTold};
 
+mod generating;
 mod generator;
 mod log;
 mod program;
@@ -40,7 +41,7 @@ fn exit_status<S: Source, K: Sink, E: Sink>(
     out: &mut K,
     err: &mut E,
 ) -> u8
-    ensures ran { (heap : Option FlatView) × Ran (map (λ word. string_bytes word) words.now)
+    ensures ran { (heap : Option Gc) × Ran (map (λ word. string_bytes word) words.now)
         (record {
           named = S.named source.old;
           input = record {
@@ -75,7 +76,7 @@ fn run_on_host(rt: &HostRuntime, words: &[String]) -> Result<u8, NoMemory> {
     Ok(exit_status(alloc, words, &mut source, &mut out, &mut err))
 }
 
-/// Where the words can't be had the status is 5 for want of memory, and else 7.
+/// Where the words can't be had the status is 5 if there was no memory, and else 7.
 fn words_status(error: &io::Error) -> u8
     ensures memory { error_kind error.now ≡ ErrorKind.OutOfMemory → result ≡ 5 }
     ensures other { error_kind error.now ≢ ErrorKind.OutOfMemory → result ≡ 7 }

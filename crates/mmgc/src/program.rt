@@ -1,12 +1,17 @@
 // The program, over whatever its bytes come from and go to.
-ghost use Rattle.std.specs.Prelude.{◌≡◌, ◌≢◌, ◌≤◌, ◌++◌, ◌∷◌, List, ℕ, None, OnOk, OnErr, IsSome, codes, map, option_map, string_bytes};
+ghost use Rattle.std.specs.Prelude.{◌≡◌, ◌≢◌, ◌≤◌, ◌++◌, ◌∷◌, List, ℕ, Option, None, Some, OnOk, OnErr, IsSome, codes, map, option_map, string_bytes};
 ghost use Rattle.mm_io.specs.Faults.{CountsChoice};
 ghost use Rattle.mm_model.specs.Limits.{IsWithinLimits};
 ghost use Rattle.mmgc.specs.Completing.{IsComplete};
-ghost use Rattle.mmgc.specs.Program.{IsInput, Ran, Serves, status_of};
-ghost use Rattle.mmgc.specs.Requests.{asked_by};
+ghost use Rattle.mm_io.specs.Told.{NamedFile};
+ghost use Rattle.mmgc.specs.Generator.{most_generated};
+ghost use Rattle.mmgc.specs.Program.{IsInput, IsUnread, Ran, Serves, status_of};
+ghost use Rattle.mmgc.specs.Requests.{IsAllowed, asked_by};
+ghost use Rattle.mmgc.specs.Run.{Input};
 ghost use Rattle.mmgc.specs.Telling.{IsTold, Takes, end_text, line_text};
 
+use crate::generating::carry_out_generated;
+use crate::generator::GeneratedTrace;
 use crate::replay::{End, carry_out};
 use crate::words::{Request, WordsFault, list_words, read_words};
 use mm_gc::{Gc, Settings};
@@ -128,7 +133,7 @@ fn replay<S: Source, K: Sink, E: Sink>(
     err: &mut E,
 ) -> Outcome
     requires { IsWithinLimits settings }
-    ensures served { Serves (record { settings = settings; file = None })
+    ensures served { Serves (record { settings = settings; file = None; generated = None })
         (record {
           named = S.named source.old;
           input = record {
@@ -165,6 +170,94 @@ fn replay<S: Source, K: Sink, E: Sink>(
 }
 
 /// Opens the file that is asked for, and then replays it.
+fn open_and_replay<S: Source, K: Sink, E: Sink>(
+    alloc: Global,
+    settings: Settings,
+    file: Option<&str>,
+    source: &mut S,
+    out: &mut K,
+    err: &mut E,
+) -> Outcome
+    requires { IsWithinLimits settings }
+    ensures served { Serves
+        (record { settings = settings; file = option_map (λ name. name.now) file.entry; generated = None })
+        (record {
+          named = S.named source.old;
+          input = record {
+            left = S.left source.old;
+            left_after = S.left source.new;
+            faults = S.faults source.old;
+            faults_after = S.faults source.new;
+          };
+          output = record {
+            taken = K.taken out.old;
+            taken_after = K.taken out.new;
+            faults = K.faults out.old;
+            faults_after = K.faults out.new;
+          };
+        })
+        result (λ text. IsTold (E.taken err.old) (E.taken err.new) (E.faults err.old) (E.faults err.new) text) }
+    ensures read { result.status ≢ 2 }
+    ensures lacking { result.status ≡ 5 → out.new ≡ out.old }
+    ensures source { S.faults source.old ≤ S.faults source.new }
+    ensures out { K.faults out.old ≤ K.faults out.new }
+    ensures err { E.faults err.old ≤ E.faults err.new }
+{
+    match open_input(source, file) {
+        Ok(()) => replay(alloc, settings, source, out, err),
+        Err(ChooseFault::NoMemory) => no_memory(err),
+        Err(ChooseFault::Failed) => {
+            tell(err, b"mmgc: read failed\n");
+            Outcome {
+                status: 3,
+                heap: None,
+            }
+        }
+    }
+}
+
+/// Carries out a generated trace on a new heap. No source takes part in it.
+fn generate<K: Sink, E: Sink>(
+    alloc: Global,
+    settings: Settings,
+    trace: GeneratedTrace,
+    out: &mut K,
+    err: &mut E,
+) -> Outcome
+    requires settings { IsWithinLimits settings }
+    requires count { trace.count ≤ most_generated }
+    ensures served { (file : Option (List ℕ)) (named : Option NamedFile) (input : Input) → IsUnread input →
+        Serves (record { settings = settings; file = file; generated = Some trace })
+        (record {
+          named = named;
+          input = input;
+          output = record {
+            taken = K.taken out.old;
+            taken_after = K.taken out.new;
+            faults = K.faults out.old;
+            faults_after = K.faults out.new;
+          };
+        })
+        result (λ text. IsTold (E.taken err.old) (E.taken err.new) (E.faults err.old) (E.faults err.new) text) }
+    ensures read { result.status ≢ 2 }
+    ensures lacking { result.status ≡ 5 → out.new ≡ out.old }
+    ensures out { K.faults out.old ≤ K.faults out.new }
+    ensures err { E.faults err.old ≤ E.faults err.new }
+{
+    match Gc::make(alloc, settings) {
+        Err(_) => no_memory(err),
+        Ok(mut heap) => {
+            let end = carry_out_generated(&mut heap, trace, out);
+            tell_end(err, end);
+            Outcome {
+                status: end.status(),
+                heap: Some(heap),
+            }
+        }
+    }
+}
+
+/// Carries out a generated trace where one is asked for, and else the input.
 fn serve<S: Source, K: Sink, E: Sink>(
     alloc: Global,
     request: Request<'_>,
@@ -172,7 +265,7 @@ fn serve<S: Source, K: Sink, E: Sink>(
     out: &mut K,
     err: &mut E,
 ) -> Outcome
-    requires { IsWithinLimits request.settings }
+    requires { IsAllowed request }
     ensures served { Serves (asked_by request.entry)
         (record {
           named = S.named source.old;
@@ -196,16 +289,9 @@ fn serve<S: Source, K: Sink, E: Sink>(
     ensures out { K.faults out.old ≤ K.faults out.new }
     ensures err { E.faults err.old ≤ E.faults err.new }
 {
-    match open_input(source, request.file) {
-        Ok(()) => replay(alloc, request.settings, source, out, err),
-        Err(ChooseFault::NoMemory) => no_memory(err),
-        Err(ChooseFault::Failed) => {
-            tell(err, b"mmgc: read failed\n");
-            Outcome {
-                status: 3,
-                heap: None,
-            }
-        }
+    match request.generated {
+        Some(trace) => generate(alloc, request.settings, trace, out, err),
+        None => open_and_replay(alloc, request.settings, request.file, source, out, err),
     }
 }
 
@@ -255,7 +341,14 @@ fn serve_words<S: Source, K: Sink, E: Sink>(
 
 /// Reads a trace from `source`, carries it out, and writes its log to `out`; what went wrong is said on `err`.
 ///
-/// `words` are the words behind the program's name. A fault of `err` changes neither the status nor the log.
+/// `words` are the words behind the program's name. They may ask for a generated trace, of whose log the total line
+/// alone is written. A fault of `err` changes neither the status nor the log.
+///
+/// Whenever a heap is handed back, the log that was written, or of which a front was written, is legal and faithful
+/// (`Replays` in `specs/Program.antt`): each read through a reference answers as a heap that never frees would, no
+/// protected object is freed, a weak reference is empty exactly once its target is freed, a full collection leaves
+/// exactly the reached objects, an incremental cycle leaves none that was unreachable throughout, and blocks never
+/// overlap. `IsFaithful` of `mm_model` says it of the turns of the log.
 pub fn run<S: Source, K: Sink, E: Sink>(
     alloc: Global,
     words: &[String],

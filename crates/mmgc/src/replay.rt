@@ -1,16 +1,16 @@
 // A trace that is being carried out.
 ghost use Rattle.std.specs.Prelude.{◌≡◌, ℕ, ◌+◌, ◌-◌, ◌<◌, ◌≤◌, ◌++◌, ◌∷◌, [], ◌^◌, false, true, Some, None, Ok, Err, Option, List, length, IfOk, IfSome, OnOk, IsTrue, cond};
-ghost use Rattle.mm_gc.specs.Built.{IsBuilt};
+ghost use Rattle.mm_gc.specs.Gc.{view_of_gc};
 ghost use Rattle.mm_io.specs.Told.{Gives};
 ghost use Rattle.mm_trace.specs.Held.{nothing_held};
 ghost use Rattle.mm_model.specs.declared.settings.Settings.{Settings};
-ghost use Rattle.mm_model.specs.Trace.{complete_lines, lines_of, FaultAt};
+ghost use Rattle.mm_model.specs.Trace.{complete_lines, line_reading, lines_of, FaultAt};
 ghost use Rattle.mmgc.specs.Logging.{kept_by, moment_of, KeepsOn};
-ghost use Rattle.mmgc.specs.Replaying.{built_reading, CarriesOut, DoesLine, GoesOn, IsNew, IsUnderWay, Progress, Start, Stopped, most_bytes};
-ghost use Rattle.mmgc.specs.Run.{Ended, Input, IsFaultOf, IsLogOf, Logged, NothingLeft, Reach, Replayed, Turns, lines_in};
+ghost use Rattle.mmgc.specs.Replaying.{CarriesOut, DoesLine, GoesOn, Grew, IsNew, IsUnderWay, Progress, Start, Stopped, most_bytes};
+ghost use Rattle.mmgc.specs.Run.{Ended, Input, IsFaultOf, Logged, NothingLeft, Reach, Replayed, Turns, lines_in};
 
 use crate::log::LogWriter;
-use mm_gc::{Gc, built};
+use mm_gc::Gc;
 use mm_io::{Sink, Source};
 use mm_model::{Command, Line, LineFault};
 use mm_steps::Steps;
@@ -41,24 +41,6 @@ struct Replay {
     lines: u32,
 }
 
-/// What a line says, where a command that isn't built yet counts as a fault.
-#[tactic(auto, unfolding(crate::specs::Replaying::built_reading))]
-fn read(line: &[u8]) -> Result<Option<Command>, LineFault>
-    ensures reading { result ≡ built_reading line.now }
-    ensures built { IfOk result (λ command. IfSome command IsBuilt) }
-{
-    match parse_line(line) {
-        Ok(Some(command)) => {
-            if built(&command) {
-                Ok(Some(command))
-            } else {
-                Err(LineFault::NotBuilt)
-            }
-        }
-        other => other,
-    }
-}
-
 /// Carries out a command with a counter of steps that nothing reads, and writes its lines.
 fn execute<K: Sink, L: Ledger>(
     heap: &mut Gc,
@@ -69,9 +51,8 @@ fn execute<K: Sink, L: Ledger>(
     requires name { blank.name ≡ L.name }
     requires parts { blank.parts ≡ L.parts }
     requires shared { 0 < L.parts }
-    requires built { IsBuilt command.now }
-    requires commands { heap.old.totals.commands < 2 ^ 32 - 1 }
-    requires births { heap.old.totals.born < 2 ^ 32 - 1 }
+    requires commands { (view_of_gc heap.old).totals.commands < 2 ^ 32 - 1 }
+    requires births { (view_of_gc heap.old).totals.born < 2 ^ 32 - 1 }
     ensures carried { CarriesOut heap.old heap.new command.now
         (kept_by K.taken log.old) (kept_by K.taken log.new) }
     ensures kept { KeepsOn K.faults K.taken log.old log.new }
@@ -88,9 +69,9 @@ impl Replay {
         heap: &mut Gc,
         log: &mut LogWriter<'_, K>,
     ) -> Result<(), LineFault>
-        requires commands { heap.old.totals.commands < 2 ^ 32 - 1 }
-        requires births { heap.old.totals.born < 2 ^ 32 - 1 }
-        ensures done { DoesLine (built_reading self.old.cutter.bytes) result
+        requires commands { (view_of_gc heap.old).totals.commands < 2 ^ 32 - 1 }
+        requires births { (view_of_gc heap.old).totals.born < 2 ^ 32 - 1 }
+        ensures done { DoesLine (line_reading self.old.cutter.bytes) result
             ((heap.new ≡ heap.old) × (log.new ≡ log.old))
             (λ command. CarriesOut heap.old heap.new command
             (kept_by K.taken log.old) (kept_by K.taken log.new)) }
@@ -98,7 +79,7 @@ impl Replay {
         ensures cutter { self.new.cutter ≡ self.old.cutter }
         ensures lines { self.new.lines ≡ self.old.lines }
     {
-        match read(self.cutter.line())? {
+        match parse_line(self.cutter.line())? {
             None => Ok(()),
             Some(command) => {
                 execute::<K, Brand>(heap, log, &command, Blank::new(1));
@@ -371,7 +352,7 @@ impl Replay {
 fn total<K: Sink>(heap: &Gc, log: &mut LogWriter<'_, K>, end: End)
     ensures totalled { (start : Start) (reach : Reach) (fault : Option FaultAt) →
         IsFaultOf end fault → Stopped start (lines_in reach) fault heap.now (kept_by K.taken log.old) →
-        Logged (IsLogOf end start.settings reach) start heap.now (kept_by K.taken log.new) }
+        Logged end start reach heap.now (kept_by K.taken log.new) }
     ensures kept { KeepsOn K.faults K.taken log.old log.new }
 {
     match end {
@@ -380,21 +361,31 @@ fn total<K: Sink>(heap: &Gc, log: &mut LogWriter<'_, K>, end: End)
     }
 }
 
-/// Writes the rest of the log, and says how the replay ended: a fault of the sink comes before all else.
+/// Writes what is pending and flushes, and says how all ended: a fault of the sink comes before all else.
+pub(crate) fn finish_log<K: Sink>(log: &mut LogWriter<'_, K>, end: End) -> End
+    ensures ends { result ≡ cond log.new.broken End.WriteFailed end }
+    ensures nothing_pending { log.new.broken ≡ false → log.new.pending.items ≡ [] }
+    ensures written { Grew (kept_by K.taken log.old) (kept_by K.taken log.new) [] }
+    ensures kept { KeepsOn K.faults K.taken log.old log.new }
+{
+    match log.finish() {
+        Ok(()) => end,
+        Err(_) => End::WriteFailed,
+    }
+}
+
+/// Writes the rest of the log, and says how the replay ended.
 fn finish<K: Sink>(heap: &Gc, log: &mut LogWriter<'_, K>, end: End) -> End
     ensures finished { (start : Start) (reach : Reach) (fault : Option FaultAt) →
         IsFaultOf end fault → Stopped start (lines_in reach) fault heap.now (kept_by K.taken log.old) →
-        Logged (IsLogOf end start.settings reach) start heap.now (kept_by K.taken log.new) }
+        Logged end start reach heap.now (kept_by K.taken log.new) }
     ensures ends { result ≡ cond log.new.broken End.WriteFailed end }
     ensures nothing_pending { log.new.broken ≡ false → log.new.pending.items ≡ [] }
     ensures kept { KeepsOn K.faults K.taken log.old log.new }
     ensures same_sink { log.new.sink.ghost_name ≡ log.old.sink.ghost_name }
 {
     total(heap, log, end);
-    match log.finish() {
-        Ok(()) => end,
-        Err(_) => End::WriteFailed,
-    }
+    finish_log(log, end)
 }
 
 /// Carries out a whole trace on a heap that nothing was done with yet.

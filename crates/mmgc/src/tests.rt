@@ -2,7 +2,9 @@ ghost use Rattle.std.specs.Prelude.{◌≤◌};
 
 mod faults;
 mod rows;
+mod text;
 mod words;
+mod worked;
 
 use crate::{Outcome, run};
 use mm_io::{MemSink, MemSource};
@@ -10,8 +12,8 @@ use std::alloc::{AllocError, Global};
 use std::process::Abort;
 use std::test::Fail;
 
-/// Words, a named file, a trace, the most bytes of one read and of one write of the log, and the numbers of the calls that fail: of the
-/// source, of the log's sink, and of the sink for what is said.
+/// Words, a named file, a trace, the most bytes of one read and of one write of the log, the room for the log, and the
+/// numbers of the calls that fail: of the source, of the log's sink, and of the sink for what is said.
 #[derive(Clone, Copy)]
 struct Given<'a> {
     words: &'a [&'a str],
@@ -19,6 +21,7 @@ struct Given<'a> {
     trace: &'a [u8],
     piece: usize,
     log_piece: usize,
+    room: usize,
     reads: &'a [u32],
     writes: &'a [u32],
     says: &'a [u32],
@@ -35,6 +38,7 @@ impl<'a> Given<'a> {
             trace,
             piece: 5,
             log_piece: 7,
+            room: 20000,
             reads: &[],
             writes: &[],
             says: &[],
@@ -50,14 +54,15 @@ fn listed(alloc: Global, words: &[&str]) -> Result<Vec<String>, AllocError> {
     Ok(list)
 }
 
-fn check(
-    rt: &impl Abort,
-    alloc: Global,
-    given: &Given<'_>,
+/// What a run came to: its status, its log, and what it said.
+#[derive(Drop)]
+struct Written {
     status: u8,
-    log: &[u8],
-    said: &[u8],
-) -> Result<(), Fail>
+    log: Vec<u8>,
+    said: Vec<u8>,
+}
+
+fn ended(alloc: Global, given: &Given<'_>) -> Result<Written, Fail>
     requires piece { 1 ≤ given.now.piece }
     requires log_piece { 1 ≤ given.now.log_piece }
 {
@@ -70,19 +75,39 @@ fn check(
     if let Some((name, bytes)) = given.file {
         source = source.with_file(String::from_str(alloc, name)?, bytes.to_vec(alloc)?);
     }
-    let mut out = MemSink::make(alloc, 20000, given.log_piece, given.writes.to_vec(alloc)?)?;
+    let mut out = MemSink::make(
+        alloc,
+        given.room,
+        given.log_piece,
+        given.writes.to_vec(alloc)?,
+    )?;
     let mut err = MemSink::make(alloc, 100, 3, given.says.to_vec(alloc)?)?;
-    let outcome = run(alloc, &words, &mut source, &mut out, &mut err);
-    let Outcome {
-        status: ended,
-        heap,
-    } = outcome;
+    let Outcome { status, heap } = run(alloc, &words, &mut source, &mut out, &mut err);
     if let Some(heap) = heap {
         heap.close();
     }
-    assert_eq!(rt; ended, status);
-    assert_eq!(rt; out.taken(), log);
-    assert_eq!(rt; err.taken(), said);
+    Ok(Written {
+        status,
+        log: out.taken().to_vec(alloc)?,
+        said: err.taken().to_vec(alloc)?,
+    })
+}
+
+fn check(
+    rt: &impl Abort,
+    alloc: Global,
+    given: &Given<'_>,
+    status: u8,
+    log: &[u8],
+    said: &[u8],
+) -> Result<(), Fail>
+    requires piece { 1 ≤ given.now.piece }
+    requires log_piece { 1 ≤ given.now.log_piece }
+{
+    let ended = ended(alloc, given)?;
+    assert_eq!(rt; ended.status, status);
+    assert_eq!(rt; ended.log.as_slice(), log);
+    assert_eq!(rt; ended.said.as_slice(), said);
     Ok(())
 }
 
@@ -97,7 +122,7 @@ fn whole_traces_end_with_a_total_line(rt: HostRuntime) -> Result<(), Fail> {
         ),
         (
             "new t 0 1048575\nnew t 0 1048576\n",
-            "full\nbad shape\ntotal 2 0 0 0\n",
+            " reap 0\n collect 0\nfull\nbad shape\ntotal 2 0 0 0\n",
         ),
     ] {
         check(
@@ -131,11 +156,6 @@ fn the_stack_is_full_before_the_region_is(rt: HostRuntime) -> Result<(), Fail> {
 #[test]
 fn the_first_fault_ends_a_trace(rt: HostRuntime) -> Result<(), Fail> {
     for (trace, log, said) in [
-        (
-            "new t 0 4\nweak 0\n",
-            "new 4096\n",
-            "mmgc: line 2: not built yet\n",
-        ),
         (
             "pushh 1\nnew t 0 4\n",
             "",

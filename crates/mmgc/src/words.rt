@@ -2,9 +2,10 @@
 ghost use Rattle.std.specs.Prelude.{◌≡◌, ◌≤◌, ◌∷◌, List, ℕ, false, None, Some, codes, map, option_map, string_bytes, IfOk, IfSome, IsErrOf};
 ghost use Rattle.clap.specs.Words.{app_of, found_of, kind_of, matches_of, rows_of, rule_of, takes};
 ghost use Rattle.mm_model.specs.Limits.{IsWithinLimits};
-ghost use Rattle.mmgc.specs.Words.{choice_from, choice_in, choice_taken, file_of, limits, mmgc_app, option_rule, setting_of, settings_app, settings_of, values_in, with_option};
-ghost use Rattle.mmgc.specs.Requests.{asked_by, values_by};
+ghost use Rattle.mmgc.specs.Words.{choice_from, choice_in, choice_taken, choice_with, file_of, generating, trace_of, limits, mmgc_app, option_rule, setting_of, settings_app, settings_of, values_in, with_option};
+ghost use Rattle.mmgc.specs.Requests.{IsAllowed, asked_by, values_by};
 
+use crate::generator::GeneratedTrace;
 use clap::error::ErrorKind;
 use clap::{Arg, ArgMatches, Command, Error};
 use mm_model::Settings;
@@ -17,6 +18,8 @@ pub(crate) struct Request<'a> {
     pub(crate) settings: Settings,
     /// The file to read in place of the source as handed in.
     pub(crate) file: Option<&'a str>,
+    /// The trace to carry out in place of one that is read.
+    pub(crate) generated: Option<GeneratedTrace>,
 }
 
 /// Why the words ask for nothing.
@@ -112,19 +115,17 @@ impl<'a> Given<'a> {
         })
     }
 
-    /// Generated traces aren't built yet, so their options ask for nothing.
+    /// `--gen` and `--count` stand together or not at all, and neither stands beside FILE.
     fn request(&self) -> Option<Request<'a>>
         ensures asked { option_map asked_by result ≡ choice_from (values_by self.now) }
-        ensures limits { IfSome result (λ request. IsWithinLimits request.settings) }
+        ensures allowed { IfSome result IsAllowed }
     {
-        if self.generated.is_some() || self.count.is_some() {
-            return None;
-        }
         let settings = self.settings()?;
-        Some(Request {
-            settings,
-            file: file_name(self.file),
-        })
+        match (self.generated, self.count, self.file) {
+            (None, None, file) => Some(replay_request(settings, file)),
+            (Some(seed), Some(count), None) => generated_request(settings, seed, count),
+            _ => None,
+        }
     }
 }
 
@@ -148,6 +149,32 @@ fn number_within(text: &str, least: u32, most: u32) -> Option<u32>
         Ok(n) if least <= n && n <= most => Some(n),
         _ => None,
     }
+}
+
+fn replay_request<'a>(settings: Settings, file: Option<&'a str>) -> Request<'a>
+    requires { IsWithinLimits settings }
+    ensures asked { Some (asked_by result) ≡ choice_with settings None None (option_map (λ name. name.now) file.entry) }
+    ensures allowed { IsAllowed result }
+{
+    Request {
+        settings,
+        file: file_name(file),
+        generated: None,
+    }
+}
+
+fn generated_request<'a>(settings: Settings, seed: &str, count: &str) -> Option<Request<'a>>
+    requires { IsWithinLimits settings }
+    ensures asked { option_map asked_by result ≡ generating settings (trace_of seed.now count.now) }
+    ensures allowed { IfSome result IsAllowed }
+{
+    let seed = number_within(seed, 0, u32::MAX)?;
+    let count = number_within(count, 0, 4_000_000)?;
+    Some(Request {
+        settings,
+        file: None,
+        generated: Some(GeneratedTrace { seed, count }),
+    })
 }
 
 fn file_name<'a>(file: Option<&'a str>) -> Option<&'a str>
@@ -210,7 +237,7 @@ fn values<'a>(alloc: Global, list: &'a [&'a str]) -> Result<Given<'a>, WordsFaul
 
 fn requested<'a>(given: &Given<'a>) -> Result<Request<'a>, WordsFault>
     ensures asked { IfOk result (λ request. choice_from (values_by given.now) ≡ Some (asked_by request)) }
-    ensures limits { IfOk result (λ request. IsWithinLimits request.settings) }
+    ensures allowed { IfOk result IsAllowed }
     ensures refused { IsErrOf result WordsFault.Refused → choice_from (values_by given.now) ≡ None }
 {
     match given.request() {
@@ -223,7 +250,7 @@ fn requested<'a>(given: &Given<'a>) -> Result<Request<'a>, WordsFault>
 pub(crate) fn read_words<'a>(alloc: Global, list: &'a [&'a str]) -> Result<Request<'a>, WordsFault>
     ensures read { IfOk result (λ request. choice_in (map (λ word. word.now) list.entry.now)
         ≡ Some (asked_by request)) }
-    ensures limits { IfOk result (λ request. IsWithinLimits request.settings) }
+    ensures allowed { IfOk result IsAllowed }
     ensures refused { IsErrOf result WordsFault.Refused →
         choice_taken (map (λ word. word.now) list.entry.now) ≡ None }
 {

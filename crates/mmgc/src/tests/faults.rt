@@ -140,7 +140,7 @@ fn a_fault_that_cannot_be_said_keeps_its_status(rt: HostRuntime) -> Result<(), F
     check(&rt, rt.alloc(), &given, 1, b"new 4096\n", b"")
 }
 
-// Where no call can fail, only want of memory keeps a run from the end of a trace.
+// Where no call can fail, only a lack of memory keeps a run from the end of a trace.
 fn status_without_faults(
     alloc: Global,
     trace: Vec<u8>,

@@ -80,7 +80,6 @@ fn a_line_outside_the_grammar_ends_the_run(rt: HostRuntime) -> Result<(), Fail> 
             "new t 0 1\npop 1\nnew q\n",
             "mmgc: line 3: wrong number of words\n",
         ),
-        ("new t 0 1\npop 1\nreap\n", "mmgc: line 3: not built yet\n"),
     ] {
         check_fault(&rt, rt.alloc(), trace, "new 4096\nok\n", said)?;
     }

@@ -1,5 +1,5 @@
 // What words ask for: settings of the heap, and a file.
-use super::{Given, check, listed};
+use super::{Given, check, ended, listed};
 use crate::{Outcome, run};
 use mm_io::{MemSink, StdSource};
 use std::alloc::Global;
@@ -41,11 +41,14 @@ fn check_file<'a>(
 
 #[test]
 fn words_that_cannot_be_read_are_refused(rt: HostRuntime) -> Result<(), Fail> {
-    let refused: [&[&str]; 20] = [
+    let refused: [&[&str]; 23] = [
         &["--count", "2"],
         &["--gen", "2"],
         &["--gen", "1", "--count", "4000001"],
         &["--gen", "2", "--count", "2", "FILE"],
+        &["--gen", "2", "--count", "2", "-"],
+        &["--gen", "4294967296", "--count", "2"],
+        &["--gen", "2", "--count", "x"],
         &["--pages", "4097"],
         &["--pages", "1"],
         &["--pages", "4", "--max", "3"],
@@ -89,6 +92,55 @@ fn options_set_the_heap(rt: HostRuntime) -> Result<(), Fail> {
     ];
     for (words, trace, log) in rows {
         check_words(&rt, rt.alloc(), words, trace, log)?;
+    }
+    Ok(())
+}
+
+// What the input has isn't read. The first command makes an area. Of two pages only one can hold a piece, and an object
+// shares no page with an area.
+#[test]
+fn a_generated_trace_writes_its_totals_alone(rt: HostRuntime) -> Result<(), Fail> {
+    let rows: [(&[&str], &str); 6] = [
+        (&["--gen", "1", "--count", "0"], "total 0 0 0 0\n"),
+        (&["--gen", "1", "--count", "1"], "total 1 0 0 0\n"),
+        (&["--gen", "1", "--count", "2"], "total 2 0 0 0\n"),
+        (&["--gen", "2", "--count", "2"], "total 2 1 0 1\n"),
+        (&["--count=2", "--pages=2", "--gen=2"], "total 2 0 0 0\n"),
+        (&["--count=2", "--pages=3", "--gen=2"], "total 2 1 0 1\n"),
+    ];
+    for (words, log) in rows {
+        check_words(&rt, rt.alloc(), words, "pop", log)?;
+    }
+    Ok(())
+}
+
+#[test]
+fn a_seed_gives_the_same_totals_again(rt: HostRuntime) -> Result<(), Fail> {
+    let given = Given {
+        words: &["--gen", "7", "--count", "100000"],
+        ..Given::whole(b"")
+    };
+    let first = ended(rt.alloc(), &given)?;
+    assert_eq!(rt; first.status, 0);
+    check(&rt, rt.alloc(), &given, 0, first.log.as_slice(), b"")
+}
+
+#[test]
+fn the_write_of_a_total_line_may_fail(rt: HostRuntime) -> Result<(), Fail> {
+    for (call, log) in [(1, ""), (2, "total 2"), (3, "total 2 1 0 1\n")] {
+        let given = Given {
+            words: &["--gen", "2", "--count", "2"],
+            writes: &[call],
+            ..Given::whole(b"")
+        };
+        check(
+            &rt,
+            rt.alloc(),
+            &given,
+            4,
+            log.as_bytes(),
+            b"mmgc: write failed\n",
+        )?;
     }
     Ok(())
 }

@@ -1,33 +1,27 @@
-use Rattle.std.proofs.Common.{rules, refl, inl, inr, option_map}
-use Rattle.mmgc.proofs.Serving.{asked_name, serves-opened}
+use Rattle.std.proofs.Common.{◌≤◌, None, Some, option_map, refl, subst}
+use Rattle.std.specs.Prelude.{IfSome}
+use Rattle.mmgc.specs.Generator.{most_generated}
+use Rattle.mmgc.specs.Run.{Input}
+use Rattle.mmgc.proofs.Serving.{serves-asked}
 use Rattle.mmgc.proofs.program.serve.Goals as goal
 
-pub returns-in-Ok-clause-served : goal.returns-in-Ok-clause-served
-returns-in-Ok-clause-served g c =
-    let opened = c.in-Ok.ensures in
-    serves-opened c.args.request.settings (option_map (λ name. name.now) c.args.request.file)
-    (g.S.Source.named c.args.source.now) (g.S.Source.left c.args.source.now) (g.S.Source.faults c.args.source.now)
-    _ c.replay.result _ opened.same_file opened.opened opened.faults.unraised c.replay.ensures.served
+pub generate-requires-clause-count : goal.generate-requires-clause-count
+generate-requires-clause-count g c =
+    subst (λ generated. IfSome generated (λ trace. trace.count ≤ most_generated)) c.in-Some.is c.requires.count
 
-pub returns-in-Err-NoMemory-clause-served : goal.returns-in-Err-NoMemory-clause-served
-returns-in-Err-NoMemory-clause-served g c =
-    inl (record {
-      status = c.no_memory.ensures.status;
-      no_heap = c.no_memory.ensures.heap;
-      text = c.no_memory.ensures.said;
-      unread = inl c.in-Err-NoMemory.ensures.refused;
-      unwritten = record { taken = refl; faults = refl };
-    })
+pub returns-in-Some-clause-served : goal.returns-in-Some-clause-served
+returns-in-Some-clause-served g c =
+    let left = g.S.Source.left c.args.source.now in
+    let faults = g.S.Source.faults c.args.source.now in
+    let file = option_map (λ name. name.now) c.args.request.file in
+    let input : Input = record { left = left; left_after = left; faults = faults; faults_after = faults } in
+    serves-asked c.args.request.settings file c.args.request.generated (Some c.in-Some.trace) _ c.generate.result _
+    c.in-Some.is
+    (c.generate.ensures.served file (g.S.Source.named c.args.source.now) input
+    (record { left = refl {a = left}; faults = refl {a = faults} }))
 
-pub returns-in-Err-Failed-clause-served : goal.returns-in-Err-Failed-clause-served
-returns-in-Err-Failed-clause-served g c =
-    let failed = c.in-Err-Failed.ensures in
-    inr (inl (record {
-      asked = asked_name c.args.request.file failed.asked;
-      status = refl;
-      no_heap = refl;
-      text = c.tell.ensures;
-      cause = failed.faults.cause (search rules);
-      unread = failed.refused;
-      unwritten = record { taken = refl; faults = refl };
-    }))
+pub returns-in-None-clause-served : goal.returns-in-None-clause-served
+returns-in-None-clause-served g c =
+    let file = option_map (λ name. name.now) c.args.request.file in
+    serves-asked c.args.request.settings file c.args.request.generated None _ c.open_and_replay.result _
+    c.in-None.is c.open_and_replay.ensures.served

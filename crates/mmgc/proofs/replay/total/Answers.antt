@@ -1,7 +1,7 @@
 use Rattle.std.proofs.Common.{sym, subst}
 use Rattle.mmgc.specs.Logging.{kept_by}
 use Rattle.mmgc.specs.Replaying.{Stopped}
-use Rattle.mmgc.specs.Run.{IsFaultOf, IsLogOf, Logged, lines_in}
+use Rattle.mmgc.specs.Run.{IsFaultOf, Logged, lines_in}
 use Rattle.mmgc.proofs.Ends.{logged-whole, logged-other}
 use Rattle.mmgc.proofs.replay.total.Goals as goal
 
@@ -10,7 +10,7 @@ returns-in-Whole-clause-totalled g c start reach fault of stopped =
     let none = subst (λ end. IsFaultOf end fault) c.in-Whole.is of in
     let stopped_whole = subst (λ f. Stopped start (lines_in reach) f c.args.heap.now
     (kept_by g.K.Sink.taken c.args.log.now)) none stopped in
-    subst (λ end. Logged (IsLogOf end start.settings reach) start c.args.heap.now
+    subst (λ end. Logged end start reach c.args.heap.now
     (kept_by g.K.Sink.taken c.line.new.self)) (sym c.in-Whole.is)
     (logged-whole reach c.totals.result stopped_whole c.totals.ensures c.line.ensures.written)
 

@@ -1,15 +1,36 @@
--- A call of `dup` answers its row.
-use Rattle.std.proofs.Common.{refl}
+use Rattle.std.proofs.Common.{Ok}
+use Rattle.std.proofs.lemmas.Result.{err_from_is_err_and}
 use Rattle.mm_model.specs.declared.command.Command.TheVariants as commands
-use Rattle.mm_gc.specs.BuiltView.{done_reply}
-use Rattle.mm_gc.proofs.Executing.{answered}
+use Rattle.mm_gc.specs.Gc.{view_of_gc}
+use Rattle.mm_gc.proofs.Pushing.{no_cell-answers, full-answers, done-answers}
+use Rattle.mm_gc.proofs.Rows.Cells.{dup-no_cell, dup-full, dup-row}
 use Rattle.mm_gc.proofs.gc.Gc.dup.Goals as goal
+
+pub returns-in_err-word : goal.returns-in_err-word
+returns-in_err-word g c =
+    let old = c.args.self.now in
+    let p = err_from_is_err_and c.from_residual.result c.from_residual.ensures.1 in
+    rw (p.1, p.2) (record {
+      row = no_cell-answers old c.args.i (commands.Dup c.args.i) c.in_err-word.field-0.0 c.in_err-word.ensures
+          (dup-no_cell (view_of_gc old) c.args.i);
+    })
+
+pub returns-in_err-push_word : goal.returns-in_err-push_word
+returns-in_err-push_word g c =
+    let old = c.args.self.now in
+    let p = err_from_is_err_and c.from_residual-in_err-push_word.result c.from_residual-in_err-push_word.ensures.1 in
+    rw (p.1, p.2) (record {
+      row = full-answers old c.push_word.new.self c.in_ok-word.word (commands.Dup c.args.i)
+          (dup-full (view_of_gc old) c.args.i c.in_ok-word.word c.in_ok-word.ensures) c.in_err-push_word.field-0.0
+          c.in_err-push_word.ensures;
+    })
 
 pub returns : goal.returns
 returns g c =
+    let old = c.args.self.now in
     record {
-      row = λ a good shows.
-          answered c.args.self.now a good shows c.push_cell.new.self (commands.Dup c.args.i)
-          (done_reply c.push_cell.result) refl tt
-          c.push_cell.ensures.view c.push_cell.ensures.reply;
+      row = done-answers old c.push_word.new.self c.in_ok-word.word (commands.Dup c.args.i)
+          (dup-full (view_of_gc old) c.args.i c.in_ok-word.word c.in_ok-word.ensures)
+          (Ok c.in_ok-push_word.field-0) c.in_ok-push_word.ensures
+          (dup-row (view_of_gc old) c.args.i c.in_ok-word.word c.in_ok-word.ensures);
     }

@@ -1,14 +1,25 @@
--- A call of `stat` answers its row.
-use Rattle.std.proofs.Common.{refl, ap}
+use Rattle.std.proofs.Common.{◌-◌, subst}
 use Rattle.mm_model.specs.declared.command.Command.TheVariants as commands
 use Rattle.mm_model.specs.declared.reply.Reply.TheVariants as replies
-use Rattle.mm_gc.proofs.Executing.{answered}
+use Rattle.mm_gc.specs.Gc.{Gc}
+use Rattle.mm_gc.specs.Inside.{gc_of}
+use Rattle.mm_gc.specs.Rows.{Answers}
+use Rattle.mm_gc.proofs.Regions.Shown.{region-shown}
+use Rattle.mm_gc.proofs.Stat.{stat-answers}
 use Rattle.mm_gc.proofs.gc.Gc.stat.Goals as goal
 
 pub returns : goal.returns
 returns c =
+    let gc = gc_of c.self.inside in
     record {
-      row = λ a good shows.
-          answered c.args.self.now a good shows c.args.self.now commands.Stat (replies.Stat c.counts.result) refl tt
-          refl (ap (λ told. replies.Stat told) c.counts.ensures);
+      row = subst
+          (λ (other : Gc). Answers other other commands.Stat (replies.Stat (record {
+            objects = gc.born - gc.freed;
+            zero = c.len.result;
+            areas = c.live.result;
+            free = c.free_pages.result;
+          })))
+          c.self.view_is
+          (stat-answers gc c.self.invariant c.len.result c.live.result c.free_pages.result
+          (region-shown gc.region c.self.invariant.settled.keeps) c.len.ensures (c.live.ensures.views gc.region.heap.raw) c.free_pages.ensures);
     }

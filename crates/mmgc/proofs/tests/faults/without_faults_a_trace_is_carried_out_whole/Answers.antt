@@ -1,12 +1,11 @@
 -- That a trace of bytes that are known has no fault is a matter of computing.
 use Rattle.std.proofs.Common.{sym, subst, refl, codes, arith}
 use Rattle.mm_model.specs.Trace.{line_reading, words_reading}
-use Rattle.mmgc.specs.Replaying.{built_reading}
 use Rattle.mmgc.specs.Completing.{IsTrace}
 use Rattle.mmgc.proofs.tests.faults.without_faults_a_trace_is_carried_out_whole.Goals as goal
 
 worked_trace : IsTrace (codes "new t 0 4\nnew t 0 0\nnew t 0 509\n")
-unfolding built_reading line_reading words_reading
+unfolding line_reading words_reading
 worked_trace = record { fits = omega arith; no_fault = refl }
 
 pub status_without_faults-status-requires : goal.status_without_faults-status-requires

@@ -1,0 +1,10 @@
+pub mod Contained
+pub mod Counts
+pub mod Empty
+pub mod Ends
+pub mod FreeCells
+pub mod Pieces
+pub mod Placed
+pub mod Places
+pub mod States
+pub mod Vacant

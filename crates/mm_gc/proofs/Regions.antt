@@ -1,0 +1,9 @@
+pub mod AreaPieces
+pub mod AreasChanged
+pub mod Changed
+pub mod Needed
+pub mod Resized
+pub mod Rewritten
+pub mod SameObjects
+pub mod Shown
+pub mod WeakMade
