@@ -1,6 +1,8 @@
 ghost use Rattle.std.specs.Prelude.{◌≤◌};
 
+mod failures;
 mod faults;
+mod large;
 mod rows;
 mod text;
 mod words;
