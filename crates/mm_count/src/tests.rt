@@ -1,4 +1,6 @@
 // Composite words worked out by hand.
+mod heap;
+
 use crate::composite::Composite;
 use std::test::Fail;
 

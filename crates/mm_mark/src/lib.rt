@@ -9,5 +9,7 @@ mod marker;
 mod roots;
 mod scanning;
 mod shading;
+#[cfg(test)]
+mod tests;
 
 pub use marker::Marker;

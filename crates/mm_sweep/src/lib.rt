@@ -6,6 +6,8 @@ mod freeing;
 mod journal;
 mod releasing;
 mod sweeping;
+#[cfg(test)]
+mod tests;
 
 pub use journal::{Finalizer, Journal};
 pub use releasing::release;

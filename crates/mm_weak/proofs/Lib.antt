@@ -5,3 +5,4 @@ pub mod Partners
 pub mod Making
 pub mod Places
 pub mod Writes
+pub mod Trials
