@@ -1,7 +1,7 @@
 -- What a heap keeps once something was made at a place in its region, or once it was looked for in vain.
 use Rattle.std.proofs.Common.{◌≡◌, ◌≢◌, ℕ, ◌≤◌, List, ◌++◌, map, length, Option, None, refl, sym, ap, ◌∙◌}
 use Rattle.std.proofs.Common.{subst, arith}
-use Rattle.std.specs.Prelude.{Result, Ok, Err, IfOk, OnErr, ◌==◌}
+use Rattle.std.specs.Prelude.{◌==◌}
 use Rattle.std.specs.List.{count_by, flat_map, fold}
 use Rattle.mm_model.specs.Place.{page_end}
 use Rattle.mm_model.specs.ByBase.{Begins}
@@ -10,7 +10,7 @@ use Rattle.mm_model.specs.View.{View, AreaView}
 use Rattle.mm_model.specs.ViewWords.{outside_references, piece_of_area, counted_cells_of}
 use Rattle.mm_model.specs.ViewEffect.{view_full}
 use Rattle.mm_model.proofs.View.GoodCounts.{shown_totals}
-use Rattle.mm_roots.specs.Stack.{Cells, pushed}
+use Rattle.mm_roots.specs.Stack.{Cells}
 use Rattle.mm_object.specs.Object.{StoredObject, StoredObjects, views_of}
 use Rattle.mm_object.specs.Heap.{Heap, IsSound}
 use Rattle.mm_count.specs.Table.{Table, IsRight, IsSameTable}
@@ -88,13 +88,6 @@ settled-entered r objects settled views sound =
           ∙ ap (λ (vs : ObjectsByBase). fold page_end r.least (map piece_of_area (areas_in r) ++ pieces_of_objects vs))
           (sym views);
     }
-
--- a push that had room
-pub pushed-is : {X E : Type 0} (before after : Cells) (word : ℕ) (result : Result X E)
-    → length before.words ≢ before.limit → IfOk result (λ _. after ≡ pushed before word)
-    → OnErr result (length before.words ≡ before.limit) → after ≡ pushed before word
-pushed-is before after word (Ok x) room is full = is
-pushed-is before after word (Err e) room is full = absurd (room full)
 
 -- no more objects were freed than were born
 pub freed-most : (gc : Gc) → IsShowing (view_of_gc gc) → gc.freed ≤ gc.born

@@ -1,10 +1,11 @@
 // The search for a place: at once, after a reap, and after a full collection.
-ghost use Rattle.std.specs.Prelude.{◌≡◌, ◌<◌, ◌-◌, ◌^◌, ◌⊎◌, ℕ, not, IsTrue};
+ghost use Rattle.std.specs.Prelude.{◌≡◌, ◌≢◌, ◌<◌, ◌-◌, ◌^◌, ◌⊎◌, ℕ, not, IsTrue, length};
 ghost use Rattle.mm_model.specs.Object.{is_counted};
 ghost use Rattle.mm_model.specs.ByBase.{Begins};
 ghost use Rattle.mm_model.specs.ViewEffect.{birth_colour};
 ghost use Rattle.mm_object.specs.Object.{StoredObject, views_of};
 ghost use Rattle.mm_object.specs.Heap.{IsObject, IsSound};
+ghost use Rattle.mm_roots.specs.Stack.{pushed};
 ghost use Rattle.mm_count.specs.Table.{IsRight, IsSameTable};
 ghost use Rattle.mm_count.specs.Counts.{IsCountedBy, KeepsObjects};
 ghost use Rattle.mm_count.specs.Listed.{AllListed, AllListedBut, NonePinned};
@@ -17,6 +18,7 @@ use crate::wanted::{AreaWanted, Made, Reach, Wanted};
 use mm_count::ZeroTable;
 use mm_model::{Colour, Kind, Shape};
 use mm_object::Heap;
+use mm_roots::Stack;
 use mm_steps::Steps;
 use mm_sweep::Journal;
 use std::sync::ledger::Ledger;
@@ -47,6 +49,17 @@ fn enter_newborn<L: Ledger>(
     match kind {
         Kind::Counted => count.born(heap, base, steps),
         Kind::Traced | Kind::Leaf | Kind::Weak => {}
+    }
+}
+
+/// Pushes the base of what was made onto a stack that has room for it.
+fn push_base(stack: &mut Stack, base: u32)
+    requires { length stack.old.words ≢ stack.old.limit }
+    ensures { stack.new ≡ pushed stack.old base }
+{
+    match stack.push(base) {
+        Ok(()) => {}
+        Err(_) => unreachable!(),
     }
 }
 
@@ -83,7 +96,7 @@ impl Gc {
             steps,
         );
         self.born += 1;
-        let _ = self.stack.push(base);
+        push_base(&mut self.stack, base);
         Some(Made::Object(base))
     }
 
@@ -101,7 +114,7 @@ impl Gc {
         let colour = self.birth_colour();
         let base = self.region.create_weak(target, colour, reach, steps)?;
         self.born += 1;
-        let _ = self.stack.push(base);
+        push_base(&mut self.stack, base);
         Some(Made::Object(base))
     }
 

@@ -7,7 +7,7 @@ use Rattle.mm_gc.specs.declared.wanted.Made.TheVariants as made_variants
 use Rattle.mm_gc.specs.Gc.{Gc, view_of_gc, cycle_in}
 use Rattle.mm_gc.specs.Inside.{gc_of}
 use Rattle.mm_gc.specs.Making.{IsWanted}
-use Rattle.mm_gc.proofs.Made.{keeps-unmade, pushed-is, room-pushed, made-of}
+use Rattle.mm_gc.proofs.Made.{keeps-unmade, room-pushed, made-of}
 use Rattle.mm_gc.proofs.MadeObjects.{coloured, new-right, new-listed, object-done, object-answered}
 use Rattle.mm_gc.proofs.Reaching.{place_in_reach-region}
 use Rattle.mm_gc.proofs.Shapes.{shape-fine}
@@ -43,12 +43,17 @@ enter_newborn-requires-clause-listed g c =
     (birth_colour (cycle_in gc)) colour e.created)
     (subst (λ k. Begins r.heap.objects c.in_ok-base.base (newly_stored c.args.shape k)) colour e.begins)
 
+pub push_base-requires : goal.push_base-requires
+push_base-requires g c =
+    let asked = subst (λ (gc : Gc). IsWanted (view_of_gc gc) (wanted.Object c.args.shape)) (sym c.self.view_is)
+    c.requires.wanted in
+    room-pushed (gc_of c.self.inside) c.self.invariant asked.room
+
 pub invariant_of-self-2 : goal.invariant_of-self-2
 invariant_of-self-2 g c =
     let gc = gc_of c.self.inside in
     let e = c.in_ok-base.ensures in
     let n = c.enter_newborn.ensures in
-    let p = c.push.ensures in
     let r = c.create.new.self in
     let base = c.in_ok-base.base in
     let colour = c.birth_colour-colour.ensures ∙ ap (λ (gc : Gc). birth_colour (cycle_in gc)) (sym c.self.view_is) in
@@ -70,8 +75,7 @@ invariant_of-self-2 g c =
       table_same = n.table;
       sound = n.sound;
     })
-    c.push.new.self
-    (pushed-is gc.stack c.push.new.self base c.push.result (room-pushed gc c.self.invariant asked.room) p.pushed p.full)
+    c.push_base.new.stack c.push_base.ensures
     c.args.reach asked.fine
     (place_in_reach-region gc c.self.invariant c.args.reach (wanted.Object c.args.shape) ∙ sym e.place)
 
@@ -80,7 +84,6 @@ returns g c =
     let gc = gc_of c.self.inside in
     let e = c.in_ok-base.ensures in
     let n = c.enter_newborn.ensures in
-    let p = c.push.ensures in
     let r = c.create.new.self in
     let base = c.in_ok-base.base in
     let colour = c.birth_colour-colour.ensures ∙ ap (λ (gc : Gc). birth_colour (cycle_in gc)) (sym c.self.view_is) in
@@ -104,7 +107,6 @@ returns g c =
       table_same = n.table;
       sound = n.sound;
     })
-    c.push.new.self
-    (pushed-is gc.stack c.push.new.self base c.push.result (room-pushed gc c.self.invariant asked.room) p.pushed p.full)
+    c.push_base.new.stack c.push_base.ensures
     c.args.reach asked.fine
     (place_in_reach-region gc c.self.invariant c.args.reach (wanted.Object c.args.shape) ∙ sym e.place))

@@ -5,7 +5,7 @@ use Rattle.mm_gc.specs.declared.wanted.Made.TheVariants as made_variants
 use Rattle.mm_gc.specs.Gc.{Gc, view_of_gc, cycle_in}
 use Rattle.mm_gc.specs.Inside.{gc_of}
 use Rattle.mm_gc.specs.Making.{IsWanted}
-use Rattle.mm_gc.proofs.Made.{keeps-unmade, pushed-is, room-pushed, made-of}
+use Rattle.mm_gc.proofs.Made.{keeps-unmade, room-pushed, made-of}
 use Rattle.mm_gc.proofs.MadeWeak.{target-asked, target-alone, linked-weak, weak-done, weak-answered}
 use Rattle.mm_gc.proofs.Reaching.{place_in_reach-region}
 use Rattle.mm_gc.proofs.gc.Gc.make_weak.Goals as goal
@@ -30,6 +30,12 @@ invariant_of-self g c =
     keeps-unmade (gc_of c.self.inside) c.self.invariant c.create_weak.new.self e.same e.settled
     (e.unchanged c.in_err-base.was) e.areas
 
+pub push_base-requires : goal.push_base-requires
+push_base-requires g c =
+    let wants = subst (λ (gc : Gc). IsWanted (view_of_gc gc) (wanted.WeakOf c.args.target)) (sym c.self.view_is)
+    c.requires.wanted in
+    room-pushed (gc_of c.self.inside) c.self.invariant wants.room
+
 pub invariant_of-self-2 : goal.invariant_of-self-2
 invariant_of-self-2 g c =
     let gc = gc_of c.self.inside in
@@ -43,9 +49,7 @@ invariant_of-self-2 g c =
     weak-done gc c.self.invariant r e.same e.settled c.args.target base asked e.was_none
     (linked-weak gc.region.heap.objects r.heap.objects c.args.target base asked.object c.birth_colour-colour.result
     (birth_colour (cycle_in gc)) colour (e.made asked.object asked.begins))
-    e.linked e.areas c.push.new.self
-    (pushed-is gc.stack c.push.new.self base c.push.result (room-pushed gc c.self.invariant wants.room)
-    c.push.ensures.pushed c.push.ensures.full)
+    e.linked e.areas c.push_base.new.stack c.push_base.ensures
     c.args.reach
     (place_in_reach-region gc c.self.invariant c.args.reach (wanted.WeakOf c.args.target) ∙ sym e.place)
 
@@ -64,8 +68,6 @@ returns g c =
     (weak-answered gc c.self.invariant r e.same e.settled c.args.target base asked e.was_none
     (linked-weak gc.region.heap.objects r.heap.objects c.args.target base asked.object c.birth_colour-colour.result
     (birth_colour (cycle_in gc)) colour (e.made asked.object asked.begins))
-    e.linked e.areas c.push.new.self
-    (pushed-is gc.stack c.push.new.self base c.push.result (room-pushed gc c.self.invariant wants.room)
-    c.push.ensures.pushed c.push.ensures.full)
+    e.linked e.areas c.push_base.new.stack c.push_base.ensures
     c.args.reach
     (place_in_reach-region gc c.self.invariant c.args.reach (wanted.WeakOf c.args.target) ∙ sym e.place))
