@@ -17,7 +17,7 @@ const TWO_PAGES: &[&str] = &["--pages", "2"];
 
 const UP_TO_THREE: &[&str] = &["--pages", "2", "--max", "3"];
 
-const ROWS: [Row<'static>; 26] = [
+const ROWS: [Row<'static>; 28] = [
     (NONE, "", "total 0 0 0 0"),
     (NONE, "new t 0 4", "new 4096;total 1 1 0 1"),
     (
@@ -86,6 +86,19 @@ total 15 3 0 3",
         NONE,
         "new r 0 0;begin;pop 1;reap;new l 0 4;step 1;finish",
         "new 4096;ok;ok;_reap 1;_free 4096;ok;new 4096;ok;_collect 0;ok;total 7 2 1 1",
+    ),
+    // An object that is scanned in part is freed.
+    (
+        NONE,
+        "new r 0 100;begin;step 1;pop 1;reap;finish",
+        "new 4096;ok;_scan 4096 64;ok;ok;_reap 1;_free 4096;ok;_collect 0;ok;total 6 1 1 0",
+    ),
+    // Gray objects are freed, in the queue and out of it, and the last one is found again.
+    (
+        NONE,
+        "new r 0 0;new r 0 0;new t 0 0;begin;pop 3;reap;step 1;finish;collect",
+        "new 4096;new 4112;new 4128;ok;ok;_reap 2;_free 4096;_free 4112;ok;_scan 4128 0;ok;_collect 0;ok;_collect 1;\
+_free 4128;ok;total 9 3 3 0",
     ),
     (
         NONE,
