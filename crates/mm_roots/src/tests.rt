@@ -1,5 +1,7 @@
 ghost use Rattle.std.specs.Prelude.{◌≡◌, ◌<◌, ◌≤◌, vec_capacity};
 
+mod areas;
+
 use crate::{Stack, StackFull};
 use mm_steps::Steps;
 use mm_words::Arena;
