@@ -1,4 +1,6 @@
 // Header words worked out by hand.
+mod heap;
+
 use crate::header::Header;
 use mm_model::{Kind, Shape};
 use std::test::Fail;
