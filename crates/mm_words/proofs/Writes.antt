@@ -1,7 +1,7 @@
 -- What a list reads after a write, for callers of `fill` and `part_mut`.
 use Rattle.std.proofs.Common.{◌≡◌, ℕ, ◌+◌, ◌-◌, ◌<◌, ◌≤◌, List, ◌++◌, length, take, drop, get_or}
 use Rattle.std.proofs.Common.{length-append, ap, sym, refl, ◌∙◌, arith}
-use Rattle.std.proofs.lemmas.List.{length-take, length-drop, get_or-take, get_or_append_left, length-take-le, take_all}
+use Rattle.std.proofs.lemmas.List.{length-take, length-drop, get_or-take, get_or_append_left, take_all}
 use Rattle.std.proofs.lemmas.List.{get_or-append_right, get_or-drop, take-append-le, take-take, drop-append-le}
 use Rattle.std.proofs.lemmas.List.{drop_at, take_at, drop-take}
 use Rattle.std.proofs.lemmas.Slice.{drop-append-drop}

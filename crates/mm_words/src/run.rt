@@ -81,7 +81,7 @@ impl Run {
         requires { IsSeated row loan }
         ensures { IsRun result loan.arena loan.place loan.len row.items }
     {
-        let _written = row.dislodge();
+        row.dislodge();
         let Loan { ptr, len } = loan;
         Run { ptr, len }
     }
