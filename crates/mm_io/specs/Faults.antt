@@ -13,7 +13,7 @@ pub record Counts {T E : Type 0} (before now : ℕ) (result : Result T E) : Type
   pub cause : OnErr result (Rose before now)
   pub unraised : OnOk result (now ≡ before)
 
--- the same over a call of `choose`, where want of memory needs no fault and counts as none
+-- the same over a call of `choose`, where running out of memory needs no fault and counts as none
 pub record CountsChoice {T : Type 0} (before now : ℕ) (result : Result T ChooseFault) : Type 0 where
   pub never_falls : before ≤ now
   pub cause : IsErrOf result Failed → Rose before now

@@ -1,5 +1,5 @@
 -- What a call does to the bytes that a source or a sink tells. `None` stands for one that doesn't tell them.
-use Rattle.std.specs.Prelude.{◌≡◌, ◌≤◌, ◌+◌, ℕ, if◌then◌else◌, ⊤}
+use Rattle.std.specs.Prelude.{◌≡◌, ◌≤◌, ◌+◌, ◌-◌, ℕ, if◌then◌else◌, ⊤}
 use Rattle.std.specs.Prelude.{Option, None, Some, IsSome, List, [], ◌++◌, length, take}
 use Rattle.std.specs.Str.{bytes_eq}
 
@@ -25,6 +25,19 @@ AppendsFront before after bytes = (n : ℕ) × Appends before after (take n byte
 abbrev pub StillTells : ℕ → Option (List ℕ) → Option (List ℕ) → ℕ → Type 0
 StillTells room None after n = ⊤
 StillTells room (Some before) after n = length before + n ≤ room → IsSome after
+
+-- A sink that keeps the first bytes it takes, as many as it has room for, took these. `None` stands for one that
+-- doesn't tell what it keeps.
+abbrev pub KeepsFirst : ℕ → Option (List ℕ) → Option (List ℕ) → List ℕ → Type 0
+KeepsFirst room None None bytes = ⊤
+KeepsFirst room None (Some after) bytes = ⊥
+KeepsFirst room (Some before) None bytes = ⊥
+-- what there is still room for stands behind what it kept
+KeepsFirst room (Some before) (Some after) bytes = after ≡ before ++ take (room - length before) bytes
+
+-- It took some front of these bytes.
+abbrev pub KeepsFront : ℕ → Option (List ℕ) → Option (List ℕ) → List ℕ → Type 0
+KeepsFront room before after bytes = (n : ℕ) × KeepsFirst room before after (take n bytes)
 
 -- A source gave these bytes, the first of those that it had left.
 abbrev pub Gives : Option (List ℕ) → Option (List ℕ) → List ℕ → Type 0

@@ -32,8 +32,10 @@ fn counted<T: Drop>(answer: io::Result<T>, faults: &mut u64) -> Result<T, Failed
 /// Whether a file was opened. Want of memory counts as no fault.
 pub(crate) fn opened<T: Drop>(answer: io::Result<T>, faults: &mut u64) -> Result<T, ChooseFault>
     ensures ok { IfOk answer (λ value. result ≡ Ok value) }
-    ensures memory { IfErr answer (λ error. error_kind error ≡ ErrorKind.OutOfMemory → result ≡ Err ChooseFault.NoMemory) }
-    ensures failed { IfErr answer (λ error. error_kind error ≢ ErrorKind.OutOfMemory → result ≡ Err ChooseFault.Failed) }
+    ensures memory { IfErr answer (λ error.
+        error_kind error ≡ ErrorKind.OutOfMemory → result ≡ Err ChooseFault.NoMemory) }
+    ensures failed { IfErr answer (λ error.
+        error_kind error ≢ ErrorKind.OutOfMemory → result ≡ Err ChooseFault.Failed) }
     ensures faults { CountsChoice faults.old faults.new result }
 {
     match answer {

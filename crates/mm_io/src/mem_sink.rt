@@ -30,6 +30,7 @@ impl MemSink {
         requires { 1 ≤ piece }
         ensures taken { IfOk result (λ sink. ⟦<MemSink as Sink>⟧.taken sink ≡ Some []) }
         ensures room { IfOk result (λ sink. ⟦<MemSink as Sink>⟧.room sink ≡ room) }
+        ensures kept { IfOk result (λ sink. ⟦<MemSink as Sink>⟧.kept sink ≡ Some []) }
         ensures faults { IfOk result (λ sink. ⟦<MemSink as Sink>⟧.faults sink ≡ 0) }
     {
         Ok(MemSink {
@@ -41,7 +42,8 @@ impl MemSink {
 
     /// The bytes that are kept, which are those taken so far unless more came than there is room for.
     pub fn taken(&self) -> &[u8]
-        ensures { IfSome (⟦<MemSink as Sink>⟧.taken self.now) (λ bytes. result.now ≡ bytes) }
+        ensures kept { ⟦<MemSink as Sink>⟧.kept self.now ≡ Some result.now }
+        ensures taken { IfSome (⟦<MemSink as Sink>⟧.taken self.now) (λ bytes. result.now ≡ bytes) }
     {
         self.store.kept()
     }
@@ -55,6 +57,8 @@ impl Sink for MemSink {
     ghost taken = { λ sink. told_of sink.store };
 
     ghost room = { λ sink. sink.store.room };
+
+    ghost kept = { λ sink. Some sink.store.kept.items };
 
     fn write(&mut self, bytes: &[u8]) -> Result<usize, Failed> {
         self.plan.call()?;

@@ -1,5 +1,5 @@
 // Bytes that are kept in memory that was reserved for them.
-ghost use Rattle.std.specs.Prelude.{◌≡◌, ◌+◌, ◌<◌, ◌≤◌, ◌++◌, ◌↔◌, ◌⊎◌, [], Some, length, take, vec_len, vec_capacity};
+ghost use Rattle.std.specs.Prelude.{◌≡◌, ◌+◌, ◌-◌, ◌<◌, ◌≤◌, ◌++◌, ◌↔◌, ◌⊎◌, [], Some, length, take, vec_len, vec_capacity};
 ghost use Rattle.std.specs.Prelude.{IfOk, IfSome, IsTrue};
 
 use crate::NoMemory;
@@ -21,6 +21,7 @@ impl Store {
     pub(crate) fn make(alloc: Global, room: usize) -> Result<Store, NoMemory>
         ensures room { IfOk result (λ store. store.room ≡ room) }
         ensures told { IfOk result (λ store. told_of store ≡ Some []) }
+        ensures empty { IfOk result (λ store. store.kept.items ≡ []) }
     {
         Ok(Store {
             kept: Vec::with_capacity(alloc, room)?,
@@ -31,7 +32,8 @@ impl Store {
 
     /// Keeps the bytes that there is room for, and takes no memory.
     pub(crate) fn put(&mut self, bytes: &[u8])
-        ensures kept { self.new.kept.items ≡ take self.old.room (self.old.kept.items ++ bytes.now) }
+        ensures kept { self.new.kept.items ≡
+            self.old.kept.items ++ take (self.old.room - vec_len self.old.kept) bytes.now }
         ensures spilled { IsTrue self.new.spilled
             ↔ (IsTrue self.old.spilled ⊎ (self.old.room < vec_len self.old.kept + length bytes.now)) }
         ensures room { self.new.room ≡ self.old.room }

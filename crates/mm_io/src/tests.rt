@@ -69,6 +69,17 @@ fn kept_whole(alloc: Global, bytes: &[u8]) -> Result<ZeroFaultSink, AllocError>
     }
 }
 
+// What a sink has no room for, it doesn't keep.
+fn kept_in(alloc: Global, room: usize, bytes: &[u8]) -> Result<ZeroFaultSink, AllocError>
+    ensures { IfOk result (λ sink. ⟦<ZeroFaultSink as Sink>⟧.kept sink ≡ Some (take room bytes.now)) }
+{
+    let mut sink = ZeroFaultSink::make(alloc, room)?;
+    match write_all(&mut sink, bytes) {
+        Ok(()) => Ok(sink),
+        Err(_) => unreachable!(),
+    }
+}
+
 // What a number of reads give, each followed by a bar. A failed read is an exclamation mark.
 fn reads<S: Source>(alloc: Global, source: &mut S, count: u32) -> Result<Vec<u8>, AllocError> {
     let mut seen = Vec::new(alloc);
@@ -256,6 +267,7 @@ fn objects_without_faults_move_every_byte(rt: HostRuntime) -> Result<(), Fail> {
         assert_eq!(rt; sink.taken(), kept);
     }
     assert_eq!(rt; kept_whole(alloc, b"abc")?.taken(), b"abc".as_slice());
+    assert_eq!(rt; kept_in(alloc, 2, b"abc")?.taken(), b"ab".as_slice());
     Ok(())
 }
 

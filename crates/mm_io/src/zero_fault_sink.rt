@@ -19,6 +19,7 @@ impl ZeroFaultSink {
     pub fn make(alloc: Global, room: usize) -> Result<ZeroFaultSink, NoMemory>
         ensures taken { IfOk result (λ sink. ⟦<ZeroFaultSink as Sink>⟧.taken sink ≡ Some []) }
         ensures room { IfOk result (λ sink. ⟦<ZeroFaultSink as Sink>⟧.room sink ≡ room) }
+        ensures kept { IfOk result (λ sink. ⟦<ZeroFaultSink as Sink>⟧.kept sink ≡ Some []) }
     {
         Ok(ZeroFaultSink {
             store: Store::make(alloc, room)?,
@@ -27,7 +28,8 @@ impl ZeroFaultSink {
 
     /// The bytes that are kept, which are those taken so far unless more came than there is room for.
     pub fn taken(&self) -> &[u8]
-        ensures { IfSome (⟦<ZeroFaultSink as Sink>⟧.taken self.now) (λ bytes. result.now ≡ bytes) }
+        ensures kept { ⟦<ZeroFaultSink as Sink>⟧.kept self.now ≡ Some result.now }
+        ensures taken { IfSome (⟦<ZeroFaultSink as Sink>⟧.taken self.now) (λ bytes. result.now ≡ bytes) }
     {
         self.store.kept()
     }
@@ -41,6 +43,8 @@ impl Sink for ZeroFaultSink {
     ghost taken = { λ sink. told_of sink.store };
 
     ghost room = { λ sink. sink.store.room };
+
+    ghost kept = { λ sink. Some sink.store.kept.items };
 
     fn write(&mut self, bytes: &[u8]) -> Result<usize, Failed> {
         self.store.put(bytes);

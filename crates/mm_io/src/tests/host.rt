@@ -120,7 +120,7 @@ fn a_failed_flush_is_counted(rt: HostRuntime) -> Result<(), Fail> {
 }
 
 #[test]
-fn an_opened_file_is_handed_on_and_want_of_memory_is_no_fault(rt: HostRuntime) -> Result<(), Fail> {
+fn an_opened_file_is_handed_on_and_no_memory_is_no_fault(rt: HostRuntime) -> Result<(), Fail> {
     let mut faults = 0;
     assert_eq!(rt; opened(Ok(7), &mut faults), Ok(7));
     for (kind, refusal, counted) in [
