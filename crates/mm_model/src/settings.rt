@@ -14,14 +14,3 @@ pub struct Settings {
     /// The cells of the stack: 1 to 65,536.
     pub stack: u32,
 }
-
-impl Settings {
-    /// What holds where nothing is said.
-    pub const DEFAULT: Settings = Settings {
-        pages: 1024,
-        max: 1024,
-        zct: 256,
-        queue: 256,
-        stack: 1024,
-    };
-}
