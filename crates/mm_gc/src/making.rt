@@ -7,7 +7,6 @@ ghost use Rattle.mm_gc.specs.Making.{area_command};
 ghost use Rattle.mm_gc.specs.Rows.{Tells};
 
 use crate::gc::Gc;
-use crate::reading::is_weak;
 use crate::wanted::{AreaWanted, Made, Wanted};
 use mm_model::{AreaAnswer, Kind, Refusal, Shape, WeakAnswer};
 use mm_roots::MOST_AREAS;
@@ -83,7 +82,7 @@ impl Gc {
         ensures kept { J.keeps journal.old journal.new }
     {
         let target = self.meant(i, steps)?.found;
-        if is_weak(target.shape.kind) {
+        if target.shape.kind.is_weak() {
             return Err(Refusal::NoWeak);
         }
         if self.is_stack_full() {

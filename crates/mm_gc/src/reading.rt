@@ -2,13 +2,12 @@
 ghost use Rattle.std.specs.Prelude.{◌≡◌, ◌+◌, ◌<◌, ◌≤◌};
 ghost use Rattle.mm_model.specs.declared.command.Command.TheVariants as commands;
 ghost use Rattle.mm_model.specs.declared.reply.Reply.TheVariants as replies;
-ghost use Rattle.mm_model.specs.Object.{is_weak};
 ghost use Rattle.mm_gc.specs.Replies.{word_reply, map_reply};
 ghost use Rattle.mm_gc.specs.Rows.{Answers};
 ghost use Rattle.mm_gc.specs.Refused.{MeantAnswer};
 
 use crate::gc::Gc;
-use mm_model::{Kind, Mapped, Refusal, Stat};
+use mm_model::{Mapped, Refusal, Stat};
 use mm_object::Found;
 use mm_steps::Steps;
 use mm_weak::target;
@@ -19,16 +18,6 @@ use std::sync::ledger::Ledger;
 pub(crate) struct Meant {
     pub(crate) word: u32,
     pub(crate) found: Found,
-}
-
-/// Whether an object of this kind is a weak one.
-pub(crate) fn is_weak(kind: Kind) -> bool
-    ensures { result ≡ is_weak kind }
-{
-    match kind {
-        Kind::Weak => true,
-        Kind::Traced | Kind::Leaf | Kind::Counted => false,
-    }
 }
 
 impl Gc {
@@ -74,7 +63,7 @@ impl Gc {
         ensures row { Answers self.old self.new (commands.Look i) (word_reply result) }
     {
         let meant = self.meant(i, steps)?;
-        if !is_weak(meant.found.shape.kind) {
+        if !meant.found.shape.kind.is_weak() {
             return Err(Refusal::NoWeak);
         }
         let word = target(&self.region.heap, meant.found.base, steps);

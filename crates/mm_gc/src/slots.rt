@@ -2,7 +2,6 @@
 ghost use Rattle.std.specs.Prelude.{◌≡◌, ◌==◌, ◌||◌, ℕ, if◌then◌else◌, true, false, OnErr};
 ghost use Rattle.mm_model.specs.declared.command.Command.TheVariants as commands;
 ghost use Rattle.mm_model.specs.declared.reply.Put.TheVariants.{Tight, Loose};
-ghost use Rattle.mm_model.specs.Object.{is_counted};
 ghost use Rattle.mm_model.specs.Store.{is_counted_slot};
 ghost use Rattle.mm_model.specs.ByBase.{Begins};
 ghost use Rattle.mm_model.specs.ObjectView.{ObjectView, slot_kind_of};
@@ -24,27 +23,17 @@ ghost use Rattle.mm_gc.specs.Stores.{IsCounting, IsStored, StoreAnswer, cycle_wi
 use crate::gc::Gc;
 use mm_count::ZeroTable;
 use mm_mark::Marker;
-use mm_model::{Kind, Put, Refusal};
+use mm_model::{Put, Refusal};
 use mm_object::{Heap, Slot};
 use mm_steps::Steps;
 use std::sync::ledger::Ledger;
-
-/// Whether references to an object of this kind are counted.
-fn is_counted(kind: Kind) -> bool
-    ensures { result ≡ is_counted kind }
-{
-    match kind {
-        Kind::Counted => true,
-        Kind::Traced | Kind::Leaf | Kind::Weak => false,
-    }
-}
 
 /// Whether a counted object begins at the word.
 fn begins_counted<L: Ledger>(heap: &Heap, word: u32, steps: &mut Steps<L>) -> bool
     ensures { result ≡ begins_counted_in (views_of heap.now.objects) word }
 {
     match heap.look_up(word, steps) {
-        Some(found) => found.base == word && is_counted(found.shape.kind),
+        Some(found) => found.base == word && found.shape.kind.is_counted(),
         None => false,
     }
 }
@@ -62,7 +51,7 @@ fn falls_in_counted<L: Ledger>(heap: &Heap, word: u32, steps: &mut Steps<L>) -> 
     ensures sound { IsSound heap.now }
 {
     match heap.look_up(word, steps) {
-        Some(found) => is_counted(found.shape.kind),
+        Some(found) => found.shape.kind.is_counted(),
         None => false,
     }
 }

@@ -1,4 +1,6 @@
 // What an object is, as a caller asks for one.
+ghost use Rattle.std.specs.Prelude.{◌≡◌};
+ghost use Rattle.mm_model.specs.Object.{is_counted, is_scanned, is_weak};
 
 /// What a collected object is.
 #[derive(Clone, Copy, Debug, PartialEq, Eq)]
@@ -11,6 +13,38 @@ pub enum Kind {
     Counted,
     /// A weak reference, which has no slots. No trace can ask for one by `new`.
     Weak,
+}
+
+impl Kind {
+    /// Whether references to an object of this kind are counted.
+    pub fn is_counted(self) -> bool
+        ensures { result ≡ is_counted self }
+    {
+        match self {
+            Kind::Counted => true,
+            Kind::Traced | Kind::Leaf | Kind::Weak => false,
+        }
+    }
+
+    /// Whether marking reads the slots of an object of this kind.
+    pub fn is_scanned(self) -> bool
+        ensures { result ≡ is_scanned self }
+    {
+        match self {
+            Kind::Traced | Kind::Counted => true,
+            Kind::Leaf | Kind::Weak => false,
+        }
+    }
+
+    /// Whether an object of this kind is a weak one.
+    pub fn is_weak(self) -> bool
+        ensures { result ≡ is_weak self }
+    {
+        match self {
+            Kind::Weak => true,
+            Kind::Traced | Kind::Leaf | Kind::Counted => false,
+        }
+    }
 }
 
 /// The kind and the slots of an object.

@@ -8,25 +8,15 @@ ghost use Rattle.mm_object.specs.Heap.{with_object, IsObject, HasSlot, IsSound};
 
 use crate::heap::{HEADER_WORDS, Heap, WORD_BYTES, shape_at};
 use crate::slot::Slot;
-use mm_model::{Kind, Shape};
+use mm_model::Shape;
 use mm_steps::Steps;
 use std::sync::ledger::Ledger;
-
-/// Whether marking looks at the slots of such an object.
-fn is_scanned(kind: Kind) -> bool
-    ensures { result ≡ is_scanned kind }
-{
-    match kind {
-        Kind::Traced | Kind::Counted => true,
-        Kind::Leaf | Kind::Weak => false,
-    }
-}
 
 /// How many slots marking looks at.
 fn scanned_slots(shape: Shape) -> u32
     ensures { result ≡ (if is_scanned shape.kind then shape.slots else 0) }
 {
-    if is_scanned(shape.kind) {
+    if shape.kind.is_scanned() {
         shape.slots
     } else {
         0
@@ -43,7 +33,7 @@ impl Heap {
     {
         steps.tick();
         let shape = shape_at(&self.memory, base);
-        let scanned = is_scanned(shape.kind);
+        let scanned = shape.kind.is_scanned();
         let word = self.memory.get(base / WORD_BYTES + HEADER_WORDS + s);
         Slot::of(scanned, shape.counted, s, word)
     }

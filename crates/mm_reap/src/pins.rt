@@ -8,20 +8,10 @@ ghost use Rattle.mm_count.specs.DeadApart.{IsRecounted};
 ghost use Rattle.mm_reap.specs.Pins.{ArePinned, NamesNoCounted};
 
 use mm_count::ZeroTable;
-use mm_model::Kind;
 use mm_object::Heap;
 use mm_roots::Stack;
 use mm_steps::Steps;
 use std::sync::ledger::Ledger;
-
-fn is_counted(kind: Kind) -> bool
-    ensures { result ≡ is_counted kind }
-{
-    match kind {
-        Kind::Counted => true,
-        Kind::Traced | Kind::Leaf | Kind::Weak => false,
-    }
-}
 
 /// The base of the counted object in which a word falls.
 fn counted_in<L: Ledger>(heap: &Heap, word: u32, steps: &mut Steps<L>) -> Option<u32>
@@ -32,7 +22,7 @@ fn counted_in<L: Ledger>(heap: &Heap, word: u32, steps: &mut Steps<L>) -> Option
 {
     match heap.look_up(word, steps) {
         Some(found) => {
-            if is_counted(found.shape.kind) {
+            if found.shape.kind.is_counted() {
                 Some(found.base)
             } else {
                 None
