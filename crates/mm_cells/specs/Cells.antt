@@ -14,8 +14,8 @@ pub record Taken : Type 0 where
   pub colour : Colour
   pub flags : CellBits
 
--- where the table lies, how many pages it is for, for each multiple of 16 bytes the taken cell that begins there, and for
--- each page the length of the run of pages of cells that begins there, 0 where none does
+-- where the table lies, how many pages it is for, for each multiple of 16 bytes the taken cell that begins there, and
+-- for each page the length of the run of pages of cells that begins there, 0 where none does
 pub record Cells : Type 0 where
   pub table : Location
   pub pages : ℕ

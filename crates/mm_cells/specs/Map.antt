@@ -10,8 +10,8 @@ use Rattle.mm_cells.specs.declared.marks.Mark.TheVariants.{Free}
 use Rattle.mm_cells.specs.Marks.{mark_of_cell}
 use Rattle.mm_cells.specs.Uses.{use_of}
 
--- where the table lies, how many pages it is for, the words of the pages' uses, those of their cells' marks, and those of
--- the sets of pages that have room, one for each class
+-- where the table lies, how many pages it is for, the words of the pages' uses, those of their cells' marks, and those
+-- of the sets of pages that have room, one for each class
 pub record Map : Type 0 where
   pub location : Location
   pub pages : ℕ

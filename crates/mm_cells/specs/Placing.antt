@@ -49,8 +49,8 @@ abbrev pub run_length : Size → ℕ
 run_length (Small class) = 1
 run_length (Pages count) = count
 
--- A cell of the page is given back, and the page heap is left so. The run of the page stays parked where another cell of
--- it is taken.
+-- A cell of the page is given back, and the page heap is left so. The run of the page stays parked where another cell
+-- of it is taken.
 pub data LeavesPage (before after : Cells) (heap : heaps.Pages) (page : ℕ) : heaps.Pages → Type 0 where
   Page_stays : (base : ℕ) (cell : Taken) → Begins after base cell → base / 4096 ≡ page → after.runs ≡ before.runs
       → LeavesPage before after heap page heap

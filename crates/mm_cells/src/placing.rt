@@ -20,8 +20,8 @@ use std::sync::ledger::Ledger;
 
 impl Cells {
     /// Takes the lowest cell for so many bytes: a free cell in a page of their class, or in a fresh page, or else whole
-    /// pages. It is refused where there is none. What runs another family has parked stay parked. Each page that it takes
-    /// counts, beside the work on the page heap.
+    /// pages. It is refused where there is none. What runs another family has parked stay parked. Each page that it
+    /// takes counts, beside the work on the page heap.
     pub fn place<L: Ledger>(
         &mut self,
         pages: &mut PageHeap,
@@ -104,7 +104,8 @@ impl Cells {
             (run_length (Small class))) }
         ensures begins { IfOk result (λ base. Begins self.new base (newly_taken (class_size class) colour)) }
         ensures was_free { IfOk result (λ base. slice_get self.old.taken (base / 16) ≡ Some None) }
-        ensures heap { IfOk result (λ base. pages.new ≡ with_parked pages.old (base / 4096) (run_length (Small class))) }
+        ensures heap { IfOk result (λ base. pages.new ≡
+            with_parked pages.old (base / 4096) (run_length (Small class))) }
         ensures unchanged { OnErr result ((self.new ≡ self.old) × (pages.new ≡ pages.old)) }
         ensures parked { AreParked self.new.runs pages.new }
         ensures others { (runs : List ℕ) → AreParked runs pages.old → AreParked runs pages.new }
@@ -146,7 +147,8 @@ impl Cells {
             (run_length (Pages count))) }
         ensures begins { IfOk result (λ base. Begins self.new base (newly_taken (4096 * count) colour)) }
         ensures was_free { IfOk result (λ base. slice_get self.old.taken (base / 16) ≡ Some None) }
-        ensures heap { IfOk result (λ base. pages.new ≡ with_parked pages.old (base / 4096) (run_length (Pages count))) }
+        ensures heap { IfOk result (λ base. pages.new ≡
+            with_parked pages.old (base / 4096) (run_length (Pages count))) }
         ensures unchanged { OnErr result ((self.new ≡ self.old) × (pages.new ≡ pages.old)) }
         ensures parked { AreParked self.new.runs pages.new }
         ensures others { (runs : List ℕ) → AreParked runs pages.old → AreParked runs pages.new }

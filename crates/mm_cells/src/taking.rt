@@ -111,8 +111,8 @@ pub(crate) fn take_pages(table: &mut Table, first: u32, count: u32, colour: Colo
     requires off_zero { 0 < first }
     requires within { first + count ≤ table.old.pages }
     requires unused { AreUnused table.old first count }
-    ensures taken { cells_of table.new ≡
-        with_run (with_cell (cells_of table.old) (4096 * first) (Some (newly_taken (4096 * count) colour))) first count }
+    ensures taken { cells_of table.new ≡ with_run
+        (with_cell (cells_of table.old) (4096 * first) (Some (newly_taken (4096 * count) colour))) first count }
     ensures kept { KeepsCells table.new }
 {
     fill_uses(table, first, count);

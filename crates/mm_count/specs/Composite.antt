@@ -25,8 +25,8 @@ pub record FitsWord (c : Composite) : Type 0 where
   pub count : c.count < 2 ^ 8
   pub place : c.place < 2 ^ 20
 
--- What a counted object says: the count is 255 where it is sticky, and else at most 254. It is in the table only with the
--- count 0, and its place is 0 while it isn't.
+-- What a counted object says: the count is 255 where it is sticky, and else at most 254. It is in the table only with
+-- the count 0, and its place is 0 while it isn't.
 pub record IsComposite (c : Composite) : Type 0 where
   pub sticky : c.sticky ≡ true → c.count ≡ 255
   pub exact : c.sticky ≡ false → c.count ≤ 254

@@ -29,8 +29,8 @@ pub record KeepsPins (before after : StoredObjects) : Type 0 where
   pub same : (base : ℕ) (object now : StoredObject) → Begins before base object → Begins after base now
       → (composite_of now).pinned ≡ (composite_of object).pinned
 
--- What was in the table is still in it, and what is now was before or is named by one of the words. What has the count 0
--- had it before, or is in the table.
+-- What was in the table is still in it, and what is now was before or is named by one of the words. What has the count
+-- 0 had it before, or is in the table.
 pub record ListsNamed (words : List ℕ) (before after : StoredObjects) : Type 0 where
   pub still : (base : ℕ) (object now : StoredObject) → Begins before base object → Begins after base now
       → (composite_of object).listed ≡ true → (composite_of now).listed ≡ true

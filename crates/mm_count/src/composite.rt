@@ -72,7 +72,8 @@ impl Composite {
     /// One reference more. It comes out of the table, and is sticky once the count is 255.
     pub(crate) fn raised(self) -> Composite
         requires { self.count < 255 }
-        ensures { result ≡ record self { count = self.count + 1; place = 0; sticky = self.count == 254; listed = false } }
+        ensures { result ≡
+            record self { count = self.count + 1; place = 0; sticky = self.count == 254; listed = false } }
     {
         Composite {
             count: self.count + 1,

@@ -11,8 +11,8 @@ pub record Block : Type 0 where
   pub extent : ℕ
   pub parked : Bool
 
--- where the table lies, how many pages it is for, the blocks by base, and for each page the length of the run of pages of
--- blocks that begins there, 0 where none does
+-- where the table lies, how many pages it is for, the blocks by base, and for each page the length of the run of pages
+-- of blocks that begins there, 0 where none does
 pub record Fixed : Type 0 where
   pub table : Location
   pub pages : ℕ

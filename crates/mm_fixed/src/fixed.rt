@@ -24,8 +24,9 @@ use std::sync::ledger::Ledger;
 
 /// An allocator of blocks that no collection frees. A block is one of 19 sizes, or some whole pages.
 ///
-/// Blocks are cells of a table of their own, so that they are placed by the same code as objects, and never in a page of
-/// objects. The colour of a cell, which no marking reads here, tells whether the block is out (white) or parked (black).
+/// Blocks are cells of a table of their own, so that they are placed by the same code as objects, and never in a page
+/// of objects. The colour of a cell, which no marking reads here, tells whether the block is out (white) or parked
+/// (black).
 ///
 /// It stands on words of an arena, which go back by `close`, and can't be dropped.
 pub struct Fixed {
@@ -78,8 +79,8 @@ impl Fixed {
     }
 
     /// Hands out the lowest block for so many bytes: a free one in a page of their class, or in a fresh page, or else
-    /// whole pages. It is refused where there is none. What runs another family has parked stay parked. Each page that it
-    /// takes counts, beside the work on the page heap.
+    /// whole pages. It is refused where there is none. What runs another family has parked stay parked. Each page that
+    /// it takes counts, beside the work on the page heap.
     pub fn alloc<L: Ledger>(
         &mut self,
         pages: &mut PageHeap,

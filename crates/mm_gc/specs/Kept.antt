@@ -94,7 +94,8 @@ pub record HasAllPieces (gc : Gc) : Type 0 where
   pub queue : gc.marker.location.arena ≡ gc.region.arena.name
   pub dead : gc.dead.arena ≡ gc.region.arena.name
   pub out : gc.region.arena.out ≡ gc.region.pages.table.size + gc.region.heap.table.size
-      + gc.region.areas.fixed.table.size + gc.region.areas.table.size + gc.stack.location.size + gc.table.location.size + gc.marker.location.size
+      + gc.region.areas.fixed.table.size + gc.region.areas.table.size + gc.stack.location.size
+      + gc.table.location.size + gc.marker.location.size
       + gc.dead.size + 1024 * gc.region.heap.size
 
 pub record KeepsGc (gc : Gc) : Type 0 where

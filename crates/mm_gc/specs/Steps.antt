@@ -12,8 +12,8 @@ use Rattle.mm_reap.specs.Slots.{counted_slots_of}
 use Rattle.mm_sweep.specs.Release.{finalized_slots}
 use Rattle.mm_gc.specs.Gc.{Gc, objects_in, view_of_gc, freed_since, HasRoomForAll}
 
--- What a reap of these bases costs at most, where the stack has so many words, the zero-count table so many entries, and
--- the greatest number of pages so many binary digits: some steps for each of them, for each counted slot of what is
+-- What a reap of these bases costs at most, where the stack has so many words, the zero-count table so many entries,
+-- and the greatest number of pages so many binary digits: some steps for each of them, for each counted slot of what is
 -- freed and for each freed object and digit, and one for each slot that a finalizer is told.
 abbrev pub reap_bound : ObjectsByBase → List ℕ → ℕ → ℕ → ℕ → ℕ
 reap_bound objects dead words entries digits =

@@ -31,8 +31,8 @@ pub fn protected_is_reached()
 
 /// What marking leaves white once the roots are looked at again isn't reached, however far marking has come.
 pub fn unmarked_is_not_reached()
-    ensures { (a : State) (birth : ℕ) → IsGood a → IsTrue (is_some a.cycle) → IsFreedAtFinish a birth → IsReached a birth
-        → ⊥ }
+    ensures { (a : State) (birth : ℕ) → IsGood a → IsTrue (is_some a.cycle) → IsFreedAtFinish a birth
+        → IsReached a birth → ⊥ }
 {}
 
 /// No phase frees a protected object.

@@ -12,8 +12,8 @@ ghost use Rattle.mm_model.specs.ViewEffect.{ViewEffect};
 ghost use Rattle.mm_model.specs.ViewStep.{IsViewRow, IsViewStep};
 ghost use Rattle.mm_model.specs.GoodView.{IsGoodView};
 
-/// A step of a view is a step of every good state that it shows, with one group of lines for all of them. The state after
-/// it is good, and the view that is left shows it.
+/// A step of a view is a step of every good state that it shows, with one group of lines for all of them. The state
+/// after it is good, and the view that is left shows it.
 pub fn steps_of_views_are_steps()
     ensures step { (view : View) (a : State) (command : Command) (group : List Line) (left : View) → IsGood a
         → Shows view a → IsViewStep view command group left → IsStep a command group (after a command group) }

@@ -92,9 +92,9 @@ with_raw h address word = record h { raw = slice_set h.raw (address / 4) (Some w
 abbrev pub piece_at : ℕ → StoredObject → Piece
 piece_at base object = record { base = base; extent = object.extent; family = Objects }
 
--- Its cells are sound. Each object has the extent of its bytes, a shape that is allowed, and lies on the grid of its size
--- in the memory's pages from 1 on. No two overlap, and those that share a page have one size. A word of memory is told
--- apart exactly where it lies in an object.
+-- Its cells are sound. Each object has the extent of its bytes, a shape that is allowed, and lies on the grid of its
+-- size in the memory's pages from 1 on. No two overlap, and those that share a page have one size. A word of memory is
+-- told apart exactly where it lies in an object.
 pub record IsSound (h : Heap) : Type 0 where
   pub cells : IsSoundCells (cells_in h)
   pub entries : length h.objects ≡ 256 * h.pages

@@ -69,8 +69,8 @@ heap_of memory cells =
       raw = raw_from cells.taken 0 memory.words;
     }
 
--- The words of a cell begin with the header of an object that has the cell's extent and finalizer, and all other bits of
--- the header are 0.
+-- The words of a cell begin with the header of an object that has the cell's extent and finalizer, and all other bits
+-- of the header are 0.
 pub record IsHeaded (cell : Taken) (words : List ℕ) : Type 0 where
   pub shape : IsShape (shape_told words)
   pub first : slice_index words 0 ≡ first_word (shape_told words)

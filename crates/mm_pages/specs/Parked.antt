@@ -2,8 +2,8 @@
 use Rattle.std.specs.Prelude.{◌≡◌, ℕ, ◌+◌, ◌<◌, ◌≤◌, List, length, slice_index}
 use Rattle.mm_pages.specs.Pages.{Pages}
 
--- For each page the family's list has the length of its run that begins there, 0 where none does. Each of them is parked
--- in the page heap. What else is parked there is another family's.
+-- For each page the family's list has the length of its run that begins there, 0 where none does. Each of them is
+-- parked in the page heap. What else is parked there is another family's.
 pub record AreParked (runs : List ℕ) (heap : Pages) : Type 0 where
   pub pages : heap.pages ≤ length runs
   pub parked : (page : ℕ) → 0 < slice_index runs page → slice_index heap.parked page ≡ slice_index runs page

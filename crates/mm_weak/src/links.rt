@@ -65,7 +65,8 @@ fn join<L: Ledger>(heap: &mut Heap, base: u32, w: u32, steps: &mut Steps<L>)
     requires target { IsObject heap.old base }
     requires weak { IsObject heap.old w }
     requires apart { base ≢ w }
-    ensures partners { (target weak : StoredObject) → Begins heap.old.objects base target → Begins heap.old.objects w weak
+    ensures partners { (target weak : StoredObject) →
+        Begins heap.old.objects base target → Begins heap.old.objects w weak
         → heap.new ≡ with_partners heap.old base (with_weak w target) w (record weak { link = base }) }
     ensures sound { IsSound heap.new }
 {
@@ -79,7 +80,8 @@ fn part<L: Ledger>(heap: &mut Heap, base: u32, w: u32, steps: &mut Steps<L>)
     requires target { IsObject heap.old base }
     requires weak { IsObject heap.old w }
     requires apart { base ≢ w }
-    ensures partners { (target weak : StoredObject) → Begins heap.old.objects base target → Begins heap.old.objects w weak
+    ensures partners { (target weak : StoredObject) →
+        Begins heap.old.objects base target → Begins heap.old.objects w weak
         → heap.new ≡ with_partners heap.old base (unlinked target) w (record weak { link = 0 }) }
     ensures sound { IsSound heap.new }
     ensures cost { steps.new ≡ steps.old + 4 }

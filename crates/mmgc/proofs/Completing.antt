@@ -1,4 +1,4 @@
--- Nothing but want of memory keeps a run from its end where its input has no fault and no call failed.
+-- Nothing but running out of memory keeps a run from its end where its input has no fault and no call failed.
 use Rattle.std.proofs.Common.{◌≡◌, ◌≢◌, ℕ, ◌≤◌, Bool, true, false, List, [], ◌∷◌, ◌++◌, codes, if◌then◌else◌, length, length-append, Option, Some, None, IsSome, refl, sym, ap, ◌∙◌, subst, append-nil, inl, inr, arith}
 use Rattle.std.specs.Prelude.{IfSome, ◌⊎◌}
 use Rattle.mm_model.specs.Trace.{lines_of, FaultAt}
@@ -110,7 +110,7 @@ module _ (words : List (List ℕ)) (traffic : Traffic) (outcome : Outcome) (says
   serves_complete choice of (inr (inr (inr r))) u =
       inl (r.status ∙ generated_whole r.end traffic.output _ u.writes r.generated.ends.end_is r.generated.ends.written)
 
-  -- nothing but want of memory keeps such a run from its end
+  -- nothing but running out of memory keeps such a run from its end
   pub complete : Ran words traffic outcome says → IsComplete words traffic outcome.status
   complete (inl refuses) u = let none = refuses.unreadable in let some = u.readable in cc (none, some)
   complete (inr (inl lacks)) u = inr lacks.status

@@ -33,7 +33,8 @@ pub record Output : Type 0 where
   pub faults : ℕ
   pub faults_after : ℕ
 
--- How far an input was carried out: the bytes whose lines were, the bytes that were read behind them, and whether no more come.
+-- How far an input was carried out: the bytes whose lines were, the bytes that were read behind them, and whether no
+-- more come.
 pub record Reach : Type 0 where
   pub read : List ℕ
   pub over : List ℕ
@@ -59,7 +60,8 @@ NothingLeft left = IfSome left (λ rest. rest ≡ [])
 abbrev pub IsClean : Reach → Input → Type 0
 IsClean reach input = (reach.over ≡ []) × (input.faults_after ≡ input.faults)
 
--- A read took the bytes past the most that a trace has. What stood before it was carried out, up to the last whole line.
+-- A read took the bytes past the most that a trace has. What stood before it was carried out, up to the last whole
+-- line.
 pub record PassesLength (reach : Reach) (input : Input) : Type 0 where
   pub more_follow : reach.at_end ≡ false
   pub fits : length reach.read ≤ most_bytes

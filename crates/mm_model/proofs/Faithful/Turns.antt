@@ -30,7 +30,8 @@ group-same (line ∷ group) (next ∷ other) rest more p q e =
     let both = group-same group other rest more p (subst (λ l. is_group (l ∷ other) ≡ true) (sym first) q) behind in
     (ap (λ (l : Line). l ∷ group) first ∙ ap (λ (ls : List Line). next ∷ ls) both.0, both.1)
 
-groups-same : (turns others : List Turn) (a : State) → map (λ (t : Turn). t.command) turns ≡ map (λ (t : Turn). t.command) others
+groups-same : (turns others : List Turn) (a : State)
+    → map (λ (t : Turn). t.command) turns ≡ map (λ (t : Turn). t.command) others
     → flat_map (λ (t : Turn). t.group) turns ≡ flat_map (λ (t : Turn). t.group) others
     → AllByRecursion (λ turn. IsTrue (is_group turn.group)) turns
     → AllByRecursion (λ turn. IsTrue (is_group turn.group)) others → AreJoined a turns → AreJoined a others
