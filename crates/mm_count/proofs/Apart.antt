@@ -11,15 +11,16 @@ use Rattle.mm_model.specs.ObjectView.{ObjectView, ObjectsByBase, references_in}
 use Rattle.mm_model.specs.SetsByBase.{count_at}
 use Rattle.mm_model.proofs.Lists.Replaced.{get-set_same, get-set_other}
 use Rattle.mm_model.proofs.View.Entries.{get-changed, same_entries}
+use Rattle.mm_model.proofs.View.ReplacedEntries.{begins_get}
+use Rattle.mm_model.proofs.View.MappedEntries.{begins_mapped, mapped_begins}
+use Rattle.mm_model.proofs.View.ChangedEntries.{change_told, changed-none, map-changed}
 use Rattle.mm_object.specs.Object.{StoredObject, StoredObjects, view_of_stored, views_of}
 use Rattle.mm_count.specs.Table.{composite_of}
 use Rattle.mm_count.specs.Counts.{IsCountedBy}
 use Rattle.mm_count.specs.Apart.{unless_dead, without_dead, AreCountsApart}
-use Rattle.mm_count.proofs.Entries.{begins_get, begins_mapped, mapped_begins}
 use Rattle.mm_count.proofs.Composites.{decides, refutes}
 use Rattle.mm_count.proofs.Counted.{counts_of-begins}
 use Rattle.mm_count.proofs.References.{references_of, references-cleared}
-use Rattle.mm_count.proofs.ChangedEntries.{change_told, changed-none, map-changed}
 
 -- the views but for those at some bases
 abbrev pub views_without : List ℕ → ObjectsByBase → ObjectsByBase

@@ -8,6 +8,7 @@ use Rattle.mm_model.specs.ByBase.{Begins, with_entry}
 use Rattle.mm_model.specs.ObjectView.{ObjectView, ObjectsByBase, references_in}
 use Rattle.mm_model.specs.SetsByBase.{count_at}
 use Rattle.mm_model.proofs.Lists.Replaced.{map-set}
+use Rattle.mm_model.proofs.View.MappedEntries.{begins_mapped, mapped_begins}
 use Rattle.mm_object.specs.Object.{StoredObject, StoredObjects, view_of_stored, views_of}
 use Rattle.mm_object.specs.Heap.{Heap}
 use Rattle.mm_count.specs.declared.composite.Composite.{Composite}
@@ -15,7 +16,7 @@ use Rattle.mm_count.specs.Composite.{FitsWord, IsComposite}
 use Rattle.mm_count.specs.Table.{composite_of}
 use Rattle.mm_count.specs.Counts.{composite_told, counts_of, IsCountedBy, one_more, raised, lowered, entered, left}
 use Rattle.mm_count.specs.Counts.{with_pin, changed_at, unplaced, without_places}
-use Rattle.mm_count.proofs.Entries.{entry_at-begins, begins_mapped, mapped_begins}
+use Rattle.mm_count.proofs.Entries.{entry_at-begins}
 use Rattle.mm_count.proofs.References.{references_of, references-with_entry}
 use Rattle.mm_count.proofs.Places.{bare, bared, composite_of-bare, new, bared-is, cases, IsOwn, IsOther}
 use Rattle.mm_count.proofs.Places.{composite_of-own, composite_of-other}

@@ -1,6 +1,5 @@
 pub mod Apart
 pub mod Born
-pub mod ChangedEntries
 pub mod Changes
 pub mod Composites
 pub mod Counted

@@ -21,6 +21,7 @@ use Rattle.mm_model.specs.ViewWords.{begins_counted_in}
 use Rattle.mm_model.proofs.Good.Living.{each_get}
 use Rattle.mm_model.proofs.View.Entries.{begins_same}
 use Rattle.mm_model.proofs.View.GoodWords.{begins_counted_from}
+use Rattle.mm_model.proofs.View.MappedEntries.{begins_mapped, mapped_begins}
 use Rattle.mm_object.specs.Object.{StoredObject, StoredObjects, view_of_stored, views_of, shape_of}
 use Rattle.mm_object.specs.Heap.{Heap, IsSound}
 use Rattle.mm_object.specs.Header.{IsShape}
@@ -32,7 +33,6 @@ use Rattle.mm_count.specs.Counts.{HasCountedSlot, HasReference}
 use Rattle.mm_count.specs.Listed.{KeepsPins, ListsNamed}
 use Rattle.mm_count.specs.Apart.{without_dead, AreCountsApart}
 use Rattle.mm_count.specs.Kept.{AreTotals, AreLowered}
-use Rattle.mm_count.proofs.Entries.{begins_mapped, mapped_begins}
 use Rattle.mm_count.proofs.Composites.{clash, decides, refutes}
 use Rattle.mm_count.proofs.Places.{cases, IsOwn, IsOther, composite_of-own, composite_of-other}
 use Rattle.mm_count.proofs.Changes.{composite_at-counted}

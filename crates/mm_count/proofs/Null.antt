@@ -3,6 +3,7 @@ use Rattle.std.proofs.Common.{◌≡◌, ◌≢◌, ℕ, [], ◌∷◌, Some, No
 use Rattle.std.specs.Option.{option_map}
 use Rattle.mm_model.specs.ByBase.{Begins, with_entry}
 use Rattle.mm_model.specs.ObjectView.{ObjectView}
+use Rattle.mm_model.proofs.View.MappedEntries.{mapped_begins}
 use Rattle.mm_object.specs.Object.{StoredObject, StoredObjects, view_of_stored, views_of}
 use Rattle.mm_object.specs.Heap.{Heap, IsSound}
 use Rattle.mm_count.specs.declared.composite.Composite.{Composite}
@@ -10,7 +11,6 @@ use Rattle.mm_count.specs.Composite.{composite_in}
 use Rattle.mm_count.specs.Table.{Table}
 use Rattle.mm_count.specs.Counts.{entry_at, composite_at, IsCountedBy, one_more, with_composite, changed_at}
 use Rattle.mm_count.specs.Counts.{without_places, table_raised, table_lowered, KeepsObjects}
-use Rattle.mm_count.proofs.Entries.{mapped_begins}
 use Rattle.mm_count.proofs.Places.{bared}
 use Rattle.mm_count.proofs.Counted.{one_more-other}
 

@@ -7,6 +7,8 @@ use Rattle.std.proofs.lemmas.Bool.{cases_eq}
 use Rattle.mm_model.specs.ByBase.{Begins, with_entry}
 use Rattle.mm_model.proofs.Lists.Replaced.{map-set, map-set_alike}
 use Rattle.mm_model.proofs.View.Entries.{begins_same}
+use Rattle.mm_model.proofs.View.ReplacedEntries.{begins_get, begins_here, begins_there, begins_cases}
+use Rattle.mm_model.proofs.View.MappedEntries.{begins_mapped, mapped_begins}
 use Rattle.mm_object.specs.Object.{StoredObject, StoredObjects}
 use Rattle.mm_object.specs.Heap.{Heap}
 use Rattle.mm_count.specs.declared.composite.Composite.{Composite}
@@ -15,8 +17,7 @@ use Rattle.mm_count.specs.Table.{composite_of}
 use Rattle.mm_count.specs.Counts.{with_composite, changed_at, unplaced, without_places, KeepsObjects}
 use Rattle.mm_count.specs.Kept.{gives}
 use Rattle.mm_count.proofs.Words.{composite_in-word_of, fits-composite_in}
-use Rattle.mm_count.proofs.Entries.{begins_get, entry_at-begins, begins_here, begins_there, begins_cases}
-use Rattle.mm_count.proofs.Entries.{begins_mapped, mapped_begins}
+use Rattle.mm_count.proofs.Entries.{entry_at-begins}
 
 pub set_same : {X : Type 0} (xs : List X) (i : ℕ) (x : X) → slice_get xs i ≡ Some x → slice_set xs i x ≡ xs
 set_same [] i x e = refl

@@ -6,7 +6,7 @@ use Rattle.std.proofs.lemmas.List.Sums.{sum_by-cons}
 use Rattle.mm_model.specs.ByBase.{Begins, Based, with_entry, based_from, based}
 use Rattle.mm_model.specs.ObjectView.{ObjectView, ObjectsByBase, counted_words_of, references_in}
 use Rattle.mm_model.proofs.Lists.KeyedSums.{count-flat_map}
-use Rattle.mm_count.proofs.Entries.{begins_get}
+use Rattle.mm_model.proofs.View.ReplacedEntries.{begins_get}
 
 module _ {X : Type 0} (g : X → ℕ) where
   abbrev weight : Based X → ℕ

@@ -8,11 +8,12 @@ use Rattle.mm_model.specs.Object.{is_counted}
 use Rattle.mm_model.specs.ByBase.{Begins}
 use Rattle.mm_model.proofs.Lists.Growing.{get-front, get-push, get-last}
 use Rattle.mm_model.proofs.View.Entries.{begins_same}
+use Rattle.mm_model.proofs.View.ReplacedEntries.{begins_here, begins_there, begins_cases}
 use Rattle.mm_object.specs.Object.{StoredObject}
 use Rattle.mm_object.specs.Heap.{Heap, with_object}
 use Rattle.mm_count.specs.Table.{Table, with_entries, without_place, composite_of, IsEntry, IsSpelled, IsRight}
 use Rattle.mm_count.specs.Kept.{HasGap}
-use Rattle.mm_count.proofs.Entries.{begins_here, begins_there, begins_cases, without_place_within}
+use Rattle.mm_count.proofs.Entries.{without_place_within}
 use Rattle.mm_count.proofs.Entries.{without_place_other, without_place_gap}
 
 clash : false ≡ true → ⊥

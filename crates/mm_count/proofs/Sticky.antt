@@ -8,9 +8,9 @@ use Rattle.mm_model.specs.Object.{is_counted}
 use Rattle.mm_model.specs.ByBase.{Begins, with_entry}
 use Rattle.mm_model.specs.ObjectView.{ObjectView, ObjectsByBase}
 use Rattle.mm_model.specs.SetsByBase.{count_at}
+use Rattle.mm_model.proofs.View.ChangedEntries.{changed-alike, changed-one, changed-none}
 use Rattle.mm_count.specs.Sticky.{made_sticky, with_sticky}
 use Rattle.mm_count.proofs.Composites.{decides, refutes}
-use Rattle.mm_count.proofs.ChangedEntries.{changed-alike, changed-one, changed-none}
 
 never : (b : Bool) → (b && false) ≡ false
 never true = refl

@@ -17,6 +17,8 @@ use Rattle.mm_model.specs.ObjectView.{ObjectView, ObjectsByBase, counted_words_o
 use Rattle.mm_model.specs.SetsByBase.{count_at}
 use Rattle.mm_model.proofs.Lists.Replaced.{get-set_same, get-set_other, map-set}
 use Rattle.mm_model.proofs.View.Entries.{begins_same}
+use Rattle.mm_model.proofs.View.ReplacedEntries.{begins_get, begins_here, begins_there, begins_cases}
+use Rattle.mm_model.proofs.View.MappedEntries.{begins_mapped, mapped_begins}
 use Rattle.mm_object.specs.Object.{StoredObject, StoredObjects, view_of_stored, views_of}
 use Rattle.mm_object.specs.Heap.{Heap, with_object}
 use Rattle.mm_count.specs.declared.composite.Composite.{Composite}
@@ -24,8 +26,7 @@ use Rattle.mm_count.specs.Table.{Table, composite_of, IsCountedAt, IsRight}
 use Rattle.mm_count.specs.Counts.{composite_told, composite_at, counts_of, IsCountedBy, one_more, raised, changed_at}
 use Rattle.mm_count.specs.Counts.{with_word, written_at, unplaced, without_places, table_lowered, entry_at}
 use Rattle.mm_count.specs.Counts.{with_composite, KeepsObjects, NamesCounted, HasCountedSlot, HasReference}
-use Rattle.mm_count.proofs.Entries.{begins_get, entry_at-begins, begins_here, begins_there, begins_cases}
-use Rattle.mm_count.proofs.Entries.{begins_mapped, mapped_begins}
+use Rattle.mm_count.proofs.Entries.{entry_at-begins}
 use Rattle.mm_count.proofs.Composites.{decides, refutes}
 use Rattle.mm_count.proofs.Counted.{counts_of-begins, one_more-other}
 use Rattle.mm_count.proofs.References.{references_of, references-with_entry}

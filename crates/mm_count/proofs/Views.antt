@@ -7,6 +7,8 @@ use Rattle.mm_model.specs.Object.{is_counted}
 use Rattle.mm_model.specs.ByBase.{Begins, with_entry}
 use Rattle.mm_model.specs.ObjectView.{ObjectView}
 use Rattle.mm_model.proofs.View.Entries.{begins_same}
+use Rattle.mm_model.proofs.View.ReplacedEntries.{begins_get}
+use Rattle.mm_model.proofs.View.MappedEntries.{begins_mapped}
 use Rattle.mm_object.specs.Object.{StoredObject, StoredObjects, view_of_stored, views_of}
 use Rattle.mm_object.specs.Heap.{Heap}
 use Rattle.mm_count.specs.declared.composite.Composite.{Composite}
@@ -17,7 +19,6 @@ use Rattle.mm_count.specs.Counts.{unplaced, without_places, KeepsObjects}
 use Rattle.mm_count.specs.Sticky.{with_sticky, made_sticky}
 use Rattle.mm_count.specs.Listed.{AllListed, AllListedBut, NonePinned, KeepsPins, ListsNamed}
 use Rattle.mm_count.proofs.Words.{composite_in-word_of}
-use Rattle.mm_count.proofs.Entries.{begins_get, begins_mapped}
 use Rattle.mm_count.proofs.Composites.{clash, decides, one_above, raised-sticky, raised-exact}
 use Rattle.mm_count.proofs.Places.{set_same, bare, composite_of-bare, new, cases, IsOwn, IsOther, composite_of-own}
 use Rattle.mm_count.proofs.Places.{composite_of-other, keeps}

@@ -14,6 +14,9 @@ use Rattle.mm_model.specs.ViewWords.{outside_references}
 use Rattle.mm_model.specs.ViewStore.{view_recounted, view_with_word, view_with_sticky}
 use Rattle.mm_model.proofs.Lists.Replaced.{map-set}
 use Rattle.mm_model.proofs.View.Entries.{begins_same}
+use Rattle.mm_model.proofs.View.ReplacedEntries.{begins_get, begins_here, begins_there, begins_cases}
+use Rattle.mm_model.proofs.View.MappedEntries.{begins_mapped}
+use Rattle.mm_model.proofs.View.ChangedEntries.{changed-alike, changed-with_entry, changed_value}
 use Rattle.mm_object.specs.Object.{StoredObject, StoredObjects, view_of_stored, views_of}
 use Rattle.mm_object.specs.Heap.{Heap, with_object}
 use Rattle.mm_count.specs.declared.composite.Composite.{Composite}
@@ -22,13 +25,12 @@ use Rattle.mm_count.specs.Counts.{one_more, raised, changed_at, with_word, writt
 use Rattle.mm_count.specs.Counts.{HasCountedSlot}
 use Rattle.mm_count.specs.Sticky.{made_sticky, with_sticky}
 use Rattle.mm_count.specs.Listed.{AllListed, NonePinned}
-use Rattle.mm_count.proofs.Entries.{begins_get, entry_at-begins, begins_here, begins_there, begins_cases, begins_mapped}
+use Rattle.mm_count.proofs.Entries.{entry_at-begins}
 use Rattle.mm_count.proofs.Composites.{decides, refutes}
 use Rattle.mm_count.proofs.Places.{set_same}
 use Rattle.mm_count.proofs.Counted.{one_more-here}
 use Rattle.mm_count.proofs.Null.{keeps-same}
 use Rattle.mm_count.proofs.Sticky.{made_sticky-alike}
-use Rattle.mm_count.proofs.ChangedEntries.{changed-alike, changed-with_entry, changed_begins}
 use Rattle.mm_count.proofs.Stored.{stored, counted-slot, all-references, one_if, is, first, object-now}
 
 pub keeps-then : (a b c : StoredObjects) → KeepsObjects a b → KeepsObjects b c → KeepsObjects a c
@@ -247,7 +249,7 @@ module _ (h raised_heap written : Heap) (base s word : ℕ) (slot : HasCountedSl
 
     own-sticky : made_sticky V (one_more outside word) word base v ≡ Some (view_of_stored between)
     own-sticky =
-        changed_begins (made_sticky V (one_more outside word) word) V base v (view_of_stored between) begun
+        changed_value (made_sticky V (one_more outside word) word) V base v (view_of_stored between) begun
         (subst (λ vs. Begins vs base (view_of_stored between)) up
         (begins_mapped view_of_stored raised_heap.objects base between there))
 

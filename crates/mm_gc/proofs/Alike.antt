@@ -18,7 +18,7 @@ use Rattle.mm_model.specs.View.{View}
 use Rattle.mm_model.specs.ViewEffect.{with_colour}
 use Rattle.mm_model.specs.ViewPhase.{view_final_lines, view_phase_lines}
 use Rattle.mm_model.specs.ViewWords.{object_at, begins_counted_in}
-use Rattle.mm_gc.proofs.Recoloured.{begins_changed, changed_begins, changed-same}
+use Rattle.mm_model.proofs.View.ChangedEntries.{begins_changed, changed_begins, changed-none}
 
 abbrev pub all_white : ObjectsByBase → ObjectsByBase
 all_white objects = changed (with_colour White) objects
@@ -38,7 +38,7 @@ white-all_white objects base object begins =
 
 pub all_white-white : (objects : ObjectsByBase) → AreWhite objects → all_white objects ≡ objects
 all_white-white objects white =
-    changed-same (with_colour White) objects
+    changed-none (with_colour White) objects
     (λ base object begins.
     ap (λ (c : Colour). Some (record object { colour = c })) (sym (white base object begins)))
 

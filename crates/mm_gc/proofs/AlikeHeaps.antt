@@ -6,6 +6,7 @@ use Rattle.mm_model.specs.ByBase.{Begins}
 use Rattle.mm_model.specs.ObjectView.{ObjectView}
 use Rattle.mm_model.specs.GoodView.{AreWhite}
 use Rattle.mm_model.specs.Object.{is_counted}
+use Rattle.mm_model.proofs.View.MappedEntries.{begins_mapped, mapped_begins}
 use Rattle.mm_object.specs.Object.{StoredObject, StoredObjects, view_of_stored, views_of}
 use Rattle.mm_object.specs.Heap.{Heap}
 use Rattle.mm_object.specs.Colours.{white_object, all_whitened}
@@ -14,7 +15,6 @@ use Rattle.mm_count.specs.Table.{Table, IsRight}
 use Rattle.mm_count.specs.Counts.{IsCountedBy}
 use Rattle.mm_count.proofs.Counted.{counts_of-begins}
 use Rattle.mm_mark.specs.Colours.{IsSameButColours}
-use Rattle.mm_sweep.proofs.Changed.{begins_seen, seen_begins}
 use Rattle.mm_sweep.proofs.Whitened.{whitened, whitened-begins, views-whitened}
 use Rattle.mm_gc.specs.Counts.{HasCounts}
 use Rattle.mm_gc.proofs.Alike.{AreAlike, references-alike, paired-alike, white-all_white}
@@ -45,7 +45,7 @@ module _ (a b : Heap) (same : IsSameButColours a b) where
   begins-stored base y begins =
       let white : Begins (whitened a.objects) base (white_object y) =
       subst (λ (h : Heap). Begins h.objects base (white_object y)) same
-      (begins_seen white_object b.objects base y begins) in
+      (begins_mapped white_object b.objects base y begins) in
       let w = whitened-begins a.objects base (white_object y) white in (
         w.was.colour,
         subst (λ (o : StoredObject). Begins a.objects base o)
@@ -57,7 +57,7 @@ module _ (a b : Heap) (same : IsSameButColours a b) where
   stored-begins base y begins =
       let white : Begins (whitened b.objects) base (white_object y) =
       subst (λ (h : Heap). Begins h.objects base (white_object y)) (sym same)
-      (begins_seen white_object a.objects base y begins) in
+      (begins_mapped white_object a.objects base y begins) in
       let w = whitened-begins b.objects base (white_object y) white in (
         w.was.colour,
         subst (λ (o : StoredObject). Begins b.objects base o)
@@ -91,9 +91,9 @@ module _ (a b : Heap) (same : IsSameButColours a b) where
   counted-alike outside right =
       record {
         exact = λ base view begins counted free.
-            let s = seen_begins view_of_stored b.objects base view begins in
+            let s = mapped_begins view_of_stored b.objects base view begins in
             let one = begins-stored base s.value s.begins in
-            let before = begins_seen view_of_stored a.objects base (record s.value { colour = one.0 }) one.1 in
+            let before = begins_mapped view_of_stored a.objects base (record s.value { colour = one.0 }) one.1 in
             counts_of-begins b.objects base s.value s.begins
             ∙ sym (counts_of-begins a.objects base (record s.value { colour = one.0 }) one.1)
             ∙ right.exact base (view_of_stored (record s.value { colour = one.0 })) before
@@ -102,9 +102,9 @@ module _ (a b : Heap) (same : IsSameButColours a b) where
             ∙ ap (λ (n : ℕ). n + outside base)
             (references-alike (views_of a.objects) (views_of b.objects) views-alike base);
         few = λ base view begins counted free.
-            let s = seen_begins view_of_stored b.objects base view begins in
+            let s = mapped_begins view_of_stored b.objects base view begins in
             let one = begins-stored base s.value s.begins in
-            let before = begins_seen view_of_stored a.objects base (record s.value { colour = one.0 }) one.1 in
+            let before = begins_mapped view_of_stored a.objects base (record s.value { colour = one.0 }) one.1 in
             subst (λ (n : ℕ). n ≤ 254)
             (counts_of-begins a.objects base (record s.value { colour = one.0 }) one.1
             ∙ sym (counts_of-begins b.objects base s.value s.begins))

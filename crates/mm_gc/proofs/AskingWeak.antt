@@ -11,10 +11,10 @@ use Rattle.mm_model.specs.Words.{falls}
 use Rattle.mm_model.specs.ByBase.{Based}
 use Rattle.mm_model.specs.ObjectView.{ObjectView}
 use Rattle.mm_model.proofs.Lists.Truth.{or_true}
+use Rattle.mm_model.proofs.View.MappedEntries.{begins_mapped}
 use Rattle.mm_object.specs.declared.heap.Found.{Found}
 use Rattle.mm_object.specs.Object.{view_of_stored}
 use Rattle.mm_count.proofs.Composites.{differs, refutes}
-use Rattle.mm_count.proofs.Entries.{begins_mapped}
 use Rattle.mm_gc.specs.declared.wanted.Made.{Made}
 use Rattle.mm_gc.specs.declared.wanted.Wanted.TheVariants as wanted
 use Rattle.mm_gc.specs.Gc.{Gc, view_of_gc}

@@ -12,9 +12,9 @@ use Rattle.mm_model.specs.SetsByBase.{with_grayed_objects}
 use Rattle.mm_model.specs.GoodView.{AreWhite}
 use Rattle.mm_model.specs.ViewEffect.{with_colour}
 use Rattle.mm_model.proofs.View.Entries.{begins_same}
+use Rattle.mm_model.proofs.View.ChangedEntries.{begins_changed, changed_begins}
 use Rattle.mm_mark.specs.Draining.{IsDrained}
 use Rattle.mm_sweep.specs.Sweep.{IsWhiteAt}
-use Rattle.mm_gc.proofs.Recoloured.{begins_changed, changed_begins}
 use Rattle.mm_gc.proofs.Reached.{from_shaded, shaded, shaded-begins, kept_is_reached, reached_is_kept}
 
 -- the members of a set are listed as those of another one that has the same bases

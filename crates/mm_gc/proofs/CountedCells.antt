@@ -16,13 +16,13 @@ use Rattle.mm_model.specs.ViewStore.{view_recounted, view_with_sticky, view_stor
 use Rattle.mm_model.specs.ViewWords.{begins_counted_in, cell_kind_of, counted_cells_of, outside_references}
 use Rattle.mm_model.specs.ViewWords.{view_refuses_word}
 use Rattle.mm_model.proofs.Good.Living.{each_get}
+use Rattle.mm_model.proofs.Lists.Fronts.{get-take}
 use Rattle.mm_object.specs.Object.{views_of}
 use Rattle.mm_object.specs.Heap.{Heap}
 use Rattle.mm_count.specs.Counts.{NamesCounted}
 use Rattle.mm_count.specs.Sticky.{with_sticky}
 use Rattle.mm_count.specs.Table.{Table}
 use Rattle.mm_count.proofs.Composites.{refutes, decides}
-use Rattle.mm_count.proofs.Entries.{get-take}
 use Rattle.mm_count.proofs.Stored.{counted-slot, one_if}
 use Rattle.mm_roots.specs.Areas.{Areas}
 use Rattle.mm_roots.specs.Views.{views_of_areas, with_cell}

@@ -11,7 +11,7 @@ use Rattle.mm_model.specs.ObjectView.{ObjectView, ObjectsByBase}
 use Rattle.mm_model.specs.ViewEffect.{birth_colour}
 use Rattle.mm_model.proofs.Lists.Replaced.{get-set_other, get-set_cases}
 use Rattle.mm_model.proofs.View.Entries.{begins_same}
-use Rattle.mm_count.proofs.Entries.{begins_here, begins_there, begins_cases}
+use Rattle.mm_model.proofs.View.ReplacedEntries.{begins_here, begins_there, begins_cases}
 use Rattle.mm_mark.specs.Marker.{Marker}
 use Rattle.mm_mark.specs.Colours.{IsGrayAt, IsWhiteAt}
 use Rattle.mm_mark.specs.Stale.{KeepsFewStale}

@@ -14,6 +14,7 @@ use Rattle.mm_model.specs.View.{View, AreaView, CycleView}
 use Rattle.mm_model.specs.ViewWords.{outside_references}
 use Rattle.mm_model.specs.ViewEffect.{birth_colour, newborn_view, view_with_born, view_new_effect}
 use Rattle.mm_model.proofs.Lists.Replaced.{get-set_cases}
+use Rattle.mm_model.proofs.View.MappedEntries.{begins_mapped, mapped_begins}
 use Rattle.mm_roots.specs.Stack.{Cells, pushed}
 use Rattle.mm_object.specs.Object.{StoredObject, StoredObjects, newly_stored, view_of_stored, views_of}
 use Rattle.mm_object.specs.Heap.{Heap, IsSound}
@@ -22,7 +23,6 @@ use Rattle.mm_count.specs.Counts.{IsCountedBy, KeepsObjects}
 use Rattle.mm_count.specs.Listed.{AllListed, AllListedBut, NonePinned}
 use Rattle.mm_count.proofs.Born.{right-born}
 use Rattle.mm_count.proofs.Null.{none_begins}
-use Rattle.mm_count.proofs.Entries.{begins_mapped, mapped_begins}
 use Rattle.mm_mark.specs.Colours.{IsGrayAt}
 use Rattle.mm_mark.specs.Stale.{HasFewStale}
 use Rattle.mm_mark.proofs.Keeping.{known-kept}

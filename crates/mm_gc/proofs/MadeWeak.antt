@@ -18,6 +18,8 @@ use Rattle.mm_model.proofs.Lists.Replaced.{get-set_same, get-set_other, map-set}
 use Rattle.mm_model.specs.GoodView.{IsPairedAt}
 use Rattle.mm_model.proofs.View.Entries.{begins_same}
 use Rattle.mm_model.proofs.View.GoodRoom.{object_at-begins}
+use Rattle.mm_model.proofs.View.ReplacedEntries.{begins_get, begins_here, begins_cases}
+use Rattle.mm_model.proofs.View.MappedEntries.{begins_mapped, mapped_begins}
 use Rattle.mm_roots.specs.Stack.{Cells, pushed}
 use Rattle.mm_object.specs.Object.{StoredObject, StoredObjects, view_of_stored, views_of}
 use Rattle.mm_object.specs.Heap.{Heap}
@@ -28,7 +30,6 @@ use Rattle.mm_count.specs.Listed.{IsListedAtZero, AllListed, NonePinned}
 use Rattle.mm_count.proofs.Born.{right-born}
 use Rattle.mm_count.proofs.Composites.{differs, refutes}
 use Rattle.mm_count.proofs.Counted.{counts_of-begins}
-use Rattle.mm_count.proofs.Entries.{begins_get, begins_here, begins_mapped, mapped_begins, begins_cases}
 use Rattle.mm_count.proofs.Null.{none_begins}
 use Rattle.mm_count.proofs.References.{references_of, references-with_entry}
 use Rattle.mm_count.proofs.Right.{right-kept}

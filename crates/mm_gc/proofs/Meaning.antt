@@ -21,10 +21,10 @@ use Rattle.mm_model.specs.ViewEffect.{ViewEffect, view_pushes, view_look_effect,
 use Rattle.mm_model.specs.ViewStep.{IsViewRow}
 use Rattle.mm_model.proofs.Places.Falling.{falls_from, falls_within}
 use Rattle.mm_model.proofs.View.GoodRoom.{resolved_in-falls, resolved_in-begins}
+use Rattle.mm_model.proofs.View.MappedEntries.{begins_mapped, mapped_begins}
 use Rattle.mm_object.specs.declared.heap.Found.{Found}
 use Rattle.mm_object.specs.Object.{StoredObject, view_of_stored, shape_of}
 use Rattle.mm_object.specs.Heap.{Heap, IsSound, Covers, FallsInNone}
-use Rattle.mm_count.proofs.Entries.{begins_mapped, mapped_begins}
 use Rattle.mm_gc.specs.Gc.{Gc, view_of_gc}
 use Rattle.mm_gc.specs.Rows.{Answers}
 use Rattle.mm_gc.specs.Refused.{IsMeant, MeansNothing, MeantAnswer, PushAnswer}

@@ -20,12 +20,12 @@ use Rattle.mm_model.proofs.Lists.KeyedSums.{count-flat_map}
 use Rattle.mm_model.proofs.Lists.Replaced.{get-set_other, get-set_cases, map-set}
 use Rattle.mm_model.proofs.View.Entries.{begins_at, begins_same}
 use Rattle.mm_model.proofs.View.GoodWords.{BeginsCounted, counted_slot, counted_cell}
+use Rattle.mm_model.proofs.View.MappedEntries.{begins_mapped, mapped_begins}
 use Rattle.mm_object.specs.Object.{StoredObject, StoredObjects, view_of_stored, views_of}
 use Rattle.mm_count.specs.Composite.{composite_in}
 use Rattle.mm_count.specs.Table.{composite_of}
 use Rattle.mm_count.specs.Counts.{counts_of, IsCountedBy}
 use Rattle.mm_count.specs.Listed.{IsListedAtZero, AllListed, AllListedBut, NonePinned}
-use Rattle.mm_count.proofs.Entries.{begins_mapped, mapped_begins}
 use Rattle.mm_count.proofs.Counted.{counts_of-begins}
 use Rattle.mm_count.proofs.References.{references_of, references-cleared}
 

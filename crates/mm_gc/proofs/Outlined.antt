@@ -18,8 +18,9 @@ use Rattle.mm_model.specs.ViewStore.{view_made_sticky, view_barrier, view_is_pas
 use Rattle.mm_model.specs.SetsByBase.{grayed_at}
 use Rattle.mm_model.specs.Marking.{is_raw, is_white, is_black}
 use Rattle.mm_model.proofs.Lists.Replaced.{map-set_alike}
-use Rattle.mm_count.proofs.ChangedEntries.{map-changed, changed-none}
-use Rattle.mm_count.proofs.Entries.{begins_get, begins_mapped, mapped_begins, IsMapped}
+use Rattle.mm_model.proofs.View.ChangedEntries.{map-changed, changed-none}
+use Rattle.mm_model.proofs.View.ReplacedEntries.{begins_get}
+use Rattle.mm_model.proofs.View.MappedEntries.{begins_mapped, mapped_begins, IsMapped}
 use Rattle.mm_mark.specs.Marker.{Marker, AreKnown, IsUnderScan, has_gray, is_gray_entry}
 use Rattle.mm_mark.specs.Stale.{KeepsFewStale}
 use Rattle.mm_mark.proofs.Keeping.{few-kept}

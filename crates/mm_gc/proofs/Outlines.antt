@@ -10,6 +10,7 @@ use Rattle.mm_model.specs.ByBase.{Begins, Based, based_from}
 use Rattle.mm_model.specs.ObjectView.{ObjectView, counted_words_of, references_in}
 use Rattle.mm_model.specs.SetsByBase.{count_at}
 use Rattle.mm_model.specs.GoodView.{IsPairedAt}
+use Rattle.mm_model.proofs.View.MappedEntries.{begins_mapped, mapped_begins, IsMapped}
 use Rattle.mm_object.specs.Object.{StoredObject, StoredObjects, view_of_stored, views_of}
 use Rattle.mm_object.specs.Heap.{Heap}
 use Rattle.mm_object.specs.Colours.{white_object}
@@ -17,7 +18,6 @@ use Rattle.mm_count.specs.Table.{Table, composite_of, IsSpelled, IsRight}
 use Rattle.mm_count.specs.Counts.{counts_of, IsCountedBy, KeepsObjects}
 use Rattle.mm_count.specs.Listed.{IsListedAtZero, AllListed, NonePinned}
 use Rattle.mm_count.proofs.Counted.{counts_of-begins}
-use Rattle.mm_count.proofs.Entries.{begins_mapped, mapped_begins, IsMapped}
 use Rattle.mm_weak.specs.Links.{IsLinked, is_linked_target}
 
 -- an object but for its words and its colour

@@ -17,11 +17,11 @@ use Rattle.mm_model.specs.View.{View}
 use Rattle.mm_model.specs.ViewWords.{outside_references}
 use Rattle.mm_model.specs.ViewStep.{IsViewRow}
 use Rattle.mm_model.specs.ViewStore.{view_barrier, view_put}
+use Rattle.mm_model.proofs.View.MappedEntries.{begins_mapped, mapped_begins, IsMapped}
 use Rattle.mm_object.specs.declared.heap.Found.{Found}
 use Rattle.mm_object.specs.Object.{view_of_stored, views_of}
 use Rattle.mm_object.specs.Heap.{Heap, HasSlot, IsSound}
 use Rattle.mm_count.specs.Table.{Table, IsSameTable}
-use Rattle.mm_count.proofs.Entries.{begins_mapped, mapped_begins, IsMapped}
 use Rattle.mm_mark.specs.Marker.{Marker, AreKnown, KeepsGray, IsUnderScan, IsSameButQueue, marking}
 use Rattle.mm_mark.specs.Stale.{KeepsFewStale}
 use Rattle.mm_gc.specs.Gc.{Gc, view_of_gc}

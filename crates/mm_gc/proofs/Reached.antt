@@ -7,7 +7,7 @@ use Rattle.mm_model.specs.ByBase.{Begins}
 use Rattle.mm_model.specs.ObjectView.{ObjectView, ObjectsByBase, names_at, scanned_words_of}
 use Rattle.mm_model.specs.SetsByBase.{IsReachedAt, IsKeptAtFinishAt, grayed_at, with_grayed_objects}
 use Rattle.mm_model.specs.GoodView.{AreWhite}
-use Rattle.mm_gc.proofs.Recoloured.{begins_changed, changed_begins}
+use Rattle.mm_model.proofs.View.ChangedEntries.{begins_changed, changed_begins}
 
 module _ (objects : ObjectsByBase) (words : List ℕ) where
   abbrev pub grayed : ObjectsByBase

@@ -17,6 +17,7 @@ use Rattle.mm_model.specs.ViewPhase.{view_after_release, unless_listed, view_par
 use Rattle.mm_model.specs.ViewPhase.{view_phase_lines, view_released, view_reaped, ViewReaps}
 use Rattle.mm_model.specs.ViewWords.{outside_references, view_zero_count}
 use Rattle.mm_model.proofs.View.GoodRoom.{few_objects}
+use Rattle.mm_model.proofs.View.ChangedEntries.{begins_changed, changed_begins}
 use Rattle.mm_words.specs.Location.{Location}
 use Rattle.mm_count.specs.Counts.{IsCountedBy}
 use Rattle.mm_count.specs.Table.{Table, IsSameTable}
@@ -34,7 +35,6 @@ use Rattle.mm_gc.specs.Rows.{Kept, Tells, IsRowOf, WritesLines}
 use Rattle.mm_gc.specs.Showing.{IsShowing}
 use Rattle.mm_gc.proofs.Begun.{partly-scanned}
 use Rattle.mm_gc.proofs.Freed.{same-parts, outside-kept}
-use Rattle.mm_gc.proofs.Recoloured.{begins_changed, changed_begins}
 use Rattle.mm_gc.proofs.Rooms.{HasSameRooms, rooms-kept, pieces-kept}
 use Rattle.mm_gc.proofs.Rows.Phases.{reap-row}
 use Rattle.mm_gc.proofs.Shown.{row-of, showing-good}

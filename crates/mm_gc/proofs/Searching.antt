@@ -28,6 +28,7 @@ use Rattle.mm_model.proofs.Lists.Keyed.{refuted}
 use Rattle.mm_model.proofs.Lists.Passing.{any-front}
 use Rattle.mm_model.proofs.Text.Journals.{writes-none, writes-append}
 use Rattle.mm_model.proofs.View.Entries.{begins_same}
+use Rattle.mm_model.proofs.View.ChangedEntries.{begins_changed}
 use Rattle.mm_gc.specs.declared.wanted.Wanted.{Wanted}
 use Rattle.mm_gc.specs.declared.wanted.Wanted.TheVariants as wanted
 use Rattle.mm_gc.specs.declared.wanted.Made.{Made}
@@ -38,7 +39,6 @@ use Rattle.mm_gc.specs.Gc.{Gc, view_of_gc}
 use Rattle.mm_gc.specs.Making.{IsWanted, IsWantedWeak, IsMade, Searches, family_of, bytes_of, effect_of, place_in_reach}
 use Rattle.mm_gc.specs.Making.{made_reply}
 use Rattle.mm_gc.specs.Rows.{Kept, Tells}
-use Rattle.mm_gc.proofs.Recoloured.{begins_changed}
 use Rattle.mm_gc.proofs.Rows.Making.{makes-at_once, makes-after_reap, makes-after_collection}
 
 -- something was made only where there is a place

@@ -4,13 +4,13 @@ use Rattle.std.specs.List.{AllByRecursion}
 use Rattle.mm_model.specs.ByBase.{Begins}
 use Rattle.mm_model.specs.ObjectView.{ObjectView, ObjectsByBase}
 use Rattle.mm_model.specs.SetsByBase.{AreBasesAt}
+use Rattle.mm_model.proofs.View.MappedEntries.{mapped_begins}
 use Rattle.mm_object.specs.Object.{view_of_stored, views_of}
 use Rattle.mm_object.specs.Heap.{Heap}
 use Rattle.mm_weak.specs.Links.{IsLinked}
 use Rattle.mm_count.specs.DeadApart.{AreDeadApart, IsRecounted}
 use Rattle.mm_sweep.specs.Release.{AreObjects}
 use Rattle.mm_sweep.specs.Sweep.{KeepsWhitened}
-use Rattle.mm_sweep.proofs.Changed.{seen_begins}
 use Rattle.mm_gc.specs.Regions.{IsReleasable}
 use Rattle.mm_gc.proofs.Alike.{all_white, AreAlike, paired-alike, begins-alike}
 
@@ -22,7 +22,7 @@ objects-alike Dead views h same [] only = tt
 objects-alike Dead views h same (base ∷ bases) only =
     let first = only.0 in
     let there = begins-alike (views_of h.objects) views same base first.0 first.1 in
-    let stored = seen_begins view_of_stored h.objects base (record first.0 { colour = there.0 }) there.1 in
+    let stored = mapped_begins view_of_stored h.objects base (record first.0 { colour = there.0 }) there.1 in
     ((stored.value, stored.begins), objects-alike Dead views h same bases only.1)
 
 pub releasable : (Dead : ℕ → Type 0) (views : ObjectsByBase) (h : Heap) (words : List ℕ) (k : ℕ) → k ≤ length words

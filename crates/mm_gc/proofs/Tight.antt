@@ -12,9 +12,9 @@ use Rattle.mm_model.proofs.Places.Falling.{falls_from, falls_within}
 use Rattle.mm_model.proofs.Places.Placing.{both}
 use Rattle.mm_model.proofs.View.Entries.{any_begins, begins_any, begins_same}
 use Rattle.mm_model.proofs.View.GoodWords.{begins_counted_from, begins_counted_to}
+use Rattle.mm_model.proofs.View.MappedEntries.{begins_mapped, mapped_begins}
 use Rattle.mm_object.specs.Object.{StoredObject, view_of_stored, views_of}
 use Rattle.mm_object.specs.Heap.{Heap, Covers, FallsInNone, IsSound}
-use Rattle.mm_count.proofs.Entries.{begins_mapped, mapped_begins}
 use Rattle.mm_mark.proofs.Told.{one_covering, covers_at_base}
 
 same_truth : (a b : Bool) → (a ≡ true → b ≡ true) → (b ≡ true → a ≡ true) → a ≡ b

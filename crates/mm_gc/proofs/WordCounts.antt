@@ -1,5 +1,6 @@
 -- A word that a counted cell holds is counted once more, or once less.
 use Rattle.std.proofs.Common.{◌≡◌, ◌≢◌, ℕ, sym, ap, ◌∙◌, arith}
+use Rattle.mm_model.proofs.View.MappedEntries.{begins_mapped}
 use Rattle.mm_object.specs.Object.{StoredObjects, view_of_stored}
 use Rattle.mm_object.specs.Heap.{Heap, IsSound}
 use Rattle.mm_count.specs.declared.composite.Composite.{Composite}
@@ -7,7 +8,7 @@ use Rattle.mm_count.specs.Table.{Table, composite_of}
 use Rattle.mm_count.specs.Counts.{NamesCounted, HasReference, composite_told, composite_at}
 use Rattle.mm_count.specs.Counts.{one_more}
 use Rattle.mm_count.proofs.Counted.{one_more-here}
-use Rattle.mm_count.proofs.Entries.{entry_at-begins, begins_mapped}
+use Rattle.mm_count.proofs.Entries.{entry_at-begins}
 use Rattle.mm_count.proofs.Null.{counted_more-zero, counted_less-zero}
 use Rattle.mm_gc.specs.Counts.{HasCounts}
 use Rattle.mm_gc.specs.AreaCells.{HoldsCount}

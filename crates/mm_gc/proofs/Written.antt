@@ -25,6 +25,9 @@ use Rattle.mm_model.proofs.Good.Living.{each_get}
 use Rattle.mm_model.proofs.Lists.Replaced.{map-set, map-set_alike}
 use Rattle.mm_model.proofs.View.Entries.{begins_same}
 use Rattle.mm_model.proofs.View.GoodWords.{begins_counted_from}
+use Rattle.mm_model.proofs.View.ReplacedEntries.{begins_get}
+use Rattle.mm_model.proofs.View.MappedEntries.{begins_mapped, mapped_begins}
+use Rattle.mm_model.proofs.Lists.Fronts.{get-take}
 use Rattle.mm_object.specs.declared.slot.Slot.TheVariants as slots
 use Rattle.mm_object.specs.Object.{StoredObject, StoredObjects, view_of_stored, views_of, slot_with}
 use Rattle.mm_object.specs.Heap.{Heap, with_object}
@@ -34,7 +37,7 @@ use Rattle.mm_count.specs.Counts.{IsCountedBy, NamesCounted, HasCountedSlot, Has
 use Rattle.mm_count.specs.Counts.{composite_told, composite_at, table_raised, table_lowered, table_left, written_at}
 use Rattle.mm_count.specs.Counts.{with_word}
 use Rattle.mm_count.proofs.Composites.{refutes, decides}
-use Rattle.mm_count.proofs.Entries.{begins_get, entry_at-begins, begins_mapped, mapped_begins, get-take}
+use Rattle.mm_count.proofs.Entries.{entry_at-begins}
 use Rattle.mm_count.proofs.References.{references_of, references-with_entry}
 use Rattle.mm_count.proofs.Stored.{all-references, counted-slot, one_if}
 use Rattle.mm_weak.specs.Links.{IsLinked}

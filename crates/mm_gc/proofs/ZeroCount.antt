@@ -20,7 +20,7 @@ use Rattle.mm_count.specs.Listed.{AllListed}
 use Rattle.mm_model.proofs.Lists.Growing.{find-Some}
 use Rattle.mm_model.proofs.Lists.Truth.{together, not-false}
 use Rattle.mm_model.proofs.Places.Placing.{both}
-use Rattle.mm_count.proofs.Entries.{begins_mapped, mapped_begins}
+use Rattle.mm_model.proofs.View.MappedEntries.{begins_mapped, mapped_begins}
 use Rattle.mm_count.proofs.Counted.{counts_of-begins}
 use Rattle.mm_count.proofs.Composites.{not-true_is}
 

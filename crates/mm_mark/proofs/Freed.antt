@@ -7,46 +7,12 @@ use Rattle.mm_model.specs.Phase.{lists}
 use Rattle.mm_model.specs.ByBase.{Begins, changed}
 use Rattle.mm_model.specs.ObjectView.{ObjectView, ObjectsByBase, holds_base}
 use Rattle.mm_model.specs.ViewPhase.{unless_listed, view_after_release}
-use Rattle.mm_model.proofs.View.Entries.{get-changed, length-changed}
+use Rattle.mm_model.proofs.View.ChangedEntries.{begins_changed, changed_begins}
+use Rattle.mm_model.proofs.View.Entries.{length-changed}
 use Rattle.mm_mark.specs.Marker.{Marking}
 use Rattle.mm_mark.specs.Colours.{IsGrayAt, IsWhiteAt}
 use Rattle.mm_mark.specs.Stale.{HasFewStale}
 use Rattle.mm_mark.proofs.Keeping.{few-freed}
-
--- Of lists by base: what begins in a changed list began there before, and what a change keeps begins in it.
-record IsChangedFrom {X : Type 0} (f : ℕ → X → Option X) (entries : List (Option X)) (base : ℕ) (x : X) : Type 0 where
-  value : X
-  begins : Begins entries base value
-  is : f base value ≡ Some x
-
-changed_begins : {X : Type 0} (f : ℕ → X → Option X) (entries : List (Option X)) (base : ℕ) (x : X)
-    → Begins (changed f entries) base x → IsChangedFrom f entries base x
-changed_begins {X} f entries base x h =
-    split (slice_get entries h.grain) refl (sym (get-changed f entries h.grain) ∙ h.is)
-  where
-    split : (found : Option (Option X)) → slice_get entries h.grain ≡ found
-        → option_map (option_and_then (f (16 * h.grain))) found ≡ Some (Some x) → IsChangedFrom f entries base x
-    split None e is = cc
-    split (Some None) e is = cc
-    split (Some (Some y)) e is =
-        record {
-          value = y;
-          begins = record { grain = h.grain; aligned = h.aligned; is = e };
-          is = ap (λ (n : ℕ). f n y) h.aligned ∙ inner is;
-        }
-      where
-        inner : ◌≡◌ {A = Option (Option X)} (Some (f (16 * h.grain) y)) (Some (Some x)) → f (16 * h.grain) y ≡ Some x
-        inner both = cc
-
-begins_changed : {X : Type 0} (f : ℕ → X → Option X) (entries : List (Option X)) (base : ℕ) (x y : X)
-    → Begins entries base x → f base x ≡ Some y → Begins (changed f entries) base y
-begins_changed {X} f entries base x y h is = record {
-  grain = h.grain;
-  aligned = h.aligned;
-  is =
-      get-changed f entries h.grain ∙ ap (option_map (option_and_then (f (16 * h.grain)))) h.is
-      ∙ ap (λ (e : Option X). Some e) (ap (λ (n : ℕ). f n x) (sym h.aligned) ∙ is);
-}
 
 -- an object that is left
 abbrev left : List ℕ → ObjectView → ObjectView
@@ -57,7 +23,7 @@ white-before : (dead : List ℕ) (objects : ObjectsByBase) (base : ℕ)
     → IsWhiteAt (changed (view_after_release dead) objects) base → IsWhiteAt objects base
 white-before dead objects base white =
     let one = changed_begins (view_after_release dead) objects base white.object white.begins in
-    record { object = one.value; begins = one.begins; is = same one.value (lists dead base) one.is ∙ white.is }
+    record { object = one.before; begins = one.begins; is = same one.before (lists dead base) one.is ∙ white.is }
   where
     same : (x : ObjectView) (b : Bool) → (if b then None else Some (left dead x)) ≡ Some white.object
         → x.colour ≡ white.object.colour

@@ -1,4 +1,5 @@
 pub mod Counts
+pub mod Fronts
 pub mod Growing
 pub mod Keyed
 pub mod KeyedSums

@@ -4,6 +4,7 @@ pub mod Areas
 pub mod Barrier
 pub mod Bases
 pub mod Births
+pub mod ChangedEntries
 pub mod Changes
 pub mod CommonBases
 pub mod Ends
@@ -14,6 +15,7 @@ pub mod GoodViews
 pub mod GoodWords
 pub mod Graying
 pub mod Makes
+pub mod MappedEntries
 pub mod MarkedSets
 pub mod Meaning
 pub mod NewObjects
@@ -26,6 +28,7 @@ pub mod Puts
 pub mod Reads
 pub mod Reapable
 pub mod Releases
+pub mod ReplacedEntries
 pub mod Room
 pub mod Rows
 pub mod SameEffects

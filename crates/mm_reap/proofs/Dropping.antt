@@ -11,8 +11,8 @@ use Rattle.mm_model.specs.SetsByBase.{IsReapableAt}
 use Rattle.mm_model.proofs.Lists.Growing.{any_get}
 use Rattle.mm_model.proofs.Lists.Tests.{same_tests}
 use Rattle.mm_model.proofs.Lists.Truth.{no_other, or_true}
-use Rattle.mm_count.proofs.Entries.{get-take, get-take_within}
 use Rattle.mm_model.proofs.View.Entries.{begins_same}
+use Rattle.mm_model.proofs.Lists.Fronts.{get-take, get-take_within}
 use Rattle.mm_object.specs.Object.{StoredObjects, view_of_stored, views_of}
 use Rattle.mm_object.specs.Heap.{Heap}
 use Rattle.mm_count.specs.declared.composite.Composite.{Composite}

@@ -3,13 +3,14 @@ use Rattle.std.proofs.Common.{◌≡◌, ℕ, refl, sym, ap, ◌∙◌, subst}
 use Rattle.mm_model.specs.ByBase.{Begins}
 use Rattle.mm_model.specs.ObjectView.{ObjectView, ObjectsByBase}
 use Rattle.mm_model.proofs.View.Entries.{begins_same}
+use Rattle.mm_model.proofs.View.MappedEntries.{begins_mapped, mapped_begins}
 use Rattle.mm_object.specs.Object.{StoredObject, StoredObjects, view_of_stored, views_of}
 use Rattle.mm_object.specs.Heap.{Heap}
 use Rattle.mm_count.specs.declared.composite.Composite.{Composite}
 use Rattle.mm_count.specs.Table.{composite_of, IsCountedAt}
 use Rattle.mm_count.specs.Counts.{composite_told, composite_at, KeepsObjects}
 use Rattle.mm_count.specs.DeadApart.{IsRecounted}
-use Rattle.mm_count.proofs.Entries.{entry_at-begins, begins_mapped, mapped_begins}
+use Rattle.mm_count.proofs.Entries.{entry_at-begins}
 use Rattle.mm_count.proofs.Null.{keeps-same}
 
 pub composite_at-begins : (objects : StoredObjects) (base : ℕ) (o : StoredObject) → Begins objects base o

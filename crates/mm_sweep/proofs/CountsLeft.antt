@@ -8,6 +8,7 @@ use Rattle.mm_model.specs.Phase.{lists}
 use Rattle.mm_model.specs.ByBase.{Begins, changed}
 use Rattle.mm_model.specs.ObjectView.{ObjectView, references_in}
 use Rattle.mm_model.specs.SetsByBase.{count_at}
+use Rattle.mm_model.proofs.View.MappedEntries.{mapped_begins}
 use Rattle.mm_object.specs.Object.{StoredObject, StoredObjects, view_of_stored, views_of}
 use Rattle.mm_weak.specs.Links.{unlinked}
 use Rattle.mm_count.specs.declared.composite.Composite.{Composite}
@@ -18,7 +19,6 @@ use Rattle.mm_count.specs.Listed.{AllListed, NonePinned}
 use Rattle.mm_count.specs.Apart.{unless_dead, without_dead, AreCountsApart}
 use Rattle.mm_count.specs.DeadApart.{AreDeadApart}
 use Rattle.mm_sweep.specs.Release.{after_release}
-use Rattle.mm_sweep.proofs.Changed.{seen_begins}
 use Rattle.mm_sweep.proofs.CountedWords.{words_told, references-alike}
 use Rattle.mm_sweep.proofs.Right.{IsKeptAs, kept-begins, kept-composite, kept-kind}
 
@@ -78,7 +78,7 @@ module _ (bases : List ℕ) (objects after : StoredObjects) (same : after ≡ ch
     count-seen : (base : ℕ) (v : ObjectView) → Begins (views_of after) base v → IsTrue (is_counted v.kind)
         → v.sticky ≡ false → IsCount base
     count-seen base v begins counted exact =
-        let s = seen_begins view_of_stored after base v begins in
+        let s = mapped_begins view_of_stored after base v begins in
         count base s.value s.begins
         (subst (λ k. IsTrue (is_counted k)) (ap (λ (o : ObjectView). o.kind) (sym s.is)) counted)
         (ap (λ (o : ObjectView). o.sticky) s.is ∙ exact)

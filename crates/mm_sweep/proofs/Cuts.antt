@@ -7,11 +7,11 @@ use Rattle.std.proofs.lemmas.Bool.{cases_eq}
 use Rattle.mm_model.specs.ByBase.{Begins, with_entry, changed}
 use Rattle.mm_model.proofs.Lists.Replaced.{get-set_same, get-set_other}
 use Rattle.mm_model.proofs.View.Entries.{begins_same}
+use Rattle.mm_model.proofs.View.ChangedEntries.{changed-entries}
 use Rattle.mm_object.specs.Object.{StoredObject, StoredObjects}
 use Rattle.mm_object.specs.Heap.{Heap}
 use Rattle.mm_weak.specs.Links.{IsLinked, unlinked}
 use Rattle.mm_sweep.specs.Release.{after_release}
-use Rattle.mm_sweep.proofs.Changed.{changed-entries}
 use Rattle.mm_sweep.proofs.Released.{released-gone, released-cut, released-kept}
 use Rattle.mm_sweep.proofs.Partners.{named-linked}
 

@@ -10,6 +10,8 @@ use Rattle.mm_model.specs.ObjectView.{ObjectView, ObjectsByBase, counted_words_o
 use Rattle.mm_model.specs.SetsByBase.{count_at}
 use Rattle.mm_model.specs.ViewWords.{object_at}
 use Rattle.mm_model.proofs.View.Entries.{begins_same}
+use Rattle.mm_model.proofs.View.ChangedEntries.{changed-alike}
+use Rattle.mm_model.proofs.View.MappedEntries.{begins_mapped}
 use Rattle.mm_object.specs.Object.{StoredObject, StoredObjects, view_of_stored, views_of}
 use Rattle.mm_object.specs.Heap.{Heap, IsObject}
 use Rattle.mm_count.specs.Table.{composite_of}
@@ -17,7 +19,6 @@ use Rattle.mm_count.specs.Counts.{KeepsObjects}
 use Rattle.mm_count.specs.Listed.{AllListed, NonePinned, KeepsPins, ListsNamed}
 use Rattle.mm_count.specs.Apart.{unless_dead, without_dead, AreCountsApart}
 use Rattle.mm_sweep.specs.Sweep.{counted_slots, counted_slots_of}
-use Rattle.mm_sweep.proofs.Changed.{changed-alike, begins_seen}
 use Rattle.mm_sweep.proofs.Bases.{take-next}
 use Rattle.mm_sweep.proofs.Finals.{stored_at-begins}
 use Rattle.mm_sweep.proofs.Released.{lists-append}
@@ -43,8 +44,8 @@ apart-last bases base objects outside apart =
   where
     same : without_dead (base ∷ bases) objects ≡ without_dead (bases ++ base ∷ []) objects
     same =
-        changed-alike (unless_dead (base ∷ bases)) (unless_dead (bases ++ base ∷ []))
-        (λ b (o : StoredObject). ap (λ (t : Bool). if t then None else Some o) (lists-last bases base b)) objects
+        changed-alike (unless_dead (base ∷ bases)) (unless_dead (bases ++ base ∷ [])) objects
+        (λ b (o : StoredObject) _. ap (λ (t : Bool). if t then None else Some o) (lists-last bases base b))
 
 -- an object is kept, whatever its composite word says
 pub kept-object : (before after : Heap) (base : ℕ) → KeepsObjects before.objects after.objects → IsObject before base
@@ -73,9 +74,9 @@ all_listed-named before after words views keeps named all =
     same base was now begun begins =
         ap (λ (v : ObjectView). v.sticky)
         (begins_same (views_of before) base (view_of_stored was) (view_of_stored now)
-        (begins_seen view_of_stored before base was begun)
+        (begins_mapped view_of_stored before base was begun)
         (subst (λ (vs : ObjectsByBase). Begins vs base (view_of_stored now)) views
-        (begins_seen view_of_stored after base now begins)))
+        (begins_mapped view_of_stored after base now begins)))
 
 pub unpinned-kept : (before after : StoredObjects) → KeepsObjects before after → KeepsPins before after
     → NonePinned before → NonePinned after

@@ -11,6 +11,7 @@ use Rattle.mm_model.specs.ObjectView.{ObjectView, ObjectsByBase}
 use Rattle.mm_model.specs.GoodView.{ArePaired, IsPairedAt}
 use Rattle.mm_model.proofs.Lists.Replaced.{get-set_same, get-set_other, map-set}
 use Rattle.mm_model.proofs.View.Entries.{begins_same}
+use Rattle.mm_model.proofs.View.MappedEntries.{begins_mapped}
 use Rattle.mm_pages.specs.Pages.{Pages, with_parked, IsSoundHeap}
 use Rattle.mm_pages.specs.Parked.{AreParked, HaveNoCommonRun, AreAllParked}
 use Rattle.mm_cells.specs.Cells as cells
@@ -20,7 +21,6 @@ use Rattle.mm_object.specs.Object.{StoredObject, StoredObjects, view_of_stored, 
 use Rattle.mm_object.specs.Heap.{Heap, IsSound, LeavesWords, Covers, cell_of, cells_in}
 use Rattle.mm_weak.specs.Links.{IsLinked}
 use Rattle.mm_sweep.specs.Release.{KeepsRaw, Frees}
-use Rattle.mm_sweep.proofs.Changed.{begins_seen}
 use Rattle.mm_sweep.proofs.Parted.{IsUnlinked}
 use Rattle.mm_sweep.proofs.Cuts.{grain_of}
 
@@ -186,7 +186,7 @@ linked-left h after base object begins alone linked e =
       paired =
           subst ArePaired (sym (ap views_of e ∙ map-set (option_map view_of_stored) h.objects (base / 16) None))
           (paired-left (views_of h.objects) base (view_of_stored object)
-          (begins_seen view_of_stored h.objects base object begins) (no_partner object alone) linked.paired);
+          (begins_mapped view_of_stored h.objects base object begins) (no_partner object alone) linked.paired);
       flagged = λ at o there.
           linked.flagged at o
           (left-begins h.objects base object begins at o (subst (λ (os : StoredObjects). Begins os at o) e there)).was;

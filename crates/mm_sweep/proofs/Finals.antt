@@ -13,13 +13,13 @@ use Rattle.mm_model.specs.ViewPhase.{view_final_lines}
 use Rattle.mm_model.specs.ViewWords.{object_at}
 use Rattle.mm_model.proofs.Lists.Growing.{find-only}
 use Rattle.mm_model.proofs.View.Entries.{based_at, begins_at, begins_same}
+use Rattle.mm_model.proofs.View.MappedEntries.{begins_mapped}
 use Rattle.mm_cells.specs.declared.marks.CellBits.{CellBits}
 use Rattle.mm_cells.specs.Cells as cells
 use Rattle.mm_cells.specs.Cells.{Cells}
 use Rattle.mm_object.specs.Object.{StoredObject, StoredObjects, view_of_stored, views_of, flags_with}
 use Rattle.mm_object.specs.Heap.{Heap, cell_of, cells_in}
 use Rattle.mm_sweep.specs.Release.{final_slots}
-use Rattle.mm_sweep.proofs.Changed.{begins_seen}
 
 -- the cell of an object
 pub cell-object : (h : Heap) (v : Cells) (base : ℕ) (object : StoredObject) → v ≡ cells_in h
@@ -67,7 +67,7 @@ pub stored_at-begins : (objects : StoredObjects) (base : ℕ) (object : StoredOb
     → object_at (views_of objects) base ≡ Some (record { base = base; value = view_of_stored object })
 stored_at-begins objects base object begins =
     object_at-begins (views_of objects) base (view_of_stored object)
-    (begins_seen view_of_stored objects base object begins)
+    (begins_mapped view_of_stored objects base object begins)
 
 -- the line and the cost of one finalizer
 pub final_lines-true : (objects : StoredObjects) (base : ℕ) (object : StoredObject) → Begins objects base object

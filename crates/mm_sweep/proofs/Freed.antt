@@ -3,12 +3,12 @@ use Rattle.std.proofs.Common.{◌≡◌, ℕ, Bool, false, List, [], ◌++◌, S
 use Rattle.std.specs.Prelude.{if◌then◌else◌}
 use Rattle.mm_model.specs.Phase.{lists}
 use Rattle.mm_model.specs.ByBase.{Begins, changed}
+use Rattle.mm_model.proofs.View.ChangedEntries.{begins_changed}
 use Rattle.mm_pages.specs.Pages.{Pages}
 use Rattle.mm_object.specs.Object.{StoredObject, StoredObjects}
 use Rattle.mm_object.specs.Heap.{Heap, IsObject}
 use Rattle.mm_weak.specs.Links.{unlinked}
 use Rattle.mm_sweep.specs.Release.{after_release, Frees}
-use Rattle.mm_sweep.proofs.Changed.{changed-begins}
 use Rattle.mm_sweep.proofs.Released.{released-twice, released-none}
 
 pub frees-none : (h : Heap) (pages : Pages) → Frees [] h h pages pages
@@ -48,7 +48,7 @@ pub stays-object : (bases : List ℕ) (base : ℕ) (h after : Heap) → after.ob
 stays-object bases base h after same out object = (
   left,
   subst (λ (os : StoredObjects). Begins os base left) (sym same)
-      (changed-begins (after_release bases) h.objects base object.0 left object.1
+      (begins_changed (after_release bases) h.objects base object.0 left object.1
       (ap (λ (b : Bool). if b then None else Some left) out)),
 )
   where

@@ -1,5 +1,4 @@
 pub mod Bases
-pub mod Changed
 pub mod CountedWords
 pub mod CountsLeft
 pub mod Cuts

@@ -7,10 +7,10 @@ use Rattle.mm_model.specs.Object.{is_weak}
 use Rattle.mm_model.specs.ObjectView.{ObjectView}
 use Rattle.mm_model.specs.GoodView.{IsPairedAt}
 use Rattle.mm_model.proofs.View.Entries.{begins_same}
+use Rattle.mm_model.proofs.View.MappedEntries.{begins_mapped, mapped_begins}
 use Rattle.mm_object.specs.Object.{StoredObject, view_of_stored, views_of}
 use Rattle.mm_object.specs.Heap.{Heap}
 use Rattle.mm_weak.specs.Links.{IsLinked, partner_of, is_linked_target}
-use Rattle.mm_sweep.proofs.Changed.{begins_seen, seen_begins}
 
 partner-link : (object : StoredObject) → object.link ≢ 0 → partner_of object ≡ Some object.link
 partner-link object some = split (object.link == 0) refl
@@ -49,8 +49,8 @@ pub partner-linked : (h : Heap) (base : ℕ) (object : StoredObject) → IsLinke
 partner-linked h base object linked begins some =
     let p : IsPairedAt (views_of h.objects) base (view_of_stored object) object.link =
     subst (λ o. IfSome o (IsPairedAt (views_of h.objects) base (view_of_stored object))) (partner-link object some)
-    (linked.paired base (view_of_stored object) (begins_seen view_of_stored h.objects base object begins)) in
-    let s = seen_begins view_of_stored h.objects object.link p.partner p.begins in
+    (linked.paired base (view_of_stored object) (begins_mapped view_of_stored h.objects base object begins)) in
+    let s = mapped_begins view_of_stored h.objects object.link p.partner p.begins in
     record {
       partner = s.value;
       begins = s.begins;

@@ -9,10 +9,10 @@ use Rattle.mm_model.specs.Phase.{lists}
 use Rattle.mm_model.specs.ByBase.{changed}
 use Rattle.mm_model.specs.ObjectView.{ObjectView}
 use Rattle.mm_model.specs.ViewPhase.{unless_listed, view_after_release}
+use Rattle.mm_model.proofs.View.ChangedEntries.{changed-changed, changed-alike, changed-none, map-changed}
 use Rattle.mm_object.specs.Object.{StoredObject, StoredObjects, view_of_stored, views_of}
 use Rattle.mm_weak.specs.Links.{unlinked}
 use Rattle.mm_sweep.specs.Release.{after_release}
-use Rattle.mm_sweep.proofs.Changed.{changed-changed, changed-alike, changed-same, map-changed}
 
 -- the same by two tests
 abbrev after_with : Bool → Bool → StoredObject → Option StoredObject
@@ -49,10 +49,11 @@ pub released-twice : (bases more : List ℕ) (objects : StoredObjects)
     ≡ changed (after_release (bases ++ more)) objects
 released-twice bases more objects =
     changed-changed (after_release more) (after_release bases) objects
-    ∙ changed-alike _ (after_release (bases ++ more)) (after_release-twice bases more) objects
+    ∙ changed-alike _ (after_release (bases ++ more)) objects
+    (λ base object _. after_release-twice bases more base object)
 
 pub released-none : (objects : StoredObjects) → changed (after_release []) objects ≡ objects
-released-none objects = changed-same (after_release []) (λ base object. refl) objects
+released-none objects = changed-none (after_release []) objects (λ base object _. refl)
 
 -- what is seen of it
 partner-released : (bases : List ℕ) (link : ℕ) (none cut : Bool) → lists bases link ≡ cut

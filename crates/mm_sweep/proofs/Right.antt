@@ -4,13 +4,13 @@ use Rattle.std.specs.Prelude.{slice_get, if◌then◌else◌, IsTrue}
 use Rattle.mm_model.specs.Object.{is_counted}
 use Rattle.mm_model.specs.Phase.{lists}
 use Rattle.mm_model.specs.ByBase.{Begins, changed}
+use Rattle.mm_model.proofs.View.ChangedEntries.{IsChangedFrom, changed_begins, begins_changed}
 use Rattle.mm_object.specs.Object.{StoredObject, StoredObjects}
 use Rattle.mm_object.specs.Heap.{Heap}
 use Rattle.mm_weak.specs.Links.{unlinked}
 use Rattle.mm_count.specs.Table.{Table, IsRight, IsSpelled, IsEntry, composite_of}
 use Rattle.mm_count.specs.Composite.{composite_in}
 use Rattle.mm_sweep.specs.Release.{after_release}
-use Rattle.mm_sweep.proofs.Changed.{IsChangedFrom, begins-changed, changed-begins}
 
 -- an object that isn't freed, as it is before and after
 pub record IsKeptAs (bases : List ℕ) (objects : StoredObjects) (base : ℕ) (now : StoredObject) : Type 0 where
@@ -22,7 +22,7 @@ pub record IsKeptAs (bases : List ℕ) (objects : StoredObjects) (base : ℕ) (n
 module _ (bases : List ℕ) (objects after : StoredObjects) (same : after ≡ changed (after_release bases) objects) where
   pub kept-begins : (base : ℕ) (now : StoredObject) → Begins after base now → IsKeptAs bases objects base now
   kept-begins base now begins =
-      let from = begins-changed (after_release bases) objects base now
+      let from = changed_begins (after_release bases) objects base now
       (subst (λ (os : StoredObjects). Begins os base now) same begins) in
       split from (lists bases base) refl
     where
@@ -31,16 +31,16 @@ module _ (bases : List ℕ) (objects after : StoredObjects) (same : after ≡ ch
       split from true e =
           let gone : ◌≡◌ {A = Option StoredObject} None (Some now) =
           sym (ap (λ (b : Bool). if b then None else Some
-          (if lists bases from.value.link then unlinked from.value else from.value)) e)
+          (if lists bases from.before.link then unlinked from.before else from.before)) e)
           ∙ from.is in
           absurd (cc)
       split from false e =
           let both : ◌≡◌ {A = Option StoredObject}
-          (Some (if lists bases from.value.link then unlinked from.value else from.value)) (Some now) =
+          (Some (if lists bases from.before.link then unlinked from.before else from.before)) (Some now) =
           sym (ap (λ (b : Bool). if b then None else Some
-          (if lists bases from.value.link then unlinked from.value else from.value)) e)
+          (if lists bases from.before.link then unlinked from.before else from.before)) e)
           ∙ from.is in
-          record { was = from.value; begins = from.begins; out = e; is = own both }
+          record { was = from.before; begins = from.begins; out = e; is = own both }
         where
           own : {x y : StoredObject} → ◌≡◌ {A = Option StoredObject} (Some x) (Some y) → y ≡ x
           own e = cc
@@ -49,7 +49,7 @@ module _ (bases : List ℕ) (objects after : StoredObjects) (same : after ≡ ch
       → Begins after base (if lists bases was.link then unlinked was else was)
   begins-kept base was begins out =
       subst (λ (os : StoredObjects). Begins os base (if lists bases was.link then unlinked was else was)) (sym same)
-      (changed-begins (after_release bases) objects base was _ begins
+      (begins_changed (after_release bases) objects base was _ begins
       (ap (λ (b : Bool). if b then None else Some (if lists bases was.link then unlinked was else was)) out))
 
 -- what doesn't look at links and flags

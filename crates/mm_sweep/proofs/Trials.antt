@@ -13,6 +13,8 @@ use Rattle.mm_model.specs.Phase.{lists}
 use Rattle.mm_model.specs.ObjectView.{ObjectView, counted_words_of}
 use Rattle.mm_model.specs.GoodView.{AreTight, HoldTight}
 use Rattle.mm_model.proofs.Lists.Replaced.{get-set_same, get-set_other, get-set_cases}
+use Rattle.mm_model.proofs.View.ChangedEntries.{changed_begins}
+use Rattle.mm_model.proofs.View.MappedEntries.{mapped_begins}
 use Rattle.mm_pages.specs.Pages.{Pages, with_parked}
 use Rattle.mm_object.specs.Object.{StoredObject, StoredObjects, newly_stored, view_of_stored, views_of}
 use Rattle.mm_object.specs.Heap.{Heap}
@@ -25,7 +27,6 @@ use Rattle.mm_weak.specs.Links.{IsLinked, IsWeakMade, partner_of, is_linked_targ
 use Rattle.mm_weak.proofs.Partners.{ArePartners, IsPairedWith, partners-paired, paired-partners, partner-no_link, none-not_some}
 use Rattle.mm_sweep.specs.Release.{after_release, AreObjects}
 use Rattle.mm_sweep.specs.Sweep.{KeepsWhitened}
-use Rattle.mm_sweep.proofs.Changed.{begins-changed, seen_begins}
 
 -- an object that differs in nothing that a link tells
 pub record AreAlike (x y : StoredObject) : Type 0 where
@@ -254,7 +255,7 @@ counted_words-none o none =
 
 pub tight-plain : (objects : StoredObjects) → ArePlain objects → HoldTight (views_of objects)
 tight-plain objects plain base holder begins =
-    let m = seen_begins view_of_stored objects base holder begins in
+    let m = mapped_begins view_of_stored objects base holder begins in
     let p = plain base m.value m.begins in
     subst (AreTight (views_of objects))
     (sym (counted_words-none m.value p.1) ∙ ap counted_words_of m.is) tt
@@ -270,7 +271,7 @@ counted-plain objects plain = (
   where
     none : (base : ℕ) (v : ObjectView) → Begins (views_of objects) base v → IsTrue (is_counted v.kind) → ⊥
     none base v begins counted =
-        let m = seen_begins view_of_stored objects base v begins in
+        let m = mapped_begins view_of_stored objects base v begins in
         let p = plain base m.value m.begins in
         not_true m.value p.0 (subst (λ (o : ObjectView). IsTrue (is_counted o.kind)) (sym m.is) counted)
 
@@ -296,7 +297,7 @@ pub objects-white : (Dead : ℕ → Type 0) (objects : StoredObjects) (after : H
 objects-white Dead objects after keeps [] only = tt
 objects-white Dead objects after keeps (base ∷ bases) only =
     let first = only.0 in
-    let m = seen_begins view_of_stored objects base first.0 first.1 in
+    let m = mapped_begins view_of_stored objects base first.0 first.1 in
     let now = keeps.to base m.value m.begins in
     ((record m.value { composite = now.0; colour = White }, now.1), objects-white Dead objects after keeps bases only.1)
 
@@ -327,9 +328,9 @@ module _ (objects : StoredObjects) (h : Heap) (table : Table) (keeps : KeepsWhit
 pub plain-released : (objects after : StoredObjects) (bases : List ℕ) → after ≡ changed (after_release bases) objects
     → ArePlain objects → ArePlain after
 plain-released objects after bases is plain base y begins =
-    let v = begins-changed (after_release bases) objects base y
+    let v = changed_begins (after_release bases) objects base y
     (subst (λ (os : StoredObjects). Begins os base y) is begins) in
-    split v.value y (plain base v.value v.begins) (lists bases base) (lists bases v.value.link) v.is
+    split v.before y (plain base v.before v.begins) (lists bases base) (lists bases v.before.link) v.is
   where
     split : (v y : StoredObject) → IsPlain v → (dead parted : Bool)
         → ◌≡◌ {A = Option StoredObject} (if dead then None else Some (if parted then unlinked v else v)) (Some y)

@@ -10,6 +10,8 @@ use Rattle.mm_model.specs.ByBase.{Begins, changed_from, changed}
 use Rattle.mm_model.specs.ObjectView.{ObjectsByBase}
 use Rattle.mm_model.specs.SetsByBase.{count_at}
 use Rattle.mm_model.specs.ViewEffect.{with_colour}
+use Rattle.mm_model.proofs.View.ChangedEntries.{changed-map}
+use Rattle.mm_model.proofs.View.MappedEntries.{begins_mapped, mapped_begins}
 use Rattle.mm_object.specs.Object.{StoredObject, StoredObjects, view_of_stored, views_of}
 use Rattle.mm_object.specs.Heap.{Heap}
 use Rattle.mm_object.specs.Colours.{white_object, all_whitened}
@@ -20,7 +22,6 @@ use Rattle.mm_count.specs.Listed.{NonePinned}
 use Rattle.mm_count.specs.Apart.{unless_dead, without_dead, AreCountsApart}
 use Rattle.mm_count.specs.DeadApart.{AreDeadApart, IsRecounted}
 use Rattle.mm_sweep.specs.Sweep.{KeepsWhitened}
-use Rattle.mm_sweep.proofs.Changed.{changed-map, begins_seen, seen_begins}
 use Rattle.mm_sweep.proofs.CountedWords.{words_told, references-alike}
 
 abbrev pub whitened : StoredObjects → StoredObjects
@@ -66,7 +67,7 @@ pub record IsWhitened (objects : StoredObjects) (base : ℕ) (now : StoredObject
 pub whitened-begins : (objects : StoredObjects) (base : ℕ) (now : StoredObject) → Begins (whitened objects) base now
     → IsWhitened objects base now
 whitened-begins objects base now begins =
-    let s = seen_begins white_object objects base now begins in
+    let s = mapped_begins white_object objects base now begins in
     record {
       was = s.value;
       begins = s.begins;
@@ -132,7 +133,7 @@ right-whitened table h right =
           let e = right.entries place base is in
           record {
             object = white_object e.object;
-            begins = begins_seen white_object h.objects base e.object e.begins;
+            begins = begins_mapped white_object h.objects base e.object e.begins;
             counted = e.counted;
             listed = e.listed;
             stands = e.stands;
@@ -146,7 +147,7 @@ keeps-whitened before middle keeps =
     record {
       to = λ base object begins.
           let k = keeps.to base object begins in
-          (k.0, begins_seen white_object middle base (record object { composite = k.0 }) k.1);
+          (k.0, begins_mapped white_object middle base (record object { composite = k.0 }) k.1);
       back = λ base object begins.
           let w = whitened-begins middle base object begins in
           let k = keeps.back base w.was w.begins in (

@@ -10,11 +10,11 @@ use Rattle.mm_model.specs.ByBase.{Begins, based_from, based}
 use Rattle.mm_model.specs.ObjectView.{ObjectView, ObjectsByBase}
 use Rattle.mm_model.specs.SetsByBase.{AreBasesAt}
 use Rattle.mm_model.proofs.Lists.Growing.{each_push}
+use Rattle.mm_model.proofs.View.MappedEntries.{begins_mapped, mapped_begins}
 use Rattle.mm_object.specs.Object.{view_of_stored, views_of}
 use Rattle.mm_object.specs.Heap.{Heap}
 use Rattle.mm_object.specs.Colours.{IsNextOf, NoneOfFrom}
 use Rattle.mm_sweep.specs.Sweep.{IsWhiteAt, AreWhiteBelow}
-use Rattle.mm_sweep.proofs.Changed.{begins_seen, seen_begins}
 use Rattle.mm_sweep.proofs.Released.{lists-append, lists_one-same}
 
 pub each_weaken : {P Q : ℕ → Type 0} (xs : List ℕ) → ((x : ℕ) → P x → Q x) → AllByRecursion P xs → AllByRecursion Q xs
@@ -60,7 +60,7 @@ white-more h from base bases are next =
           ∙ elim (cases_lt b from) [
             | inl before ↦ or-left (lists bases b) (lists (base ∷ []) b) (are.all b object there white before)
             | inr after ↦
-                let s = seen_begins view_of_stored h.objects b white.object white.begins in
+                let s = mapped_begins view_of_stored h.objects b white.object white.begins in
                 let least = next.least b s.value s.begins
                 (ap (λ (v : ObjectView). v.colour) s.is ∙ white.white) after in
                 or-right (lists bases b) (lists (base ∷ []) b) (lists_one-same base b (omega arith))
@@ -68,7 +68,7 @@ white-more h from base bases are next =
     }
   where
     begins : Begins (views_of h.objects) base (view_of_stored next.object)
-    begins = begins_seen view_of_stored h.objects base next.object next.begins
+    begins = begins_mapped view_of_stored h.objects base next.object next.begins
 
     white : IsWhiteAt (views_of h.objects) base
     white = record { object = view_of_stored next.object; begins = begins; white = next.is }
@@ -80,7 +80,7 @@ white-all h from bases are none =
       ascending = are.ascending;
       only = are.only;
       all = λ b object there white.
-          let s = seen_begins view_of_stored h.objects b white.object white.begins in
+          let s = mapped_begins view_of_stored h.objects b white.object white.begins in
           are.all b object there white
           (none b s.value s.begins (ap (λ (v : ObjectView). v.colour) s.is ∙ white.white));
     }

@@ -3,6 +3,7 @@ use Rattle.std.specs.List.{AllByRecursion}
 use Rattle.std.proofs.lemmas.List.{length-take}
 use Rattle.mm_model.specs.ByBase.{Begins, based}
 use Rattle.mm_model.specs.ObjectView.{ObjectView}
+use Rattle.mm_model.proofs.View.MappedEntries.{mapped_begins}
 use Rattle.mm_object.specs.Object.{StoredObjects, view_of_stored, views_of}
 use Rattle.mm_object.specs.Heap.{Heap}
 use Rattle.mm_count.specs.Table.{IsRight}
@@ -12,7 +13,6 @@ use Rattle.mm_count.specs.DeadApart.{AreDeadApart}
 use Rattle.mm_sweep.specs.Release.{AreObjects}
 use Rattle.mm_count.proofs.Tables.{same-table}
 use Rattle.mm_sweep.specs.Sweep.{IsWhiteAt, counted_slots_of}
-use Rattle.mm_sweep.proofs.Changed.{seen_begins}
 use Rattle.mm_sweep.proofs.Dropping.{kept-object}
 use Rattle.mm_sweep.proofs.Leaving.{recounted-then}
 use Rattle.mm_sweep.proofs.Whites.{each_weaken, few-bases}
@@ -24,7 +24,7 @@ objects-seen : (h : Heap) (Dead : ℕ → Type 0) (bases : List ℕ)
     → AreObjects h bases
 objects-seen h Dead bases only =
     each_weaken bases
-    (λ base one. let s = seen_begins view_of_stored h.objects base one.0 one.1 in (s.value, s.begins))
+    (λ base one. let s = mapped_begins view_of_stored h.objects base one.0 one.1 in (s.value, s.begins))
     only
 
 none-dead : (objects : StoredObjects) → AllListed objects → AreDeadApart [] objects
