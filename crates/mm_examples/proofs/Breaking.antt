@@ -1,5 +1,6 @@
 -- Logs that are legal up to their last turn, and what they keep and break.
-use Rattle.std.proofs.Common.{◌≡◌, ◌≤◌, true, List, [], ◌∷◌, ◌++◌, map, refl, sym, ap, ◌∙◌, subst, ◌⊎◌, ⊎_elim, inl, inr}
+use Rattle.std.proofs.Common.{◌≡◌, ◌≤◌, true, List, [], ◌∷◌, ◌++◌, map, refl, sym, ap, ◌∙◌, subst, ◌⊎◌, ⊎_elim, inl}
+use Rattle.std.proofs.Common.{inr}
 use Rattle.std.proofs.lemmas.List.{append-nil, map-append}
 use Rattle.std.proofs.lemmas.Grind.{flat_map-append}
 use Rattle.std.specs.Prelude.{IsTrue, ⊤}
@@ -17,7 +18,8 @@ use Rattle.mm_model.proofs.Good.Living.{each_append}
 use Rattle.mm_laws.proofs.Turning.Faithful.{faithful-steps}
 use Rattle.mm_laws.proofs.Turning.Knowing.{turn_of}
 use Rattle.mm_laws.proofs.Turning.Remembering.{Knows, knows-empty, knows-steps}
-use Rattle.mm_examples.specs.Broken.{Promise, References, Protected, WeakReferences, Collections, Cycles, Apart, KeepsAt, BreaksOnly}
+use Rattle.mm_examples.specs.Broken.{Promise, References, Protected, WeakReferences, Collections, Cycles, Apart}
+use Rattle.mm_examples.specs.Broken.{KeepsAt, BreaksOnly}
 use Rattle.mm_examples.proofs.Stepping.{step_log, step_checks, step_if}
 
 -- the turns of commands with these groups, and the state that they lead to
@@ -138,7 +140,8 @@ each-last : (P : List Turn → Turn → Type 0) (turns : List Turn) (last : Turn
     → EachTurn (turns ++ last ∷ []) P
 each-last P turns last each own earlier turn after =
     ⊎_elim
-    (λ (l : (earlier ≡ turns) × (turn ≡ last)). subst (λ t. P earlier t) (sym l.1) (subst (λ ts. P ts last) (sym l.0) own))
+    (λ (l : (earlier ≡ turns) × (turn ≡ last)). subst (λ t. P earlier t) (sym l.1)
+    (subst (λ ts. P ts last) (sym l.0) own))
     (λ (r : ComesAfter turns earlier turn). each earlier turn r)
     (last-cases turns earlier turn last after.later after.is)
 
@@ -184,7 +187,8 @@ module _ (settings : Settings) (commands : List Command) (groups : List (List Li
   front-steps = steps-checked (empty_state settings) commands groups checked
 
   -- what the legal turns tell of the state that they lead to
-  pub front-known : (a : State) → before settings commands groups ≡ a → Knows settings (front settings commands groups) a
+  pub front-known : (a : State) → before settings commands groups ≡ a
+      → Knows settings (front settings commands groups) a
   front-known a is =
       subst (Knows settings (front settings commands groups)) is
       (knows-steps settings [] (front settings commands groups) (empty_state settings)

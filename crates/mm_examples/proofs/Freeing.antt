@@ -1,5 +1,6 @@
 -- Tests of what a phase frees, and what they show.
-use Rattle.std.proofs.Common.{◌≡◌, ℕ, ◌<◌, ◌==◌, nat_lt, Bool, true, false, not, ◌&&◌, ◌||◌, List, [], ◌∷◌, subst, ap, ⊎_elim, eqb-true, ltb-true}
+use Rattle.std.proofs.Common.{◌≡◌, ℕ, ◌<◌, ◌==◌, nat_lt, Bool, true, false, not, ◌&&◌, ◌||◌, List, [], ◌∷◌, subst, ap}
+use Rattle.std.proofs.Common.{⊎_elim, eqb-true, ltb-true}
 use Rattle.std.specs.List.{list_any, list_all}
 use Rattle.std.proofs.lemmas.Bool.{and_parts, and_from, or_cases, not_from_false, cases_Bool}
 use Rattle.mm_model.specs.Object.{Object}
@@ -7,9 +8,13 @@ use Rattle.mm_model.specs.State.{State, Lives}
 use Rattle.mm_model.specs.Words.{root_words}
 use Rattle.mm_model.specs.Marking.{is_white, colour_in, with_grayed}
 use Rattle.mm_model.specs.Phase.{lists, IsAscending, AreBasesOf, AreReaped, AreCollected, AreFinished}
-use Rattle.mm_model.proofs.Decided.Members.{Numbered, numbered, living, has_birth, from_any, each_from_all, each_implied, at_live, each_living}
+use Rattle.mm_model.proofs.Decided.Members.{Numbered, numbered, living, has_birth, from_any, each_from_all}
+use Rattle.mm_model.proofs.Decided.Members.{each_implied, at_live, each_living}
 use Rattle.mm_model.proofs.Decided.Growth.{is_closed}
-use Rattle.mm_model.proofs.Decided.Closures.{joins_reached, joins_kept, joins_reapable, reached_members, kept_members, reapable_members, reached_from_member, member_from_reached, kept_from_member, member_from_kept, reapable_from_member, member_from_reapable, white_if}
+use Rattle.mm_model.proofs.Decided.Closures.{joins_reached, joins_kept, joins_reapable, reached_members, kept_members}
+use Rattle.mm_model.proofs.Decided.Closures.{reapable_members, reached_from_member, member_from_reached}
+use Rattle.mm_model.proofs.Decided.Closures.{kept_from_member, member_from_kept, reapable_from_member}
+use Rattle.mm_model.proofs.Decided.Closures.{member_from_reapable, white_if}
 
 abbrev pub is_ascending : List ℕ → Bool
 is_ascending [] = true

@@ -1,5 +1,7 @@
 -- The lines of `step`, as they are computed from the bases that it scans, and that it scans so.
-use Rattle.std.proofs.Common.{◌≡◌, ℕ, ◌-◌, ◌==◌, nat_le, nat_lt, Bool, true, false, not, ◌&&◌, ◌||◌, List, [], ◌∷◌, ◌++◌, length, take, sum, Option, Some, None, IfSome, slice_get, refl, subst, ⊎_elim, eqb-true, ltb-true, leb-true}
+use Rattle.std.proofs.Common.{◌≡◌, ℕ, ◌-◌, ◌==◌, nat_le, nat_lt, Bool, true, false, not, ◌&&◌, ◌||◌, List, [], ◌∷◌}
+use Rattle.std.proofs.Common.{◌++◌, length, take, sum, Option, Some, None, IfSome, slice_get, refl, subst, ⊎_elim}
+use Rattle.std.proofs.Common.{eqb-true, ltb-true, leb-true}
 use Rattle.std.specs.List.{list_all}
 use Rattle.std.specs.Option.{option_map_or}
 use Rattle.std.proofs.lemmas.Bool.{and_parts, or_cases}

@@ -1,5 +1,6 @@
 -- The group of a command, as it is computed from what a given group frees and scans, and that it is a step.
-use Rattle.std.proofs.Common.{◌≡◌, ℕ, nat_le, Bool, true, false, ◌&&◌, if◌then◌else◌, List, [], ◌∷◌, ◌++◌, Option, Some, None, is_some, slice_get, option_and_then, refl, subst, leb-true, leb-false}
+use Rattle.std.proofs.Common.{◌≡◌, ℕ, nat_le, Bool, true, false, ◌&&◌, if◌then◌else◌, List, [], ◌∷◌, ◌++◌, Option, Some}
+use Rattle.std.proofs.Common.{None, is_some, slice_get, option_and_then, refl, subst, leb-true, leb-false}
 use Rattle.std.proofs.lemmas.Bool.{and_parts}
 use Rattle.mm_model.specs.declared.command.Command.{Command}
 use Rattle.mm_model.specs.declared.command.Command.TheVariants as commands
@@ -17,8 +18,10 @@ use Rattle.mm_model.specs.Meaning.{meant_at, object_meant}
 use Rattle.mm_model.specs.Phase.{phase_lines, reaped}
 use Rattle.mm_model.specs.Refusing.{refusal}
 use Rattle.mm_model.specs.Effect.{Effect}
-use Rattle.mm_model.specs.Step.{Makes, MakesWeak, MakesWeakOf, Carries, Ends, Refused_as_full, Below_threshold, At_threshold, IsStep, IsStepUnless, is_full}
-use Rattle.mm_model.specs.After.{phases_in, first_phase, scanned_bases, weak_row, Row, row_made, row_after, searched, ended, after, after_unless}
+use Rattle.mm_model.specs.Step.{Makes, MakesWeak, MakesWeakOf, Carries, Ends, Refused_as_full, Below_threshold}
+use Rattle.mm_model.specs.Step.{At_threshold, IsStep, IsStepUnless, is_full}
+use Rattle.mm_model.specs.After.{phases_in, first_phase, scanned_bases, weak_row, Row, row_made, row_after, searched}
+use Rattle.mm_model.specs.After.{ended, after, after_unless}
 use Rattle.mm_examples.proofs.Freeing.{reaps, collects, finishes, reaped_if, collected_if, finished_if}
 use Rattle.mm_examples.proofs.Searching.{search_log, search_checks, searches_if}
 use Rattle.mm_examples.proofs.Scanning.{scan_log, scan_checks, scans_if}

@@ -4,7 +4,8 @@ use Rattle.mm_model.specs.declared.command.Command.{Command}
 use Rattle.mm_model.specs.declared.line.Line.{Line}
 use Rattle.mm_model.specs.declared.settings.Settings.{Settings}
 use Rattle.mm_model.specs.Turns.{Turn, AreTurns, EachTurn}
-use Rattle.mm_model.specs.Faithful.{ReadsThroughReferences, SparesProtected, FollowsTargets, LeavesReached, EndsCycles, KeepsApart}
+use Rattle.mm_model.specs.Faithful.{ReadsThroughReferences, SparesProtected, FollowsTargets, LeavesReached, EndsCycles}
+use Rattle.mm_model.specs.Faithful.{KeepsApart}
 
 pub data Promise : Type 0 where
   References : Promise

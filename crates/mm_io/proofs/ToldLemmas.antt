@@ -1,5 +1,6 @@
 -- Two calls in a row, taken as one.
-use Rattle.std.proofs.Common.{◌≡◌, ◌≤◌, ◌+◌, ◌-◌, ℕ, zero, suc, Option, None, Some, IsSome, List, [], ◌∷◌, ◌++◌, take, length}
+use Rattle.std.proofs.Common.{◌≡◌, ◌≤◌, ◌+◌, ◌-◌, ℕ, zero, suc, Option, None, Some, IsSome, List, [], ◌∷◌, ◌++◌, take}
+use Rattle.std.proofs.Common.{length}
 use Rattle.std.proofs.Common.{length-append, ap, refl, sym, ◌∙◌, append-nil, arith, append_assoc}
 use Rattle.std.proofs.lemmas.List.{length-take}
 use Rattle.std.proofs.lemmas.Grind.{common_steps}

@@ -1,5 +1,6 @@
 // What is made of the host's answers: an error is counted, and what it was isn't told.
-ghost use Rattle.std.specs.Prelude.{◌≡◌, ◌+◌, ◌-◌, ◌^◌, ◌<◌, ◌≤◌, ◌≢◌, Ok, Err, length, min, take, IfOk, IfErr, OnErr, IsErr};
+ghost use Rattle.std.specs.Prelude.{◌≡◌, ◌+◌, ◌-◌, ◌^◌, ◌<◌, ◌≤◌, ◌≢◌, Ok, Err, length, min, take, IfOk, IfErr, OnErr};
+ghost use Rattle.std.specs.Prelude.{IsErr};
 ghost use Rattle.std.specs.IoError.{error_kind};
 ghost use Rattle.std.specs.Io.KnownBytes.{Appends, Consumes, IsAtEnd, Keeps};
 ghost use Rattle.mm_io.specs.Faults.{Counts, CountsChoice};

@@ -15,7 +15,8 @@ use Rattle.mm_model.specs.Count.{zero_count}
 use Rattle.mm_model.specs.Marking.{part_done}
 use Rattle.mm_model.specs.Phase.{reaped, collected}
 use Rattle.mm_model.specs.Search.{place_now, place_grown}
-use Rattle.mm_model.specs.Effect.{Effect, done, with_some, new_effect, weak_effect, area_effect, pushes_object, plain_effect}
+use Rattle.mm_model.specs.Effect.{Effect, done, with_some, new_effect, weak_effect, area_effect, pushes_object}
+use Rattle.mm_model.specs.Effect.{plain_effect}
 use Rattle.mm_model.specs.Refusing.{refusal}
 use Rattle.mm_model.specs.Step.{is_full}
 

@@ -1,5 +1,6 @@
 -- Areas under numbers.
-use Rattle.std.specs.Prelude.{ℕ, Bool, not, if◌then◌else◌, ◌==◌, nat_lt, List, [], ◌∷◌, map, replicate, Option, is_some, unwrap_or}
+use Rattle.std.specs.Prelude.{ℕ, Bool, not, if◌then◌else◌, ◌==◌, nat_lt, List, [], ◌∷◌, map, replicate, Option, is_some}
+use Rattle.std.specs.Prelude.{unwrap_or}
 use Rattle.std.specs.List.{find, filter}
 use Rattle.mm_model.specs.Value.{integer}
 use Rattle.mm_model.specs.SizeClass.{extent_of, area_bytes}

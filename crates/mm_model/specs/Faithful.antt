@@ -1,5 +1,6 @@
 -- What a log promises to whoever reads it, said of its turns.
-use Rattle.std.specs.Prelude.{◌≡◌, ◌⊎◌, ◌↔◌, ℕ, ◌+◌, false, if◌then◌else◌, nat_lt, IsTrue, List, [], ◌∷◌, length, Option, Some, slice_get, ⊤}
+use Rattle.std.specs.Prelude.{◌≡◌, ◌⊎◌, ◌↔◌, ℕ, ◌+◌, false, if◌then◌else◌, nat_lt, IsTrue, List, [], ◌∷◌, length}
+use Rattle.std.specs.Prelude.{Option, Some, slice_get, ⊤}
 use Rattle.std.specs.List.{AllByRecursion, flat_map}
 use Rattle.mm_model.specs.declared.command.Command.{Command}
 use Rattle.mm_model.specs.declared.command.Command.TheVariants as commands
@@ -26,7 +27,8 @@ use Rattle.mm_model.specs.After.{freed_bases}
 use Rattle.mm_model.specs.Good.{IsPlaced}
 use Rattle.mm_model.specs.Throughout.{IsThroughout}
 use Rattle.mm_model.specs.Course.{IsGone}
-use Rattle.mm_model.specs.Turns.{Turn, AreTurns, EachTurn, reply_of, Born, births_in, made_for, last_written, Collecting, Finishing, PhaseOf, phases_of, EachPhase, Frees, CycleStates, latest_cycle}
+use Rattle.mm_model.specs.Turns.{Turn, AreTurns, EachTurn, reply_of, Born, births_in, made_for, last_written}
+use Rattle.mm_model.specs.Turns.{Collecting, Finishing, PhaseOf, phases_of, EachPhase, Frees, CycleStates, latest_cycle}
 
 -- What is answered through a reference to an object, as it was born, by a heap that never frees.
 

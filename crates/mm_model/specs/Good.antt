@@ -1,5 +1,6 @@
 -- What holds of each state that can be reached.
-use Rattle.std.specs.Prelude.{◌≡◌, ℕ, ◌+◌, ◌*◌, ◌%◌, ◌<◌, ◌≤◌, ◌⊎◌, ◌≢◌, Bool, false, ◌||◌, ◌==◌, IsTrue, List, [], ◌∷◌, map, Some, IfSome, slice_get, length, take, ⊤}
+use Rattle.std.specs.Prelude.{◌≡◌, ℕ, ◌+◌, ◌*◌, ◌%◌, ◌<◌, ◌≤◌, ◌⊎◌, ◌≢◌, Bool, false, ◌||◌, ◌==◌, IsTrue, List, [], ◌∷◌}
+use Rattle.std.specs.Prelude.{map, Some, IfSome, slice_get, length, take, ⊤}
 use Rattle.std.specs.List.{AllByRecursion, Contains}
 use Rattle.mm_model.specs.declared.object.Colour.TheVariants.{White, Gray, Black}
 use Rattle.mm_model.specs.SizeClass.{class_sizes, extent_of, object_bytes, area_bytes}

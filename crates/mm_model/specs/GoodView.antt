@@ -1,5 +1,6 @@
 -- What holds of the view of each good state, and of the counts that a heap keeps: in words alone, by base.
-use Rattle.std.specs.Prelude.{◌≡◌, ◌≢◌, ℕ, ◌*◌, ◌≤◌, ◌<◌, ◌==◌, ◌||◌, false, IsTrue, List, map, take, length, Option, Some, None, IfSome, slice_get}
+use Rattle.std.specs.Prelude.{◌≡◌, ◌≢◌, ℕ, ◌*◌, ◌≤◌, ◌<◌, ◌==◌, ◌||◌, false, IsTrue, List, map, take, length, Option}
+use Rattle.std.specs.Prelude.{Some, None, IfSome, slice_get}
 use Rattle.std.specs.List.{AllByRecursion}
 use Rattle.mm_model.specs.declared.object.Colour.TheVariants.{White, Gray, Black}
 use Rattle.mm_model.specs.SizeClass.{extent_of, object_bytes, area_bytes}

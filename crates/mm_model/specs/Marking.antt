@@ -1,6 +1,8 @@
 -- Incremental marking, by three colours. In a cycle no word of a scanned slot of a black object falls in a white one.
 -- Within `put` alone this may be broken, between the store and the barrier.
-use Rattle.std.specs.Prelude.{◌≡◌, ℕ, ◌+◌, Bool, true, false, not, if◌then◌else◌, ◌&&◌, ◌||◌, ◌==◌, nat_lt, IsTrue, List, [], ◌∷◌, replicate, length, take, drop, Option, Some, None, slice_index_or, slice_set}
+use Rattle.std.specs.Prelude.{◌≡◌, ℕ, ◌+◌, Bool, true, false, not, if◌then◌else◌, ◌&&◌, ◌||◌, ◌==◌, nat_lt, IsTrue}
+use Rattle.std.specs.Prelude.{List, [], ◌∷◌, replicate, length, take, drop, Option, Some, None, slice_index_or}
+use Rattle.std.specs.Prelude.{slice_set}
 use Rattle.std.specs.Option.{option_map, IfSome}
 use Rattle.mm_model.specs.declared.object.Colour.{Colour}
 use Rattle.mm_model.specs.declared.object.Colour.TheVariants.{White, Gray, Black}

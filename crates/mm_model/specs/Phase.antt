@@ -1,5 +1,6 @@
 -- What a phase frees, the lines that it writes, and the state that it leaves.
-use Rattle.std.specs.Prelude.{◌≡◌, ℕ, ◌*◌, ◌<◌, ◌%◌, ◌^◌, max, sum, Bool, true, false, ◌&&◌, ◌==◌, if◌then◌else◌, IsTrue, List, [], ◌∷◌, ◌++◌, map, length, Option, Some, None, slice_get, ⊤}
+use Rattle.std.specs.Prelude.{◌≡◌, ℕ, ◌*◌, ◌<◌, ◌%◌, ◌^◌, max, sum, Bool, true, false, ◌&&◌, ◌==◌, if◌then◌else◌}
+use Rattle.std.specs.Prelude.{IsTrue, List, [], ◌∷◌, ◌++◌, map, length, Option, Some, None, slice_get, ⊤}
 use Rattle.std.specs.List.{list_any, find, flat_map, AllByRecursion}
 use Rattle.std.specs.Option.{option_map, option_map_or}
 use Rattle.mm_model.specs.declared.line.Line.{Line}

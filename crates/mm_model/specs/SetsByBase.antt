@@ -6,7 +6,8 @@ use Rattle.mm_model.specs.Object.{is_counted}
 use Rattle.mm_model.specs.Marking.{is_white}
 use Rattle.mm_model.specs.Phase.{IsAscending, lists}
 use Rattle.mm_model.specs.ByBase.{Begins, based, changed}
-use Rattle.mm_model.specs.ObjectView.{ObjectView, ObjectsByBase, counted_words_of, word_words_of, scanned_words_of, names_at, holds_base, references_in}
+use Rattle.mm_model.specs.ObjectView.{ObjectView, ObjectsByBase, counted_words_of, word_words_of, scanned_words_of}
+use Rattle.mm_model.specs.ObjectView.{names_at, holds_base, references_in}
 
 -- the words outside of objects that may keep one: those of the stack, of scanned areas, and of counted cells
 pub record RootWords : Type 0 where

@@ -1,5 +1,6 @@
 -- What the bytes of a trace say: its lines, the command of each line, and the first fault.
-use Rattle.std.specs.Prelude.{ℕ, ◌+◌, ◌-◌, ◌*◌, ◌^◌, Bool, true, false, if◌then◌else◌, ◌&&◌, ◌==◌, nat_lt, nat_le, List, [], ◌∷◌, ◌++◌, length, Option, Some, None, Result, Ok, Err, codes}
+use Rattle.std.specs.Prelude.{ℕ, ◌+◌, ◌-◌, ◌*◌, ◌^◌, Bool, true, false, if◌then◌else◌, ◌&&◌, ◌==◌, nat_lt, nat_le, List}
+use Rattle.std.specs.Prelude.{[], ◌∷◌, ◌++◌, length, Option, Some, None, Result, Ok, Err, codes}
 use Rattle.std.specs.List.{list_all, fold, filter, slice_split}
 use Rattle.std.specs.Str.{bytes_eq}
 use Rattle.mm_model.specs.declared.object.Kind.{Kind}
@@ -7,7 +8,8 @@ use Rattle.mm_model.specs.declared.object.Kind.TheVariants.{Traced, Leaf, Counte
 use Rattle.mm_model.specs.declared.command.Command.{Command}
 use Rattle.mm_model.specs.declared.command.Command.TheVariants as commands
 use Rattle.mm_model.specs.declared.refusal.LineFault.{LineFault}
-use Rattle.mm_model.specs.declared.refusal.LineFault.TheVariants.{UnknownCommand, WordCount, BadWord, BadNumber, LineTooLong}
+use Rattle.mm_model.specs.declared.refusal.LineFault.TheVariants.{UnknownCommand, WordCount, BadWord, BadNumber}
+use Rattle.mm_model.specs.declared.refusal.LineFault.TheVariants.{LineTooLong}
 
 -- the words of a line: what stands between spaces, without the empty pieces
 abbrev pub words_of : List ℕ → List (List ℕ)

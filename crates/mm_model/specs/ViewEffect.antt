@@ -1,5 +1,6 @@
 -- What commands do to a view that are not refused and that free nothing.
-use Rattle.std.specs.Prelude.{ℕ, ◌+◌, ◌-◌, ◌*◌, ◌==◌, Bool, false, not, if◌then◌else◌, nat_lt, List, [], ◌∷◌, drop, length, replicate, Option, Some, None, is_some, unwrap_or, slice_get}
+use Rattle.std.specs.Prelude.{ℕ, ◌+◌, ◌-◌, ◌*◌, ◌==◌, Bool, false, not, if◌then◌else◌, nat_lt, List, [], ◌∷◌, drop}
+use Rattle.std.specs.Prelude.{length, replicate, Option, Some, None, is_some, unwrap_or, slice_get}
 use Rattle.std.specs.List.{count_by, range_with_len, filter}
 use Rattle.std.specs.Option.{option_map_or}
 use Rattle.mm_model.specs.declared.object.Colour.{Colour}
@@ -20,7 +21,8 @@ use Rattle.mm_model.specs.ByBase.{Based, with_entry, changed}
 use Rattle.mm_model.specs.ObjectView.{ObjectView, slot_kind_of}
 use Rattle.mm_model.specs.SetsByBase.{with_grayed_objects}
 use Rattle.mm_model.specs.View.{View, AreaView, CycleView}
-use Rattle.mm_model.specs.ViewWords.{object_at, view_meant, area_in, cell_kind_of, marking_words, view_zero_count, view_pieces, view_region_pages}
+use Rattle.mm_model.specs.ViewWords.{object_at, view_meant, area_in, cell_kind_of, marking_words, view_zero_count}
+use Rattle.mm_model.specs.ViewWords.{view_pieces, view_region_pages}
 use Rattle.mm_model.specs.ViewStore.{view_put, view_area_put, view_store_reply}
 
 -- what a command leaves and answers

@@ -1,5 +1,6 @@
 -- What a command does to a view, and the lines that it writes: a step, said in words alone.
-use Rattle.std.specs.Prelude.{◌≡◌, ℕ, ◌+◌, ◌≤◌, ◌<◌, ◌==◌, ◌-◌, sum, Bool, true, false, if◌then◌else◌, IsTrue, List, [], ◌∷◌, ◌++◌, take, drop, length, Option, Some, None, IfSome}
+use Rattle.std.specs.Prelude.{◌≡◌, ℕ, ◌+◌, ◌≤◌, ◌<◌, ◌==◌, ◌-◌, sum, Bool, true, false, if◌then◌else◌, IsTrue, List, []}
+use Rattle.std.specs.Prelude.{◌∷◌, ◌++◌, take, drop, length, Option, Some, None, IfSome}
 use Rattle.std.specs.Option.{option_map}
 use Rattle.mm_model.specs.declared.object.Colour.TheVariants.{Gray, Black}
 use Rattle.mm_model.specs.declared.command.Command.{Command}
@@ -19,8 +20,10 @@ use Rattle.mm_model.specs.SetsByBase.{with_grayed_objects}
 use Rattle.mm_model.specs.View.{View, CycleView, PartlyScannedView}
 use Rattle.mm_model.specs.ViewWords.{view_meant, view_pieces, view_region_pages, view_zero_count}
 use Rattle.mm_model.specs.ViewTests.{view_refusal}
-use Rattle.mm_model.specs.ViewEffect.{ViewEffect, view_new_effect, view_weak_effect, view_area_effect, view_pushes, view_plain_effect}
-use Rattle.mm_model.specs.ViewPhase.{view_phase_lines, view_reaped, view_collected, ViewReaps, ViewCollects, ViewFinishes}
+use Rattle.mm_model.specs.ViewEffect.{ViewEffect, view_new_effect, view_weak_effect, view_area_effect, view_pushes}
+use Rattle.mm_model.specs.ViewEffect.{view_plain_effect}
+use Rattle.mm_model.specs.ViewPhase.{view_phase_lines, view_reaped, view_collected, ViewReaps, ViewCollects}
+use Rattle.mm_model.specs.ViewPhase.{ViewFinishes}
 
 -- where a piece goes within the region as it is, and in one that may grow to its greatest number of pages
 abbrev pub view_place_now : View → Family → ℕ → Option ℕ

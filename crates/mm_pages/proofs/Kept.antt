@@ -210,7 +210,8 @@ index-zeros n f = elim (cases_lt f n) [
 ]
 
 -- a page heap without runs
-pub KeepsTree-fresh : (e : Entries) (location : Location) (pages height free : ℕ) → BeginsEmpty location pages height e →
+pub KeepsTree-fresh : (e : Entries) (location : Location) (pages height free : ℕ) → BeginsEmpty location pages height e
+    →
     2 ≤ pages → pages ≤ 4096 → pages ≤ 2 ^ height → 2 ^ height < 2 * pages → free + 1 ≡ 2 ^ height →
     ((test : Marks) → IsFreeButFirst test (2 ^ height) → Shows test height e.tree) → KeepsTree e pages free
 KeepsTree-fresh e location pages height free b two most wide tight counted shows =

@@ -1,5 +1,6 @@
 -- Every step keeps objects under their birth numbers, and weak references with their targets.
-use Rattle.std.proofs.Common.{◌≡◌, ℕ, Bool, true, false, List, [], ◌∷◌, length, Option, Some, None, refl, sym, ap, ◌∙◌, subst}
+use Rattle.std.proofs.Common.{◌≡◌, ℕ, Bool, true, false, List, [], ◌∷◌, length, Option, Some, None, refl, sym, ap, ◌∙◌}
+use Rattle.std.proofs.Common.{subst}
 use Rattle.std.proofs.lemmas.List.{length-map}
 use Rattle.std.specs.Prelude.{slice_get}
 use Rattle.std.specs.Option.{option_and_then, option_map_or}
@@ -19,13 +20,16 @@ use Rattle.mm_model.specs.Marking.{part_done}
 use Rattle.mm_model.specs.Phase.{reaped, collected}
 use Rattle.mm_model.specs.Search.{Searches, At_once, After_reap, After_collection}
 use Rattle.mm_model.specs.Scan.{AreScanned}
-use Rattle.mm_model.specs.Effect.{Effect, with_some, new_effect, weak_effect, area_effect, weak_made, pushes_object, plain_effect}
+use Rattle.mm_model.specs.Effect.{Effect, with_some, new_effect, weak_effect, area_effect, weak_made, pushes_object}
+use Rattle.mm_model.specs.Effect.{plain_effect}
 use Rattle.mm_model.specs.Refusing.{refusal, no_cell, means_nothing, means_weak, is_stack_full}
 use Rattle.mm_model.specs.Log.{IsRun}
-use Rattle.mm_model.specs.Step.{IsPlain, Makes, MakesWeak, Reaps, Carries, Ends, Refused_as_full, Below_threshold, At_threshold, IsStepUnless, IsStep}
+use Rattle.mm_model.specs.Step.{IsPlain, Makes, MakesWeak, Reaps, Carries, Ends, Refused_as_full, Below_threshold}
+use Rattle.mm_model.specs.Step.{At_threshold, IsStepUnless, IsStep}
 use Rattle.mm_model.proofs.Good.Allowed.{all_allowed}
 use Rattle.mm_laws.specs.WeakReferences.{IsMadeFor}
-use Rattle.mm_laws.proofs.Keeping.Following.{Keeps, marks, made_for-kept, keeps-then, keeps-same_marks, keeps-same, keeps-more, keeps-weak_made, keeps-released}
+use Rattle.mm_laws.proofs.Keeping.Following.{Keeps, marks, made_for-kept, keeps-then, keeps-same_marks, keeps-same}
+use Rattle.mm_laws.proofs.Keeping.Following.{keeps-more, keeps-weak_made, keeps-released}
 use Rattle.mm_laws.proofs.Keeping.Seeing.{same-object, same-plain}
 
 keeps-reaped : (a : State) (dead : List ℕ) → Keeps a (reaped dead a)

@@ -9,7 +9,8 @@ use Rattle.mm_model.specs.State.{State, Area}
 use Rattle.mm_model.specs.Words.{SlotKind, slot_kind, cell_kind}
 use Rattle.mm_model.specs.Count.{made_sticky, with_sticky}
 use Rattle.mm_model.specs.Marking.{is_raw, is_passed, with_grayed, barrier}
-use Rattle.mm_model.specs.Store.{is_counted_slot, recounted, with_object, with_slot, with_cell, put_in_slot, put_in_cell}
+use Rattle.mm_model.specs.Store.{is_counted_slot, recounted, with_object, with_slot, with_cell, put_in_slot}
+use Rattle.mm_model.specs.Store.{put_in_cell}
 use Rattle.mm_model.specs.Meaning.{meant_at, object_meant}
 use Rattle.mm_model.specs.Areas.{area_at, with_changed_area}
 use Rattle.mm_model.specs.Effect.{Effect, with_some, look_effect, pushes_object, plain_effect}

@@ -1,5 +1,6 @@
 -- The words of each line of a log.
-use Rattle.std.proofs.Common.{◌≡◌, ℕ, ◌<◌, Bool, true, false, List, [], ◌∷◌, ◌++◌, ◌&&◌, length, map, codes, decimal, nat_lt, refl, sym, ap, arith}
+use Rattle.std.proofs.Common.{◌≡◌, ℕ, ◌<◌, Bool, true, false, List, [], ◌∷◌, ◌++◌, ◌&&◌, length, map, codes, decimal}
+use Rattle.std.proofs.Common.{nat_lt, refl, sym, ap, arith}
 use Rattle.std.specs.List.{list_all, slice_split, join_with_byte}
 use Rattle.std.proofs.lemmas.List.Splits.{join_with_byte-slice_split, length-slice_split}
 use Rattle.mm_model.specs.declared.object.Kind.{Kind}
@@ -14,7 +15,8 @@ use Rattle.mm_model.specs.declared.line.Phase.{Phase}
 use Rattle.mm_model.specs.declared.line.Phase.TheVariants as phases
 use Rattle.mm_model.specs.Spelling.{refusal_text, kind_word, phase_word, spelling}
 use Rattle.mm_model.proofs.Text.Traces.{NoNewline}
-use Rattle.mm_laws.proofs.Lines.Words.{AreWords, are_words, IsWord-from_test, decimal-word, sentence-joined, joined_words-no_newline, is_space}
+use Rattle.mm_laws.proofs.Lines.Words.{AreWords, are_words, IsWord-from_test, decimal-word, sentence-joined}
+use Rattle.mm_laws.proofs.Lines.Words.{joined_words-no_newline, is_space}
 
 abbrev pub refusal_words : Refusal → List (List ℕ)
 refusal_words refusal = slice_split is_space (refusal_text refusal)

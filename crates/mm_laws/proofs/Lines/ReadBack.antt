@@ -1,5 +1,6 @@
 -- A table that reads the words of a line back, and so tells lines apart.
-use Rattle.std.proofs.Common.{◌≡◌, ℕ, ◌<◌, ◌^◌, Bool, true, false, ◌⊎◌, ⊎_elim, inl, inr, List, [], ◌∷◌, Option, Some, None, option_map, codes, decimal, get_or, refl, sym, ◌∙◌, ap, arith}
+use Rattle.std.proofs.Common.{◌≡◌, ℕ, ◌<◌, ◌^◌, Bool, true, false, ◌⊎◌, ⊎_elim, inl, inr, List, [], ◌∷◌, Option, Some}
+use Rattle.std.proofs.Common.{None, option_map, codes, decimal, get_or, refl, sym, ◌∙◌, ap, arith}
 use Rattle.std.specs.List.{All}
 use Rattle.std.specs.Str.Parse.{digits_value}
 use Rattle.std.proofs.lemmas.List.Elements.{All-weaker}
@@ -15,7 +16,8 @@ use Rattle.mm_model.specs.declared.line.Line.TheVariants as lines
 use Rattle.mm_model.specs.declared.line.Phase.TheVariants as phases
 use Rattle.mm_model.specs.Spelling.{kind_word}
 use Rattle.mm_model.specs.Trace.{entry_at}
-use Rattle.mm_laws.specs.Lines.{reply_numbers, numbers_of, IsSpelledInFull, AreNothing, answered_nothing, refused_nothing}
+use Rattle.mm_laws.specs.Lines.{reply_numbers, numbers_of, IsSpelledInFull, AreNothing, answered_nothing}
+use Rattle.mm_laws.specs.Lines.{refused_nothing}
 use Rattle.mm_laws.proofs.Lines.LineWords.{line_words}
 
 abbrev word_at : ℕ → List (List ℕ) → List ℕ

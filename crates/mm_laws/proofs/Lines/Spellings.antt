@@ -1,5 +1,6 @@
 -- Spellings behind one another: each ends at its newline.
-use Rattle.std.proofs.Common.{◌≡◌, ℕ, ◌⊎◌, List, [], ◌∷◌, ◌++◌, ◌+◌, length, get_or, drop, append-nil, sym, ◌∙◌, ap, arith, length-append}
+use Rattle.std.proofs.Common.{◌≡◌, ℕ, ◌⊎◌, List, [], ◌∷◌, ◌++◌, ◌+◌, length, get_or, drop, append-nil, sym, ◌∙◌, ap}
+use Rattle.std.proofs.Common.{arith, length-append}
 use Rattle.std.specs.List.{All, slice_split}
 use Rattle.std.proofs.lemmas.List.Elements.{All-head, All-tail}
 use Rattle.mm_model.specs.declared.line.Line.{Line}
@@ -7,7 +8,8 @@ use Rattle.mm_model.specs.Spelling.{spelling, spelling_of}
 use Rattle.mm_model.specs.Trace.{pieces_of}
 use Rattle.mm_laws.specs.Lines.{IsSpelledInFull, AreNothing, AreAlike}
 use Rattle.mm_laws.proofs.Lines.Words.{is_space, slice_split-joined_words, pieces_of-newline, pieces_of-injective}
-use Rattle.mm_laws.proofs.Lines.LineWords.{body, line_words, line_words-clean, line_words-some, spelling-body, body-no_newline}
+use Rattle.mm_laws.proofs.Lines.LineWords.{body, line_words, line_words-clean, line_words-some, spelling-body}
+use Rattle.mm_laws.proofs.Lines.LineWords.{body-no_newline}
 use Rattle.mm_laws.proofs.Lines.ReadBack.{line_words-alike}
 
 pieces_of-spelling : (line : Line) (rest : List ℕ) → pieces_of (spelling line ++ rest) ≡ body line ∷ pieces_of rest

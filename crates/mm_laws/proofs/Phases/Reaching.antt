@@ -4,7 +4,8 @@ use Rattle.std.proofs.lemmas.Bool.Decides.{nat_tests}
 use Rattle.std.specs.Prelude.{IsTrue, ◌==◌}
 use Rattle.mm_model.specs.Object.{Object, is_live, is_counted, is_scanned}
 use Rattle.mm_model.specs.State.{State, Lives}
-use Rattle.mm_model.specs.Words.{stack_words, area_words, root_words, counted_cell_words, counted_cells, scanned_cells, counted_slots, word_slots, scanned_slots, counted_words, falls, names, holds}
+use Rattle.mm_model.specs.Words.{stack_words, area_words, root_words, counted_cell_words, counted_cells, scanned_cells}
+use Rattle.mm_model.specs.Words.{counted_slots, word_slots, scanned_slots, counted_words, falls, names, holds}
 use Rattle.mm_model.specs.Good.{IsGood}
 use Rattle.mm_model.specs.Count.{is_zero_count}
 use Rattle.mm_model.specs.Reapable.{IsReapable, Reapable, only_slots_hold}
@@ -13,7 +14,8 @@ use Rattle.mm_model.specs.Reached.{IsReached, By_root, By_slot as Reached_by_slo
 use Rattle.mm_model.proofs.Lists.Keyed.{refuted}
 use Rattle.mm_model.proofs.Places.Placing.{both}
 use Rattle.mm_model.proofs.Lists.Truth.{together, not_true, not-false, no_other}
-use Rattle.mm_model.proofs.Lists.Passing.{any-front, any-back, any-flat_map, any-none_counted, any-weaker, any-flat_map-weaker, any-words_take, any-words_drop}
+use Rattle.mm_model.proofs.Lists.Passing.{any-front, any-back, any-flat_map, any-none_counted, any-weaker}
+use Rattle.mm_model.proofs.Lists.Passing.{any-flat_map-weaker, any-words_take, any-words_drop}
 use Rattle.mm_model.proofs.Good.Living.{lives_extent, lives_same}
 
 -- what a zero-count object is

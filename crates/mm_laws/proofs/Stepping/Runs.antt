@@ -17,13 +17,15 @@ run-cut a (command ∷ first) others log b run =
       front = run.0 ++ cut.front;
       rest = cut.rest;
       mid = cut.mid;
-      log_is = run.3 ∙ ap (λ (lines : List Line). run.0 ++ lines) cut.log_is ∙ sym (append_assoc run.0 cut.front cut.rest);
+      log_is = run.3 ∙ ap (λ (lines : List Line). run.0 ++ lines) cut.log_is
+          ∙ sym (append_assoc run.0 cut.front cut.rest);
       before = (run.0, cut.front, run.2, refl, run.4, cut.before);
       behind = cut.behind;
     }
 
 pub run-joined : (a : State) (first others : List Command) (front rest : List Line) (mid b : State)
-    → IsRun IsStep a first front mid → IsRun IsStep mid others rest b → IsRun IsStep a (first ++ others) (front ++ rest) b
+    → IsRun IsStep a first front mid → IsRun IsStep mid others rest b
+    → IsRun IsStep a (first ++ others) (front ++ rest) b
 run-joined a [] others front rest mid b before behind =
     subst (λ log. IsRun IsStep a others (log ++ rest) b) (sym before.0)
     (subst (λ (s : State). IsRun IsStep s others rest b) before.1 behind)
@@ -36,7 +38,8 @@ run-joined a (command ∷ first) others front rest mid b before behind = (
   run-joined before.2 first others before.1 rest mid b before.5 behind,
 )
 
-pub cut-joined : (a : State) (first others : List Command) (log : List Line) (b : State) → IsCutBehind a first others log b
+pub cut-joined : (a : State) (first others : List Command) (log : List Line) (b : State)
+    → IsCutBehind a first others log b
     → IsRun IsStep a (first ++ others) log b
 cut-joined a first others log b cut =
     subst (λ lines. IsRun IsStep a (first ++ others) lines b) (sym cut.log_is)

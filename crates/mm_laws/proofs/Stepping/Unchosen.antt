@@ -1,5 +1,6 @@
 -- What a command other than `step` does and writes leaves no choice.
-use Rattle.std.proofs.Common.{◌≡◌, ℕ, ◌<◌, Bool, true, false, ◌||◌, eqb-true, eq-eqb, List, [], ◌∷◌, ◌++◌, Option, Some, None, refl, sym, ap, ◌∙◌, subst, ◌⊎◌, ⊎_elim, inl, inr, arith}
+use Rattle.std.proofs.Common.{◌≡◌, ℕ, ◌<◌, Bool, true, false, ◌||◌, eqb-true, eq-eqb, List, [], ◌∷◌, ◌++◌, Option, Some}
+use Rattle.std.proofs.Common.{None, refl, sym, ap, ◌∙◌, subst, ◌⊎◌, ⊎_elim, inl, inr, arith}
 use Rattle.std.specs.Prelude.{◌==◌, ◌≢◌}
 use Rattle.std.specs.List.{AllByRecursion}
 use Rattle.mm_model.specs.Object.{Object}
@@ -21,7 +22,8 @@ use Rattle.mm_model.specs.Phase.{lists, IsAscending, AreBasesOf, AreReaped, AreC
 use Rattle.mm_model.specs.Search.{place_grown, Searches, At_once, After_reap, After_collection}
 use Rattle.mm_model.specs.Effect.{Effect, new_effect, weak_effect, area_effect, pushes_object, plain_effect}
 use Rattle.mm_model.specs.Refusing.{refusal}
-use Rattle.mm_model.specs.Step.{Makes, IsPlain, MakesWeak, MakesWeakOf, Reaps, Carries, is_full, Ends, Refused_as_full, Below_threshold, At_threshold, IsCarriedOut, IsStepUnless, IsStep}
+use Rattle.mm_model.specs.Step.{Makes, IsPlain, MakesWeak, MakesWeakOf, Reaps, Carries, is_full, Ends, Refused_as_full}
+use Rattle.mm_model.specs.Step.{Below_threshold, At_threshold, IsCarriedOut, IsStepUnless, IsStep}
 use Rattle.mm_model.specs.After.{Row, row_after}
 use Rattle.mm_model.proofs.Steps.Determining.{row_as, row-is}
 use Rattle.mm_model.proofs.Lists.Truth.{no_other}

@@ -1,5 +1,6 @@
 -- What the lines of `look` tell of a weak reference's target.
-use Rattle.std.proofs.Common.{◌≡◌, ℕ, Bool, true, false, not, List, [], ◌∷◌, ◌++◌, Option, Some, None, refl, ap, ◌∙◌, subst, ◌⊎◌, inl, inr}
+use Rattle.std.proofs.Common.{◌≡◌, ℕ, Bool, true, false, not, List, [], ◌∷◌, ◌++◌, Option, Some, None, refl, ap, ◌∙◌}
+use Rattle.std.proofs.Common.{subst, ◌⊎◌, inl, inr}
 use Rattle.std.specs.Prelude.{◌↔◌, is_some, slice_get}
 use Rattle.std.specs.Option.{option_and_then, option_map_or}
 use Rattle.mm_model.specs.declared.command.Command.TheVariants as commands

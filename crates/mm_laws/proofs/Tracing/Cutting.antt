@@ -1,12 +1,14 @@
 -- Bytes that end at a newline: how they are cut, and what is read of them and of what comes behind.
-use Rattle.std.proofs.Common.{◌≡◌, ℕ, ◌+◌, List, [], ◌∷◌, ◌++◌, length, Option, Some, None, Result, Ok, Err, refl, sym, ◌∙◌, ap, subst, append_assoc, ⊎_elim, arith}
+use Rattle.std.proofs.Common.{◌≡◌, ℕ, ◌+◌, List, [], ◌∷◌, ◌++◌, length, Option, Some, None, Result, Ok, Err, refl, sym}
+use Rattle.std.proofs.Common.{◌∙◌, ap, subst, append_assoc, ⊎_elim, arith}
 use Rattle.std.specs.Option.{option_map}
 use Rattle.std.proofs.lemmas.Bool.{cases_eq}
 use Rattle.std.proofs.lemmas.List.{append-nil}
 use Rattle.mm_model.specs.declared.command.Command.{Command}
 use Rattle.mm_model.specs.declared.refusal.LineFault.{LineFault}
 use Rattle.mm_model.specs.Trace.{lines_of, FaultAt, Reading, reading_before, reading_from, line_reading, trace_reading}
-use Rattle.mm_model.proofs.Text.Traces.{Cuts, Cuts-none, Cuts-byte, Cuts-newline, lines_of-cuts, reading_from-clean, reading_from-fault}
+use Rattle.mm_model.proofs.Text.Traces.{Cuts, Cuts-none, Cuts-byte, Cuts-newline, lines_of-cuts, reading_from-clean}
+use Rattle.mm_model.proofs.Text.Traces.{reading_from-fault}
 use Rattle.mm_model.proofs.Text.Faults.{lines_of-after}
 use Rattle.mm_laws.specs.Faults.{raised_by}
 

@@ -1,5 +1,6 @@
 -- What a command leaves of each view of objects that only births change: the objects before it, and the new one.
-use Rattle.std.proofs.Common.{◌≡◌, ℕ, Bool, true, false, List, [], ◌∷◌, ◌++◌, map, length, Option, Some, None, refl, sym, ap, ◌∙◌, subst}
+use Rattle.std.proofs.Common.{◌≡◌, ℕ, Bool, true, false, List, [], ◌∷◌, ◌++◌, map, length, Option, Some, None, refl}
+use Rattle.std.proofs.Common.{sym, ap, ◌∙◌, subst}
 use Rattle.std.proofs.lemmas.List.{append-nil, map-append}
 use Rattle.std.specs.Prelude.{slice_get, slice_set}
 use Rattle.mm_model.specs.declared.command.Command.{Command}
@@ -18,7 +19,8 @@ use Rattle.mm_model.specs.Meaning.{meant_at}
 use Rattle.mm_model.specs.Phase.{after_release, reaped, collected}
 use Rattle.mm_model.specs.Store.{with_slot}
 use Rattle.mm_model.specs.Search.{Searches, At_once, After_reap, After_collection}
-use Rattle.mm_model.specs.Effect.{Effect, with_some, weak_shape, weak_made, new_effect, weak_effect, area_effect, pushes, pushes_object, plain_effect}
+use Rattle.mm_model.specs.Effect.{Effect, with_some, weak_shape, weak_made, new_effect, weak_effect, area_effect}
+use Rattle.mm_model.specs.Effect.{pushes, pushes_object, plain_effect}
 use Rattle.mm_model.specs.Refusing.{refusal}
 use Rattle.mm_model.specs.Step.{Makes, MakesWeak, Carries, Ends, Refused_as_full, Below_threshold, At_threshold}
 use Rattle.mm_model.specs.Turns.{Born, born_at, births_if}
@@ -130,111 +132,113 @@ module _ {P : Type 0} (view : Object → P) (as_born : Born → P) (views : View
 abbrev pub IsStable : {P : Type 0} → (Object → P) → Type 0
 IsStable view = (a : State) (bases : List ℕ) (object : Object) → view (after_release a bases object) ≡ view object
 
-module _ {P : Type 0} (view : Object → P) (as_born : Born → P) (views : Views view as_born) (stable : IsStable view) where
-  same-released : (a b : State) (bases : List ℕ) → b.objects ≡ map (after_release a bases) a.objects
-      → SeesSame view a b
-  same-released a b bases is =
-      ap (map view) is ∙ map-map_alike view (after_release a bases) (stable a bases) a.objects
+module _ {P : Type 0} (view : Object → P) (as_born : Born → P) (views : Views view as_born) (stable : IsStable view)
+  where
+    same-released : (a b : State) (bases : List ℕ) → b.objects ≡ map (after_release a bases) a.objects
+        → SeesSame view a b
+    same-released a b bases is =
+        ap (map view) is ∙ map-map_alike view (after_release a bases) (stable a bases) a.objects
 
-  pub same-searched : (a : State) (family : Family) (bytes : ℕ) (log : List Line) (b : State) (found : Option ℕ)
-      → Searches a family bytes log b found → SeesSame view a b
-  same-searched a family bytes log b found (At_once base place lines same is) =
-      ap (λ (s : State). map view s.objects) same
-  same-searched a family bytes log b found (After_reap base dead none reapable place lines same is) =
-      ap (λ (s : State). map view s.objects) same ∙ same-released a (reaped dead a) dead refl
-  same-searched a family bytes log b found (After_collection dead lost none reapable no_place unreached lines same is) =
-      ap (λ (s : State). map view s.objects) same
-      ∙ same-released (reaped dead a) (collected lost (reaped dead a)) lost refl
-      ∙ same-released a (reaped dead a) dead refl
+    pub same-searched : (a : State) (family : Family) (bytes : ℕ) (log : List Line) (b : State) (found : Option ℕ)
+        → Searches a family bytes log b found → SeesSame view a b
+    same-searched a family bytes log b found (At_once base place lines same is) =
+        ap (λ (s : State). map view s.objects) same
+    same-searched a family bytes log b found (After_reap base dead none reapable place lines same is) =
+        ap (λ (s : State). map view s.objects) same ∙ same-released a (reaped dead a) dead refl
+    same-searched a family bytes log b found (After_collection dead lost none reapable no_place unreached lines same is) =
+        ap (λ (s : State). map view s.objects) same
+        ∙ same-released (reaped dead a) (collected lost (reaped dead a)) lost refl
+        ∙ same-released a (reaped dead a) dead refl
 
-  -- births after what looks the same
-  bears-then : (a m : State) (births : List Born) (b : State) → SeesSame view a m → SeesBorn view as_born m births b
-      → SeesBorn view as_born a births b
-  bears-then a m births b same bears = bears ∙ ap (λ (ps : List P). ps ++ map as_born births) same
+    -- births after what looks the same
+    bears-then : (a m : State) (births : List Born) (b : State) → SeesSame view a m → SeesBorn view as_born m births b
+        → SeesBorn view as_born a births b
+    bears-then a m births b same bears = bears ∙ ap (λ (ps : List P). ps ++ map as_born births) same
 
-  bears-makes : (a : State) (family : Family) (bytes : ℕ) (then : State → Option ℕ → Effect) (log : List Line)
-      (effect : Effect) (command : Command) (m : Makes a family bytes then log effect)
-      → SeesBorn view as_born m.state (births_if a command (Some (then m.state m.found).reply))
-      (then m.state m.found).state
-      → SeesBorn view as_born a (births_if a command (Some effect.reply)) effect.state
-  bears-makes a family bytes then log effect command m bears =
-      subst (λ (e : Effect). SeesBorn view as_born a (births_if a command (Some e.reply)) e.state) (sym m.effect_is)
-      (bears-then a m.state _ (then m.state m.found).state (same-searched a family bytes log m.state m.found m.search) bears)
-
-  bears-makes_weak : (a : State) (i target : ℕ) (object : Object) → slice_get a.objects target ≡ Some object
-      → (partner : Option ℕ) (log : List Line) (effect : Effect) → MakesWeak a target partner log effect
-      → SeesBorn view as_born a (births_if a (commands.Weak i) (Some effect.reply)) effect.state
-  bears-makes_weak a i target object is (Some weak) log effect m =
-      subst (λ (e : Effect). SeesBorn view as_born a (births_if a (commands.Weak i) (Some e.reply)) e.state)
-      (sym m.effect_is) (bears-kept view as_born views a i weak)
-  bears-makes_weak a i target object is None log effect m =
-      let keeps : Keeps a m.state = keeps-searched a _ _ log m.state m.found m.search in
-      let one = keeps target object is in
-      bears-makes a _ _ _ log effect (commands.Weak i) m
-      (bears-weak view as_born views a m.state i target one.after m.found one.is)
-
-  bears-phase : (a : State) (command : Command) (effect : Effect) (b : State) (bases : List ℕ) → effect.state ≡ b
-      → b.objects ≡ map (after_release a bases) a.objects → ((base : ℕ) → born_at a command base ≡ [])
-      → SeesBorn view as_born a (births_if a command (Some effect.reply)) effect.state
-  bears-phase a command effect b bases state is none =
-      bears-same view as_born views a _ effect.state
-      (ap (λ (s : State). map view s.objects) state ∙ same-released a b bases is)
-      (births_if-none a command none effect.reply)
-
-  module _ (a : State) (log : List Line) (effect : Effect) where
-    bears-effect : (command : Command) → effect ≡ plain_effect a command
-        → (is_put command ≡ true → (object : Object) (s : ℕ) (value : Value)
-        → view (with_slot a object s value) ≡ view object)
-        → ((base : ℕ) → born_at a command base ≡ [])
+    bears-makes : (a : State) (family : Family) (bytes : ℕ) (then : State → Option ℕ → Effect) (log : List Line)
+        (effect : Effect) (command : Command) (m : Makes a family bytes then log effect)
+        → SeesBorn view as_born m.state (births_if a command (Some (then m.state m.found).reply))
+        (then m.state m.found).state
         → SeesBorn view as_born a (births_if a command (Some effect.reply)) effect.state
-    bears-effect command is kept none =
-        subst (λ (e : Effect). SeesBorn view as_born a (births_if a command (Some e.reply)) e.state) (sym is)
-        (bears-plain view as_born views a command kept none)
+    bears-makes a family bytes then log effect command m bears =
+        subst (λ (e : Effect). SeesBorn view as_born a (births_if a command (Some e.reply)) e.state) (sym m.effect_is)
+        (bears-then a m.state _ (then m.state m.found).state (same-searched a family bytes log m.state m.found m.search)
+        bears)
 
-    pub bears-carried : (command : Command) → refusal a command ≡ None
-        → (is_put command ≡ true → (object : Object) (s : ℕ) (value : Value)
-        → view (with_slot a object s value) ≡ view object)
-        → Carries a command log effect
+    bears-makes_weak : (a : State) (i target : ℕ) (object : Object) → slice_get a.objects target ≡ Some object
+        → (partner : Option ℕ) (log : List Line) (effect : Effect) → MakesWeak a target partner log effect
+        → SeesBorn view as_born a (births_if a (commands.Weak i) (Some effect.reply)) effect.state
+    bears-makes_weak a i target object is (Some weak) log effect m =
+        subst (λ (e : Effect). SeesBorn view as_born a (births_if a (commands.Weak i) (Some e.reply)) e.state)
+        (sym m.effect_is) (bears-kept view as_born views a i weak)
+    bears-makes_weak a i target object is None log effect m =
+        let keeps : Keeps a m.state = keeps-searched a _ _ log m.state m.found m.search in
+        let one = keeps target object is in
+        bears-makes a _ _ _ log effect (commands.Weak i) m
+        (bears-weak view as_born views a m.state i target one.after m.found one.is)
+
+    bears-phase : (a : State) (command : Command) (effect : Effect) (b : State) (bases : List ℕ) → effect.state ≡ b
+        → b.objects ≡ map (after_release a bases) a.objects → ((base : ℕ) → born_at a command base ≡ [])
         → SeesBorn view as_born a (births_if a command (Some effect.reply)) effect.state
-    bears-carried (commands.New shape) allowed kept m =
-        bears-makes a _ _ _ log effect (commands.New shape) m (bears-new view as_born views a m.state shape m.found)
-    bears-carried (commands.Weak i) allowed kept m =
-        bears-makes_weak a i m.target m.object
-        (strong-allowed a i m.target m.object allowed m.target_is m.object_is).is m.object.partner log effect m.makes
-    bears-carried (commands.Root counted cells) allowed kept m =
-        bears-makes a _ _ _ log effect (commands.Root counted cells) m
-        (bears-area view as_born views a m.state (commands.Root counted cells) true counted cells m.found (λ _. refl))
-    bears-carried (commands.Fixed cells) allowed kept m =
-        bears-makes a _ _ _ log effect (commands.Fixed cells) m
-        (bears-area view as_born views a m.state (commands.Fixed cells) false 0 cells m.found (λ _. refl))
-    bears-carried commands.Reap allowed kept m =
-        bears-phase a commands.Reap effect (reaped m.0.dead a) m.0.dead m.0.state refl (λ _. refl)
-    bears-carried commands.Collect allowed kept m =
-        bears-phase a commands.Collect effect (collected m.0.lost a) m.0.lost m.0.state refl (λ _. refl)
-    bears-carried (commands.Step k) allowed kept m =
+    bears-phase a command effect b bases state is none =
         bears-same view as_born views a _ effect.state
-        (ap (map view) (scanned-objects a m.0.births log effect.state m.0.scanned))
-        (births_if-none a (commands.Step k) (λ _. refl) effect.reply)
-    bears-carried commands.Finish allowed kept m =
-        bears-phase a commands.Finish effect (collected m.0.lost a) m.0.lost m.0.state refl (λ _. refl)
-    bears-carried (commands.Push word) allowed kept m = bears-effect (commands.Push word) m.effect_is kept (λ _. refl)
-    bears-carried (commands.Dup i) allowed kept m = bears-effect (commands.Dup i) m.effect_is kept (λ _. refl)
-    bears-carried (commands.Pop k) allowed kept m = bears-effect (commands.Pop k) m.effect_is kept (λ _. refl)
-    bears-carried (commands.Inner i d) allowed kept m = bears-effect (commands.Inner i d) m.effect_is kept (λ _. refl)
-    bears-carried (commands.Get i s) allowed kept m = bears-effect (commands.Get i s) m.effect_is kept (λ _. refl)
-    bears-carried (commands.Put i s j) allowed kept m = bears-effect (commands.Put i s j) m.effect_is kept (λ _. refl)
-    bears-carried (commands.Look i) allowed kept m = bears-effect (commands.Look i) m.effect_is kept (λ _. refl)
-    bears-carried (commands.DropArea n) allowed kept m = bears-effect (commands.DropArea n) m.effect_is kept (λ _. refl)
-    bears-carried (commands.AreaGet n s) allowed kept m =
-        bears-effect (commands.AreaGet n s) m.effect_is kept (λ _. refl)
-    bears-carried (commands.AreaPut n s j) allowed kept m =
-        bears-effect (commands.AreaPut n s j) m.effect_is kept (λ _. refl)
-    bears-carried commands.Begin allowed kept m = bears-effect commands.Begin m.effect_is kept (λ _. refl)
-    bears-carried (commands.Map i) allowed kept m = bears-effect (commands.Map i) m.effect_is kept (λ _. refl)
-    bears-carried commands.Stat allowed kept m = bears-effect commands.Stat m.effect_is kept (λ _. refl)
+        (ap (λ (s : State). map view s.objects) state ∙ same-released a b bases is)
+        (births_if-none a command none effect.reply)
 
-  pub same-ended : (a : State) (full : Bool) (log : List Line) (b : State) → Ends a full log b → SeesSame view a b
-  same-ended a full log b (Refused_as_full is none same) = ap (λ (s : State). map view s.objects) same
-  same-ended a full log b (Below_threshold is below none same) = ap (λ (s : State). map view s.objects) same
-  same-ended a full log b (At_threshold is above reaps) =
-      ap (λ (s : State). map view s.objects) reaps.state ∙ same-released a (reaped reaps.dead a) reaps.dead refl
+    module _ (a : State) (log : List Line) (effect : Effect) where
+      bears-effect : (command : Command) → effect ≡ plain_effect a command
+          → (is_put command ≡ true → (object : Object) (s : ℕ) (value : Value)
+          → view (with_slot a object s value) ≡ view object)
+          → ((base : ℕ) → born_at a command base ≡ [])
+          → SeesBorn view as_born a (births_if a command (Some effect.reply)) effect.state
+      bears-effect command is kept none =
+          subst (λ (e : Effect). SeesBorn view as_born a (births_if a command (Some e.reply)) e.state) (sym is)
+          (bears-plain view as_born views a command kept none)
+
+      pub bears-carried : (command : Command) → refusal a command ≡ None
+          → (is_put command ≡ true → (object : Object) (s : ℕ) (value : Value)
+          → view (with_slot a object s value) ≡ view object)
+          → Carries a command log effect
+          → SeesBorn view as_born a (births_if a command (Some effect.reply)) effect.state
+      bears-carried (commands.New shape) allowed kept m =
+          bears-makes a _ _ _ log effect (commands.New shape) m (bears-new view as_born views a m.state shape m.found)
+      bears-carried (commands.Weak i) allowed kept m =
+          bears-makes_weak a i m.target m.object
+          (strong-allowed a i m.target m.object allowed m.target_is m.object_is).is m.object.partner log effect m.makes
+      bears-carried (commands.Root counted cells) allowed kept m =
+          bears-makes a _ _ _ log effect (commands.Root counted cells) m
+          (bears-area view as_born views a m.state (commands.Root counted cells) true counted cells m.found (λ _. refl))
+      bears-carried (commands.Fixed cells) allowed kept m =
+          bears-makes a _ _ _ log effect (commands.Fixed cells) m
+          (bears-area view as_born views a m.state (commands.Fixed cells) false 0 cells m.found (λ _. refl))
+      bears-carried commands.Reap allowed kept m =
+          bears-phase a commands.Reap effect (reaped m.0.dead a) m.0.dead m.0.state refl (λ _. refl)
+      bears-carried commands.Collect allowed kept m =
+          bears-phase a commands.Collect effect (collected m.0.lost a) m.0.lost m.0.state refl (λ _. refl)
+      bears-carried (commands.Step k) allowed kept m =
+          bears-same view as_born views a _ effect.state
+          (ap (map view) (scanned-objects a m.0.births log effect.state m.0.scanned))
+          (births_if-none a (commands.Step k) (λ _. refl) effect.reply)
+      bears-carried commands.Finish allowed kept m =
+          bears-phase a commands.Finish effect (collected m.0.lost a) m.0.lost m.0.state refl (λ _. refl)
+      bears-carried (commands.Push word) allowed kept m = bears-effect (commands.Push word) m.effect_is kept (λ _. refl)
+      bears-carried (commands.Dup i) allowed kept m = bears-effect (commands.Dup i) m.effect_is kept (λ _. refl)
+      bears-carried (commands.Pop k) allowed kept m = bears-effect (commands.Pop k) m.effect_is kept (λ _. refl)
+      bears-carried (commands.Inner i d) allowed kept m = bears-effect (commands.Inner i d) m.effect_is kept (λ _. refl)
+      bears-carried (commands.Get i s) allowed kept m = bears-effect (commands.Get i s) m.effect_is kept (λ _. refl)
+      bears-carried (commands.Put i s j) allowed kept m = bears-effect (commands.Put i s j) m.effect_is kept (λ _. refl)
+      bears-carried (commands.Look i) allowed kept m = bears-effect (commands.Look i) m.effect_is kept (λ _. refl)
+      bears-carried (commands.DropArea n) allowed kept m = bears-effect (commands.DropArea n) m.effect_is kept (λ _. refl)
+      bears-carried (commands.AreaGet n s) allowed kept m =
+          bears-effect (commands.AreaGet n s) m.effect_is kept (λ _. refl)
+      bears-carried (commands.AreaPut n s j) allowed kept m =
+          bears-effect (commands.AreaPut n s j) m.effect_is kept (λ _. refl)
+      bears-carried commands.Begin allowed kept m = bears-effect commands.Begin m.effect_is kept (λ _. refl)
+      bears-carried (commands.Map i) allowed kept m = bears-effect (commands.Map i) m.effect_is kept (λ _. refl)
+      bears-carried commands.Stat allowed kept m = bears-effect commands.Stat m.effect_is kept (λ _. refl)
+
+    pub same-ended : (a : State) (full : Bool) (log : List Line) (b : State) → Ends a full log b → SeesSame view a b
+    same-ended a full log b (Refused_as_full is none same) = ap (λ (s : State). map view s.objects) same
+    same-ended a full log b (Below_threshold is below none same) = ap (λ (s : State). map view s.objects) same
+    same-ended a full log b (At_threshold is above reaps) =
+        ap (λ (s : State). map view s.objects) reaps.state ∙ same-released a (reaped reaps.dead a) reaps.dead refl

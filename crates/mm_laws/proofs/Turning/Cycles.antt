@@ -1,5 +1,6 @@
 -- Each step keeps the settings and what is sticky, and `begin` alone begins a cycle.
-use Rattle.std.proofs.Common.{◌≡◌, ℕ, Bool, true, false, not, ⊎_elim, List, [], ◌∷◌, ◌++◌, map, length, Option, Some, None, refl, sym, ap, ◌∙◌, subst}
+use Rattle.std.proofs.Common.{◌≡◌, ℕ, Bool, true, false, not, ⊎_elim, List, [], ◌∷◌, ◌++◌, map, length, Option, Some}
+use Rattle.std.proofs.Common.{None, refl, sym, ap, ◌∙◌, subst}
 use Rattle.std.proofs.lemmas.Bool.{cases_eq}
 use Rattle.std.proofs.lemmas.Option.{slice_get-map}
 use Rattle.std.specs.Prelude.{is_some, slice_get, slice_set, slice_index, nat_le, ◌||◌, ◌&&◌, ◌==◌, if◌then◌else◌}
@@ -20,12 +21,15 @@ use Rattle.mm_model.specs.Meaning.{meant_at, object_meant}
 use Rattle.mm_model.specs.Areas.{area_at, with_changed_area}
 use Rattle.mm_model.specs.Marking.{grayed_cycle, with_grayed, is_raw, is_passed, barrier, part_done}
 use Rattle.mm_model.specs.Phase.{cycle_left, is_freed, unless_freed, after_release, reaped, collected}
-use Rattle.mm_model.specs.Store.{is_counted_slot, recounted, with_object, with_slot, with_cell, put_in_slot, put_in_cell}
+use Rattle.mm_model.specs.Store.{is_counted_slot, recounted, with_object, with_slot, with_cell, put_in_slot}
+use Rattle.mm_model.specs.Store.{put_in_cell}
 use Rattle.mm_model.specs.Search.{Searches, At_once, After_reap, After_collection}
 use Rattle.mm_model.specs.Scan.{AreScanned}
-use Rattle.mm_model.specs.Effect.{Effect, with_some, weak_shape, new_effect, weak_effect, weak_made, area_effect, look_effect, pushes_object, plain_effect}
+use Rattle.mm_model.specs.Effect.{Effect, with_some, weak_shape, new_effect, weak_effect, weak_made, area_effect}
+use Rattle.mm_model.specs.Effect.{look_effect, pushes_object, plain_effect}
 use Rattle.mm_model.specs.Refusing.{refusal}
-use Rattle.mm_model.specs.Step.{Makes, MakesWeak, Carries, Ends, Refused_as_full, Below_threshold, At_threshold, IsStepUnless, IsStep}
+use Rattle.mm_model.specs.Step.{Makes, MakesWeak, Carries, Ends, Refused_as_full, Below_threshold, At_threshold}
+use Rattle.mm_model.specs.Step.{IsStepUnless, IsStep}
 use Rattle.mm_model.specs.Turns.{is_begin}
 use Rattle.mm_model.proofs.Lists.Growing.{get-front}
 use Rattle.mm_model.proofs.Lists.Replaced.{get-set_same, get-set_other}
@@ -147,7 +151,8 @@ module _ (begins : Bool) where
   follows-searched a family bytes log b found (At_once base place lines same is) = follows-same begins a b same
   follows-searched a family bytes log b found (After_reap base dead none reapable place lines same is) =
       subst (Follows begins a) (sym same) (follows-reaped a dead)
-  follows-searched a family bytes log b found (After_collection dead lost none reapable no_place lost_is lines same is) =
+  follows-searched a family bytes log b found (After_collection dead lost none reapable no_place lost_is lines same is)
+      =
       subst (Follows begins a) (sym same)
       (follows-then begins a (reaped dead a) (collected lost (reaped dead a)) (follows-reaped a dead)
       (follows-collected (reaped dead a) lost))
@@ -193,7 +198,8 @@ module _ (begins : Bool) where
       (follows-searched a family bytes log m.state m.found m.search) (f m.state m.found))
 
   follows-object : (a : State) (birth : ℕ) → Follows begins a (pushes_object a birth).state
-  follows-object a birth = follows-with_some (slice_get a.objects birth) a _ (λ object e. follows-mapped begins a _ refl refl refl)
+  follows-object a birth = follows-with_some (slice_get a.objects birth) a _
+      (λ object e. follows-mapped begins a _ refl refl refl)
 
   follows-makes_weak : (a : State) (target : ℕ) (partner : Option ℕ) (log : List Line) (effect : Effect)
       → MakesWeak a target partner log effect → Follows begins a effect.state
@@ -271,17 +277,20 @@ follows-plain a (commands.Inner i bytes) =
     follows-with_some false (slice_get a.stack i) a _ (λ value e. follows-mapped false a _ refl refl refl)
 follows-plain a (commands.Get i s) =
     follows-with_some false (object_meant a i) a _
-    (λ object e. follows-with_some false (slice_get object.slots s) a _ (λ value e. follows-mapped false a _ refl refl refl))
+    (λ object e. follows-with_some false (slice_get object.slots s) a _
+    (λ value e. follows-mapped false a _ refl refl refl))
 follows-plain a (commands.Put i s j) =
     follows-with_some false (meant_at a i) a _
     (λ birth e. follows-with_some false (slice_get a.objects birth) a _
-    (λ object f. follows-with_some false (slice_get a.stack j) a _ (λ value e. follows-put false a birth object s value f)))
+    (λ object f. follows-with_some false (slice_get a.stack j) a _
+    (λ value e. follows-put false a birth object s value f)))
 follows-plain a (commands.Look i) =
     follows-with_some false (object_meant a i) a _ (λ object e. follows-look false a object.partner)
 follows-plain a (commands.DropArea number) = follows-mapped false a _ refl refl refl
 follows-plain a (commands.AreaGet number s) =
     follows-with_some false (area_at a number) a _
-    (λ area e. follows-with_some false (slice_get area.cells s) a _ (λ value e. follows-mapped false a _ refl refl refl))
+    (λ area e. follows-with_some false (slice_get area.cells s) a _
+    (λ value e. follows-mapped false a _ refl refl refl))
 follows-plain a (commands.AreaPut number s j) =
     follows-with_some false (area_at a number) a _
     (λ area e. follows-with_some false (slice_get a.stack j) a _ (λ value e. follows-area_put false a area s value))
@@ -300,7 +309,8 @@ follows-plain a commands.Finish = follows-mapped false a _ refl refl refl
 
 module _ (a : State) (log : List Line) (effect : Effect) where
   follows-effect : (command : Command) → effect ≡ plain_effect a command → Follows (is_begin command) a effect.state
-  follows-effect command is = subst (λ (e : Effect). Follows (is_begin command) a e.state) (sym is) (follows-plain a command)
+  follows-effect command is = subst (λ (e : Effect). Follows (is_begin command) a e.state) (sym is)
+      (follows-plain a command)
 
   follows-carried : (command : Command) → Carries a command log effect → Follows (is_begin command) a effect.state
   follows-carried (commands.New shape) m =

@@ -1,5 +1,6 @@
 -- What turns tell of the state that they lead to.
-use Rattle.std.proofs.Common.{◌≡◌, ℕ, ◌+◌, ◌<◌, ◌≤◌, Bool, true, false, zero, suc, eqb-true, get_or, List, [], ◌∷◌, ◌++◌, map, length, Option, Some, None, refl, sym, ap, ◌∙◌, subst, ⊎_elim, arith}
+use Rattle.std.proofs.Common.{◌≡◌, ℕ, ◌+◌, ◌<◌, ◌≤◌, Bool, true, false, zero, suc, eqb-true, get_or, List, [], ◌∷◌}
+use Rattle.std.proofs.Common.{◌++◌, map, length, Option, Some, None, refl, sym, ap, ◌∙◌, subst, ⊎_elim, arith}
 use Rattle.std.proofs.lemmas.List.{append-nil, map-append, length-map, length-append, length-set, length-replicate}
 use Rattle.std.proofs.lemmas.List.Sums.{fold-append}
 use Rattle.std.proofs.lemmas.Grind.{flat_map-append}
@@ -27,7 +28,8 @@ use Rattle.mm_model.specs.Phase.{is_freed, unless_freed}
 use Rattle.mm_model.specs.Effect.{Effect, with_some, put_effect}
 use Rattle.mm_model.specs.Refusing.{refusal, word_at, no_cell, means_nothing, has_no_slot, refuses_in_slot}
 use Rattle.mm_model.specs.Step.{IsCarriedOut, IsStepUnless, IsStep}
-use Rattle.mm_model.specs.Turns.{Turn, Born, births_if, births_of, births_in, write_in, write_of, word_after, last_written, was_refused, is_refusal, reply_in}
+use Rattle.mm_model.specs.Turns.{Turn, Born, births_if, births_of, births_in, write_in, write_of, word_after}
+use Rattle.mm_model.specs.Turns.{last_written, was_refused, is_refusal, reply_in}
 use Rattle.mm_model.proofs.Lists.Replaced.{map-set}
 use Rattle.mm_model.proofs.Lists.Truth.{together, no_other}
 use Rattle.mm_model.proofs.Good.Allowed.{all_allowed, found_some, word_at-value}
@@ -91,7 +93,8 @@ outlines =
     }
 
 -- a release changes neither this nor the words in slots
-module _ {P : Type 0} (view : Object → P) (gone : (object : Object) → view (record object { gone = true }) ≡ view object)
+module _ {P : Type 0} (view : Object → P)
+    (gone : (object : Object) → view (record object { gone = true }) ≡ view object)
     (alone : (object : Object) (partner : Option ℕ) → view (record object { partner = partner }) ≡ view object) where
   stable_view : IsStable view
   stable_view a bases object = split (is_freed bases object)
@@ -151,9 +154,11 @@ module _ {P : Type 0} (view : Object → P) (as_born : Born → P) (views : View
 abbrev pub AreAsBorn : List Turn → State → Type 0
 AreAsBorn turns a = map outline a.objects ≡ map outline_of (births_in turns)
 
-pub births_in-more : (turns : List Turn) (turn : Turn) → births_in (turns ++ turn ∷ []) ≡ births_in turns ++ births_of turn
+pub births_in-more : (turns : List Turn) (turn : Turn)
+    → births_in (turns ++ turn ∷ []) ≡ births_in turns ++ births_of turn
 births_in-more turns turn =
-    flat_map-append births_of turns (turn ∷ []) ∙ ap (λ (born : List Born). births_in turns ++ born) (append-nil (births_of turn))
+    flat_map-append births_of turns (turn ∷ [])
+    ∙ ap (λ (born : List Born). births_in turns ++ born) (append-nil (births_of turn))
 
 pub outlines-step : (a : State) (command : Command) (group : List Line) (b : State) → IsStep a command group b
     → SeesBorn outline outline_of a (births_of (turn_of a command group b)) b
@@ -186,7 +191,8 @@ last_written-more turns turn birth s =
     fold-append (λ word turn. word_after birth s word (write_of turn)) 0 turns (turn ∷ [])
 
 -- where a turn writes nothing
-module _ (turns : List Turn) (a : State) (command : Command) (group : List Line) (b : State) (known : AreWritten turns a)
+module _ (turns : List Turn) (a : State) (command : Command) (group : List Line) (b : State)
+    (known : AreWritten turns a)
     (none : write_of (turn_of a command group b) ≡ None) where
   turn : Turn
   turn = turn_of a command group b
@@ -332,7 +338,8 @@ module _ (turns : List Turn) (a : State) (i s j : ℕ) (group : List Line) (b : 
       ∙ store_reply-kept a (slot_kind put.object s) put.value.word in
       ap (λ c. if c then None else write_in a (commands.Put i s j)) kept
       ∙ ap (option_map (λ birth. record { object = birth; slot = s; word = word_at a j })) put.means
-      ∙ ap (λ (word : ℕ). Some (record { object = put.birth; slot = s; word = word })) (word_at-value a j put.value put.cell)
+      ∙ ap (λ (word : ℕ). Some (record { object = put.birth; slot = s; word = word }))
+      (word_at-value a j put.value put.cell)
 
   written : (k t : ℕ) → last_written (turns ++ this ∷ []) k t
       ≡ (if put.birth == k && s == t then put.value.word else last_written turns k t)
@@ -362,7 +369,8 @@ module _ (turns : List Turn) (a : State) (i s j : ℕ) (group : List Line) (b : 
           → word ≡ (if put.birth == k && s == t then put.value.word else last_written turns k t)
       by_place k t word e true here =
           let parts = and_parts (put.birth == k) (s == t) here in
-          let own : word_in (with_word rows (slot_words put.object) put.birth s put.value.word rows_is) put.birth s ≡ Some word =
+          let own : word_in (with_word rows (slot_words put.object) put.birth s put.value.word rows_is) put.birth s ≡
+          Some word =
           subst
           (λ n. word_in (with_word rows (slot_words put.object) put.birth s put.value.word rows_is) n s ≡ Some word)
           (sym (eqb-true put.birth k parts.0))

@@ -64,7 +64,8 @@ module _ (a : State) (i weak target : ℕ) (group : List Line) (b : State) (good
   based-look t there =
       look-replied ∙ ap (λ (r : Reply). Some r) (look-lives a weak target made.object good made lives t there).0
 
-pub weak-step : (settings : Settings) (turns : List Turn) (a : State) (command : Command) (group : List Line) (b : State)
+pub weak-step : (settings : Settings) (turns : List Turn) (a : State) (command : Command) (group : List Line)
+    (b : State)
     → Knows settings turns a → IsStep a command group b → FollowsTargets turns (turn_of a command group b)
 weak-step settings turns a command group b known step weak born is kind =
     let target = known.targets weak born is kind in
@@ -82,7 +83,8 @@ is_look (commands.Look i) = true
 is_look command = false
 
 -- any other command than `look` tells nothing of a weak reference, whatever it writes
-pub weak-idle : (settings : Settings) (turns : List Turn) (a : State) (command : Command) (group : List Line) (b : State)
+pub weak-idle : (settings : Settings) (turns : List Turn) (a : State) (command : Command) (group : List Line)
+    (b : State)
     → Knows settings turns a → is_look command ≡ false → FollowsTargets turns (turn_of a command group b)
 weak-idle settings turns a command group b known idle weak born is kind =
     let target = known.targets weak born is kind in

@@ -1,5 +1,6 @@
 -- A command that can answer `nothing` can't be refused as `nothing`, so commands and bytes determine the lines.
-use Rattle.std.proofs.Common.{◌≡◌, ℕ, ◌+◌, Bool, true, false, not, ◌&&◌, List, [], ◌∷◌, ◌++◌, Option, Some, None, refl, sym, ap, ◌∙◌, subst, ◌⊎◌, ⊎_elim, inl, inr, length}
+use Rattle.std.proofs.Common.{◌≡◌, ℕ, ◌+◌, Bool, true, false, not, ◌&&◌, List, [], ◌∷◌, ◌++◌, Option, Some, None, refl}
+use Rattle.std.proofs.Common.{sym, ap, ◌∙◌, subst, ◌⊎◌, ⊎_elim, inl, inr, length}
 use Rattle.std.specs.Prelude.{IfSome, slice_get, nat_le, if◌then◌else◌}
 use Rattle.std.specs.List.{list_all}
 use Rattle.std.specs.Option.{option_map_or}
@@ -19,8 +20,10 @@ use Rattle.mm_model.specs.Words.{slot_kind}
 use Rattle.mm_model.specs.Store.{is_loose}
 use Rattle.mm_model.specs.Meaning.{meant_at, object_meant}
 use Rattle.mm_model.specs.Good.{IsPaired, IsGood}
-use Rattle.mm_model.specs.Effect.{Effect, with_some, pushes, put_effect, look_effect, weak_effect, weak_made, new_effect, area_effect, pushes_object, plain_effect}
-use Rattle.mm_model.specs.Refusing.{tests_of, first_refusal, refusal_row, refusal, no_cell, means_nothing, has_no_slot, is_outside, means_weak, is_stack_full}
+use Rattle.mm_model.specs.Effect.{Effect, with_some, pushes, put_effect, look_effect, weak_effect, weak_made}
+use Rattle.mm_model.specs.Effect.{new_effect, area_effect, pushes_object, plain_effect}
+use Rattle.mm_model.specs.Refusing.{tests_of, first_refusal, refusal_row, refusal, no_cell, means_nothing, has_no_slot}
+use Rattle.mm_model.specs.Refusing.{is_outside, means_weak, is_stack_full}
 use Rattle.mm_model.specs.Step.{MakesWeak, Carries, IsCarriedOut, IsStepUnless, IsStep}
 use Rattle.mm_model.specs.Log.{IsRun}
 use Rattle.mm_model.specs.Turns.{is_group, reply_in}
@@ -91,7 +94,8 @@ refused_quiet =
       stat = λ _. refl;
     }
 
-new-refused : (a : State) (shape : Shape) (found : Option ℕ) → is_refused_nothing (new_effect a shape found).reply ≡ false
+new-refused : (a : State) (shape : Shape) (found : Option ℕ)
+    → is_refused_nothing (new_effect a shape found).reply ≡ false
 new-refused a shape None = refl
 new-refused a shape (Some base) = refl
 
@@ -100,7 +104,8 @@ area-refused : (a : State) (scanned : Bool) (counted cells : ℕ) (found : Optio
 area-refused a scanned counted cells None = refl
 area-refused a scanned counted cells (Some base) = refl
 
-weak-refused : (a : State) (target : ℕ) (found : Option ℕ) → is_refused_nothing (weak_effect a target found).reply ≡ false
+weak-refused : (a : State) (target : ℕ) (found : Option ℕ)
+    → is_refused_nothing (weak_effect a target found).reply ≡ false
 weak-refused a target None = refl
 weak-refused a target (Some base) = split (slice_get a.objects target)
   where
@@ -174,7 +179,8 @@ module _ (a : State) (good : IsGood a) where
   inner-answer i bytes allowed =
       let found = meant i (is_outside a i bytes) (is_stack_full a) refusals.Outside allowed in
       let one = is_meant a good i found.0 found.1 in
-      some-answer (slice_get a.stack i) a (λ v. pushes (record v { word = v.word + bytes }) a) one.1.value one.1.cell refl
+      some-answer (slice_get a.stack i) a (λ v. pushes (record v { word = v.word + bytes }) a) one.1.value one.1.cell
+      refl
 
   get-answer : (i s : ℕ) → refusal a (commands.Get i s) ≡ None
       → is_answer (plain_effect a (commands.Get i s)).reply ≡ false
@@ -227,7 +233,8 @@ module _ (a : State) (good : IsGood a) where
           let there = partner-there a good i m.carries.object m.carries.object_is weak e in
           ap (λ (x : Effect). is_answer x.reply) makes.effect_is ∙ object-answer a weak there.0 there.1
       split None e makes =
-          let own = strong-allowed a i m.carries.target m.carries.object allowed m.carries.target_is m.carries.object_is in
+          let own = strong-allowed a i m.carries.target m.carries.object allowed m.carries.target_is m.carries.object_is
+          in
           let one = keeps-searched a _ _ m.log makes.state makes.found makes.search m.carries.target m.carries.object
           own.is in
           ap (λ (x : Effect). is_answer x.reply) makes.effect_is ∙ by_place makes.state makes.found one.after one.is

@@ -1,5 +1,6 @@
 -- The phases of a step are those of its turn: what each of them frees, and that nothing else is freed.
-use Rattle.std.proofs.Common.{◌≡◌, ℕ, Bool, true, false, not, ◌&&◌, List, [], ◌∷◌, ◌++◌, map, Option, Some, None, refl, sym, ap, ◌∙◌, subst, append_assoc, ◌⊎◌, ⊎_elim, inl, inr, zero, suc, arith}
+use Rattle.std.proofs.Common.{◌≡◌, ℕ, Bool, true, false, not, ◌&&◌, List, [], ◌∷◌, ◌++◌, map, Option, Some, None, refl}
+use Rattle.std.proofs.Common.{sym, ap, ◌∙◌, subst, append_assoc, ◌⊎◌, ⊎_elim, inl, inr, zero, suc, arith}
 use Rattle.std.proofs.lemmas.List.{append-nil}
 use Rattle.std.proofs.lemmas.Grind.{flat_map-append}
 use Rattle.std.proofs.lemmas.Bool.Decides.{nat_tests}
@@ -25,14 +26,17 @@ use Rattle.mm_model.specs.Course.{IsGone}
 use Rattle.mm_model.specs.Reapable.{IsReapable}
 use Rattle.mm_model.specs.Reached.{IsUnreached}
 use Rattle.mm_model.specs.Marking.{IsFreedAtFinish, part_done}
-use Rattle.mm_model.specs.Phase.{AreBasesOf, lists, is_freed, unless_freed, after_release, phase_lines, reaped, collected}
+use Rattle.mm_model.specs.Phase.{AreBasesOf, lists, is_freed, unless_freed, after_release, phase_lines, reaped}
+use Rattle.mm_model.specs.Phase.{collected}
 use Rattle.mm_model.specs.Search.{Searches, At_once, After_reap, After_collection}
 use Rattle.mm_model.specs.Scan.{AreScanned}
 use Rattle.mm_model.specs.Effect.{Effect, new_effect, weak_effect, area_effect, plain_effect}
 use Rattle.mm_model.specs.Refusing.{refusal}
-use Rattle.mm_model.specs.Step.{Makes, MakesWeak, Carries, is_full, Ends, Refused_as_full, Below_threshold, At_threshold, IsStepUnless, IsStep}
+use Rattle.mm_model.specs.Step.{Makes, MakesWeak, Carries, is_full, Ends, Refused_as_full, Below_threshold}
+use Rattle.mm_model.specs.Step.{At_threshold, IsStepUnless, IsStep}
 use Rattle.mm_model.specs.After.{freed_bases, phases_in, Row, row_after}
-use Rattle.mm_model.specs.Turns.{Born, Way, Reaping, Collecting, Finishing, PhaseOf, first_of, collection_unless, reap_unless, search_phases, weak_phases, row_phases, end_phases, phases_unless, Frees}
+use Rattle.mm_model.specs.Turns.{Born, Way, Reaping, Collecting, Finishing, PhaseOf, first_of, collection_unless}
+use Rattle.mm_model.specs.Turns.{reap_unless, search_phases, weak_phases, row_phases, end_phases, phases_unless, Frees}
 use Rattle.mm_model.specs.Faithful.{IsFreedIn}
 use Rattle.mm_model.proofs.Good.Allowed.{first_refusal-None}
 use Rattle.mm_model.proofs.Good.Living.{each_append}
@@ -318,7 +322,8 @@ module _ (a : State) (log tail : List Line) (effect : Effect) (good : IsGood a) 
       (right-weak a a i m.target m.object (strong-allowed a i m.target m.object allowed m.target_is m.object_is).is
       m.object.partner log tail effect good m.makes)
   right-carried (commands.Root counted cells) allowed m =
-      right-makes a a Areas (area_bytes cells) (λ b found. area_effect b true counted cells found) log tail effect good m
+      right-makes a a Areas (area_bytes cells) (λ b found. area_effect b true counted cells found) log tail effect good
+      m
       (gone-back m.state _ _
       (bears-area is_gone never_gone gone_views a m.state (commands.Root counted cells) true counted cells m.found
       (λ _. refl)))
@@ -337,7 +342,8 @@ module _ (a : State) (log tail : List Line) (effect : Effect) (good : IsGood a) 
       record {
         each = tt;
         told = freed_bases-scanned a m.0.births log effect.state m.0.scanned;
-        gone = λ birth h. inl (gone-same a effect.state (scanned-objects a m.0.births log effect.state m.0.scanned) birth h);
+        gone = λ birth h. inl
+            (gone-same a effect.state (scanned-objects a m.0.births log effect.state m.0.scanned) birth h);
       }
     where
       freed_bases-scanned : (a : State) (births : List ℕ) (log : List Line) (b : State) → AreScanned a births log b
@@ -374,7 +380,8 @@ module _ (start : State) (effect : Effect) (b : State) (good : IsGood effect.sta
       → AreRight start a (end_phases (row_as effect (phases_in (log ++ tail)))) log b
   right-ended log tail (Refused_as_full is log_is b_is) =
       right-same start a [] _ [] log a b (right-none start a a (λ birth h. h))
-      (ap (λ (full : Bool). phases_at full (nat_le a.threshold (zero_count a)) (phases_in (log ++ tail))) is) log_is b_is
+      (ap (λ (full : Bool). phases_at full (nat_le a.threshold (zero_count a)) (phases_in (log ++ tail))) is) log_is
+      b_is
   right-ended log tail (Below_threshold is below log_is b_is) =
       let short : nat_le a.threshold (zero_count a) ≡ false = grind (arith, nat_tests) in
       right-same start a [] _ [] log a b (right-none start a a (λ birth h. h))
@@ -426,7 +433,8 @@ right-step a command group b good step = split (refusal a command) refl step
       where
         phases_are : (tail : List Line) → group ≡ m.log ++ tail_of m
             → row_phases a command (phases_in group) ++ end_phases (row_after a command group)
-            ≡ row_phases a command (phases_in (m.log ++ tail_of m)) ++ end_phases (row_as m.effect (phases_in (tail_of m)))
+            ≡ row_phases a command (phases_in (m.log ++ tail_of m)) ++ end_phases
+            (row_as m.effect (phases_in (tail_of m)))
         phases_are tail grouped =
             ap (λ group. row_phases a command (phases_in group) ++ end_phases (row_after a command group)) grouped
             ∙ ap

@@ -1,5 +1,6 @@
 -- A step keeps what is promised of references: it acts on the object for which a reference was made, as it was born.
-use Rattle.std.proofs.Common.{◌≡◌, ℕ, ◌+◌, ◌<◌, ◌≤◌, Bool, true, false, not, List, [], ◌∷◌, map, length, Option, Some, None, refl, sym, ap, ◌∙◌, subst, ⊎_elim, get_or, arith}
+use Rattle.std.proofs.Common.{◌≡◌, ℕ, ◌+◌, ◌<◌, ◌≤◌, Bool, true, false, not, List, [], ◌∷◌, map, length, Option, Some}
+use Rattle.std.proofs.Common.{None, refl, sym, ap, ◌∙◌, subst, ⊎_elim, get_or, arith}
 use Rattle.std.proofs.lemmas.Bool.Decides.{nat_tests}
 use Rattle.std.proofs.lemmas.Option.{slice_get-map, slice_get_cases}
 use Rattle.std.specs.Prelude.{IfSome, is_some, slice_get, nat_le, nat_lt, ◌||◌, if◌then◌else◌}
@@ -21,11 +22,14 @@ use Rattle.mm_model.specs.Words.{slot_kind_at, slot_kind, falls}
 use Rattle.mm_model.specs.Meaning.{resolved, meant, meant_at, object_meant}
 use Rattle.mm_model.specs.Store.{refuses_word, store_reply}
 use Rattle.mm_model.specs.Good.{IsPaired, IsGood}
-use Rattle.mm_model.specs.Effect.{Effect, with_some, map_reply, pushes, put_effect, weak_effect, weak_made, pushes_object, plain_effect}
-use Rattle.mm_model.specs.Refusing.{first_refusal, refusal, no_cell, means_nothing, means_weak, is_outside, has_no_slot, refuses_in_slot, is_stack_full, word_at}
+use Rattle.mm_model.specs.Effect.{Effect, with_some, map_reply, pushes, put_effect, weak_effect, weak_made}
+use Rattle.mm_model.specs.Effect.{pushes_object, plain_effect}
+use Rattle.mm_model.specs.Refusing.{first_refusal, refusal, no_cell, means_nothing, means_weak, is_outside, has_no_slot}
+use Rattle.mm_model.specs.Refusing.{refuses_in_slot, is_stack_full, word_at}
 use Rattle.mm_model.specs.Step.{MakesWeak, Carries, IsStepUnless, IsStep}
 use Rattle.mm_model.specs.Turns.{Turn, Born, born_at, births_if, births_of, births_in, made_for, last_written, reply_in}
-use Rattle.mm_model.specs.Faithful.{unless_full, inner_answer, get_answer, map_answer, born_slot_kind, put_answer, HoldsReference, HasWeak, ActsOnOrigin, ReadsThroughReferences}
+use Rattle.mm_model.specs.Faithful.{unless_full, inner_answer, get_answer, map_answer, born_slot_kind, put_answer}
+use Rattle.mm_model.specs.Faithful.{HoldsReference, HasWeak, ActsOnOrigin, ReadsThroughReferences}
 use Rattle.mm_model.proofs.Good.Allowed.{word_at-value}
 use Rattle.mm_model.proofs.Good.Living.{each_get, each_append}
 use Rattle.mm_laws.specs.WeakReferences.{IsTarget, Partner, Freed, IsMadeFor}
@@ -290,7 +294,8 @@ module _ (settings : Settings) (turns : List Turn) (a : State) (known : Knows se
       ∙ slice_get-map outline a.objects k
       ∙ ap (option_map outline) is)
     where
-      split : (found : Option Born) → slice_get (births_in turns) k ≡ found → option_map outline_of found ≡ Some (outline x)
+      split : (found : Option Born) → slice_get (births_in turns) k ≡ found
+          → option_map outline_of found ≡ Some (outline x)
           → (old : Born) × (slice_get (births_in turns) k ≡ Some old) × (outline_of old ≡ outline x)
       split None e f = cc
       split (Some old) e f = (old, e, let same : outline_of old ≡ outline x = cc in same)
@@ -366,77 +371,80 @@ module _ (settings : Settings) (turns : List Turn) (a : State) (known : Knows se
                 h.lives.at,
               )
 
-  module _ (group : List Line) (b : State) (step : IsStep a (commands.Weak i) group b) (fits : is_stack_full a ≡ false) where
-    weak_allowed : is_weak object.kind ≡ false → refusal a (commands.Weak i) ≡ None
-    weak_allowed strong =
-        let own : means_weak a i ≡ false =
-        ap (λ o. option_map_or (λ (x : Object). is_weak x.kind) o false) meant_object ∙ strong in
-        λ t. first_refusal ((there t, refusals.NoCell) ∷ (something t, refusals.Nothing) ∷ (own t, refusals.NoWeak)
-        ∷ (fits t, refusals.StackFull) ∷ [])
+  module _ (group : List Line) (b : State) (step : IsStep a (commands.Weak i) group b) (fits : is_stack_full a ≡ false)
+    where
+      weak_allowed : is_weak object.kind ≡ false → refusal a (commands.Weak i) ≡ None
+      weak_allowed strong =
+          let own : means_weak a i ≡ false =
+          ap (λ o. option_map_or (λ (x : Object). is_weak x.kind) o false) meant_object ∙ strong in
+          λ t. first_refusal ((there t, refusals.NoCell) ∷ (something t, refusals.Nothing) ∷ (own t, refusals.NoWeak)
+          ∷ (fits t, refusals.StackFull) ∷ [])
 
-    kept-replied : (base : ℕ) → HasWeak turns a birth base → reply_in group ≡ Some (replies.Word base)
-    kept-replied base h =
-        let found = partner-made_for base h in
-        let m = subst (λ r. IsStepUnless r a (commands.Weak i) group b) (weak_allowed found.2) step in
-        let object_is = m.carries.object_is in
-        let meant_is = meant_object in
-        let same : m.carries.object ≡ object = cc in
-        let partner : m.carries.object.partner ≡ Some found.0 =
-        ap (λ (o : Object). o.partner) same ∙ found.1 in
-        let kept = subst (λ p. MakesWeak a m.carries.target p m.log m.effect) partner m.carries.makes in
-        reply-carried a (commands.Weak i) group b m
-        ∙ ap (λ (e : Effect). Some e.reply) kept.effect_is
-        ∙ ap (λ o. Some (with_some o a (λ (x : Object). pushes (reference x.base found.0) a)).reply) found.4
-        ∙ ap (λ (n : ℕ). Some (replies.Word n)) found.5
+      kept-replied : (base : ℕ) → HasWeak turns a birth base → reply_in group ≡ Some (replies.Word base)
+      kept-replied base h =
+          let found = partner-made_for base h in
+          let m = subst (λ r. IsStepUnless r a (commands.Weak i) group b) (weak_allowed found.2) step in
+          let object_is = m.carries.object_is in
+          let meant_is = meant_object in
+          let same : m.carries.object ≡ object = cc in
+          let partner : m.carries.object.partner ≡ Some found.0 =
+          ap (λ (o : Object). o.partner) same ∙ found.1 in
+          let kept = subst (λ p. MakesWeak a m.carries.target p m.log m.effect) partner m.carries.makes in
+          reply-carried a (commands.Weak i) group b m
+          ∙ ap (λ (e : Effect). Some e.reply) kept.effect_is
+          ∙ ap (λ o. Some (with_some o a (λ (x : Object). pushes (reference x.base found.0) a)).reply) found.4
+          ∙ ap (λ (n : ℕ). Some (replies.Word n)) found.5
 
-    replied-kept : (base : ℕ) → reply_in group ≡ Some (replies.Word base) → HasWeak turns a birth base
-    replied-kept base e = split (refusal a (commands.Weak i)) refl step
-      where
-        by_partner : (partner : Option ℕ) → object.partner ≡ partner → is_weak object.kind ≡ false → (target : ℕ)
-            → (log : List Line) (effect : Effect) → MakesWeak a target partner log effect
-            → effect.reply ≡ replies.Word base → HasWeak turns a birth base
-        by_partner (Some weak) is strong target log effect m replied =
-            let pair = subst (λ p. IfSome p (IsPaired a birth object)) is (known.good.paired birth object referred.1) in
-            let first : (pushes_object a weak).reply ≡ replies.Word base =
-            ap (λ (x : Effect). x.reply) (sym m.effect_is) ∙ replied in
-            let told : replies.Word pair.partner.base ≡ replies.Word base =
-            sym (ap (λ o. (with_some o a (λ (x : Object). pushes (reference x.base weak) a)).reply) pair.lives.is) ∙ first in
-            record {
-              weak = weak;
-              made = made_for-partner weak is strong;
-              lives = record {
-                object = pair.partner;
-                lives = pair.lives;
-                at = let same : pair.partner.base ≡ base = cc in same;
-              };
-            }
-        by_partner None is strong target log effect m replied =
-            absurd (no_word m.found (ap (λ (x : Effect). x.reply) (sym m.effect_is) ∙ replied))
-          where
-            by_target : (place : ℕ) (found : Option Object)
-                → (with_some found m.state
-                (λ x. record { state = weak_made m.state target x place; reply = replies.New place })).reply
-                ≡ replies.Word base → ⊥
-            by_target place None q = cc
-            by_target place (Some x) q = cc
+      replied-kept : (base : ℕ) → reply_in group ≡ Some (replies.Word base) → HasWeak turns a birth base
+      replied-kept base e = split (refusal a (commands.Weak i)) refl step
+        where
+          by_partner : (partner : Option ℕ) → object.partner ≡ partner → is_weak object.kind ≡ false → (target : ℕ)
+              → (log : List Line) (effect : Effect) → MakesWeak a target partner log effect
+              → effect.reply ≡ replies.Word base → HasWeak turns a birth base
+          by_partner (Some weak) is strong target log effect m replied =
+              let pair = subst (λ p. IfSome p (IsPaired a birth object)) is (known.good.paired birth object referred.1) in
+              let first : (pushes_object a weak).reply ≡ replies.Word base =
+              ap (λ (x : Effect). x.reply) (sym m.effect_is) ∙ replied in
+              let told : replies.Word pair.partner.base ≡ replies.Word base =
+              sym (ap (λ o. (with_some o a (λ (x : Object). pushes (reference x.base weak) a)).reply) pair.lives.is)
+              ∙ first in
+              record {
+                weak = weak;
+                made = made_for-partner weak is strong;
+                lives = record {
+                  object = pair.partner;
+                  lives = pair.lives;
+                  at = let same : pair.partner.base ≡ base = cc in same;
+                };
+              }
+          by_partner None is strong target log effect m replied =
+              absurd (no_word m.found (ap (λ (x : Effect). x.reply) (sym m.effect_is) ∙ replied))
+            where
+              by_target : (place : ℕ) (found : Option Object)
+                  → (with_some found m.state
+                  (λ x. record { state = weak_made m.state target x place; reply = replies.New place })).reply
+                  ≡ replies.Word base → ⊥
+              by_target place None q = cc
+              by_target place (Some x) q = cc
 
-            no_word : (found : Option ℕ) → (weak_effect m.state target found).reply ≡ replies.Word base → ⊥
-            no_word None q = cc
-            no_word (Some place) q = by_target place (slice_get m.state.objects target) q
+              no_word : (found : Option ℕ) → (weak_effect m.state target found).reply ≡ replies.Word base → ⊥
+              no_word None q = cc
+              no_word (Some place) q = by_target place (slice_get m.state.objects target) q
 
-        split : (because : Option Refusal) → refusal a (commands.Weak i) ≡ because
-            → IsStepUnless because a (commands.Weak i) group b → HasWeak turns a birth base
-        split (Some because) r m = let refused = sym (ap reply_in m.group_is) ∙ e in cc
-        split None r m =
-            let object_is = m.carries.object_is in
-            let meant_is = meant_object in
-            let same : m.carries.object ≡ object = cc in
-            let strong = strong-allowed a i m.carries.target m.carries.object r m.carries.target_is m.carries.object_is in
-            let first = sym (reply-carried a (commands.Weak i) group b m) ∙ e in
-            let replied : m.effect.reply ≡ replies.Word base = cc in
-            by_partner m.carries.object.partner (ap (λ (o : Object). o.partner) (sym same))
-            (ap (λ (o : Object). is_weak o.kind) (sym same) ∙ strong.strong) m.carries.target m.log m.effect
-            m.carries.makes replied
+          split : (because : Option Refusal) → refusal a (commands.Weak i) ≡ because
+              → IsStepUnless because a (commands.Weak i) group b → HasWeak turns a birth base
+          split (Some because) r m = let refused = sym (ap reply_in m.group_is) ∙ e in cc
+          split None r m =
+              let object_is = m.carries.object_is in
+              let meant_is = meant_object in
+              let same : m.carries.object ≡ object = cc in
+              let strong = strong-allowed a i m.carries.target m.carries.object r m.carries.target_is m.carries.object_is
+              in
+              let first = sym (reply-carried a (commands.Weak i) group b m) ∙ e in
+              let replied : m.effect.reply ≡ replies.Word base = cc in
+              by_partner m.carries.object.partner (ap (λ (o : Object). o.partner) (sym same))
+              (ap (λ (o : Object). is_weak o.kind) (sym same) ∙ strong.strong) m.carries.target m.log m.effect
+              m.carries.makes replied
 
   -- all of it
   acts_on_origin : (command : Command) (group : List Line) (b : State) → IsStep a command group b

@@ -1,5 +1,6 @@
 -- What turns tell of weak references, of cycles, and so of the state that they lead to.
-use Rattle.std.proofs.Common.{◌≡◌, ℕ, ◌≤◌, Bool, true, false, List, [], ◌∷◌, ◌++◌, length, Option, Some, None, refl, sym, ap, ◌∙◌, subst, ◌⊎◌, ⊎_elim, inl, inr, append_assoc}
+use Rattle.std.proofs.Common.{◌≡◌, ℕ, ◌≤◌, Bool, true, false, List, [], ◌∷◌, ◌++◌, length, Option, Some, None, refl}
+use Rattle.std.proofs.Common.{sym, ap, ◌∙◌, subst, ◌⊎◌, ⊎_elim, inl, inr, append_assoc}
 use Rattle.std.proofs.lemmas.List.{append-nil, length-map}
 use Rattle.std.proofs.lemmas.List.Sums.{fold-append}
 use Rattle.std.specs.Prelude.{is_some, slice_get, ◌||◌, if◌then◌else◌}
@@ -22,7 +23,8 @@ use Rattle.mm_model.specs.Effect.{Effect}
 use Rattle.mm_model.specs.Course.{IsCourse, latest}
 use Rattle.mm_model.specs.Refusing.{refusal, is_bad_shape}
 use Rattle.mm_model.specs.Step.{IsCarriedOut, IsStepUnless, IsStep}
-use Rattle.mm_model.specs.Turns.{Turn, Born, born_at, births_if, births_in, reply_in, was_refused, is_refusal, CycleStates, is_begin, begins, and_then, cycle_after, latest_cycle, AreSteps}
+use Rattle.mm_model.specs.Turns.{Turn, Born, born_at, births_if, births_in, reply_in, was_refused, is_refusal}
+use Rattle.mm_model.specs.Turns.{CycleStates, is_begin, begins, and_then, cycle_after, latest_cycle, AreSteps}
 use Rattle.mm_model.proofs.Good.Allowed.{first_refusal-None}
 use Rattle.mm_model.proofs.Good.Starting.{empty_is_good}
 use Rattle.mm_model.proofs.Good.Steps.{shape_allowed, step_is_good}
@@ -32,7 +34,8 @@ use Rattle.mm_laws.specs.WeakReferences.{IsMadeFor}
 use Rattle.mm_laws.proofs.Keeping.FollowingSteps.{made_for-step}
 use Rattle.mm_laws.proofs.Targets.WeakReferences.{made_for-weak}
 use Rattle.mm_laws.proofs.Turning.Cycles.{follows-step, refused-runs}
-use Rattle.mm_laws.proofs.Turning.Knowing.{turn_of, AreAsBorn, AreWritten, outline, outline_of, births_in-more, as_born-step, written-step}
+use Rattle.mm_laws.proofs.Turning.Knowing.{turn_of, AreAsBorn, AreWritten, outline, outline_of, births_in-more}
+use Rattle.mm_laws.proofs.Turning.Knowing.{as_born-step, written-step}
 use Rattle.mm_laws.proofs.Turning.Replies.{reply-carried}
 
 -- What a birth adds to those before: at the next birth number, an object of `new` or a weak reference of `weak`.
@@ -120,7 +123,8 @@ module _ (a : State) (command : Command) (group : List Line) (b : State) (born :
           strong_shape : (shape : Shape) → is_bad_shape shape ≡ false → is_weak shape.kind ≡ false
           strong_shape shape e = last_false _ (is_weak shape.kind) e
 
-      by_weak : (i : ℕ) × (command ≡ commands.Weak i) × (born.target ≡ meant_at a i) → HasTarget b (length a.objects) born
+      by_weak : (i : ℕ) × (command ≡ commands.Weak i) × (born.target ≡ meant_at a i)
+          → HasTarget b (length a.objects) born
       by_weak (i, is, target_is) =
           weak_made (subst (λ c. IsCarriedOut a c group b) is carried-newborn.1)
           (subst (λ c. IsStep a c group b) is step)

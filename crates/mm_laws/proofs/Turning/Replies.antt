@@ -1,5 +1,6 @@
 -- A group has one reply, in its last line, and the reply is that of the step.
-use Rattle.std.proofs.Common.{◌≡◌, ℕ, Bool, true, List, [], ◌∷◌, ◌++◌, Option, Some, None, refl, sym, ap, ◌∙◌, subst, append_assoc}
+use Rattle.std.proofs.Common.{◌≡◌, ℕ, Bool, true, List, [], ◌∷◌, ◌++◌, Option, Some, None, refl, sym, ap, ◌∙◌, subst}
+use Rattle.std.proofs.Common.{append_assoc}
 use Rattle.mm_model.specs.declared.command.Command.{Command}
 use Rattle.mm_model.specs.declared.command.Command.TheVariants as commands
 use Rattle.mm_model.specs.declared.refusal.Refusal.{Refusal}
@@ -15,7 +16,8 @@ use Rattle.mm_model.specs.Search.{Searches, At_once, After_reap, After_collectio
 use Rattle.mm_model.specs.Scan.{AreScanned}
 use Rattle.mm_model.specs.Effect.{Effect}
 use Rattle.mm_model.specs.Refusing.{refusal}
-use Rattle.mm_model.specs.Step.{MakesWeak, Carries, Ends, Refused_as_full, Below_threshold, At_threshold, IsCarriedOut, IsStepUnless, IsStep}
+use Rattle.mm_model.specs.Step.{MakesWeak, Carries, Ends, Refused_as_full, Below_threshold, At_threshold, IsCarriedOut}
+use Rattle.mm_model.specs.Step.{IsStepUnless, IsStep}
 use Rattle.mm_model.specs.Turns.{is_group, reply_in}
 use Rattle.mm_model.proofs.Steps.Groups.{over-phase}
 
@@ -49,7 +51,8 @@ quiet-scanned a (birth ∷ births) log b scanned =
 
 quiet-searched : (a : State) (family : Family) (bytes : ℕ) (log : List Line) (b : State) (found : Option ℕ)
     → Searches a family bytes log b found → IsQuiet log
-quiet-searched a family bytes log b found (At_once base here log_is b_is found_is) = subst IsQuiet (sym log_is) quiet-none
+quiet-searched a family bytes log b found (At_once base here log_is b_is found_is) = subst IsQuiet (sym log_is)
+    quiet-none
 quiet-searched a family bytes log b found (After_reap base dead none are here log_is b_is found_is) =
     subst IsQuiet (sym log_is) (quiet-phase Reap a dead)
 quiet-searched a family bytes log b found (After_collection dead lost none are still gone log_is b_is found_is) =
@@ -89,7 +92,8 @@ quiet-carried a commands.Stat log effect m = subst IsQuiet (sym m.no_lines) quie
 quiet-ended : (a : State) (full : Bool) (log : List Line) (b : State) → Ends a full log b → IsQuiet log
 quiet-ended a full log b (Refused_as_full is none same) = subst IsQuiet (sym none) quiet-none
 quiet-ended a full log b (Below_threshold is below none same) = subst IsQuiet (sym none) quiet-none
-quiet-ended a full log b (At_threshold is above reaps) = subst IsQuiet (sym reaps.log_is) (quiet-phase Reap a reaps.dead)
+quiet-ended a full log b (At_threshold is above reaps) = subst IsQuiet (sym reaps.log_is)
+    (quiet-phase Reap a reaps.dead)
 
 module _ (a : State) (command : Command) (group : List Line) (b : State) (m : IsCarriedOut a command group b) where
   quiet : IsQuiet (m.log ++ m.end_log)

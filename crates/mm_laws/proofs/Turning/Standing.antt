@@ -1,5 +1,6 @@
 -- A step keeps what is promised of places: blocks lie apart, and new ones where the log says.
-use Rattle.std.proofs.Common.{◌≡◌, ℕ, ◌<◌, Bool, true, false, cond, zero, suc, eq-eqb, eqb-true, List, [], ◌∷◌, ◌++◌, map, length, Option, Some, None, refl, sym, ap, ◌∙◌, subst, ◌⊎◌, ⊎_elim, inl, inr, arith}
+use Rattle.std.proofs.Common.{◌≡◌, ℕ, ◌<◌, Bool, true, false, cond, zero, suc, eq-eqb, eqb-true, List, [], ◌∷◌, ◌++◌}
+use Rattle.std.proofs.Common.{map, length, Option, Some, None, refl, sym, ap, ◌∙◌, subst, ◌⊎◌, ⊎_elim, inl, inr, arith}
 use Rattle.std.proofs.lemmas.List.{length-map}
 use Rattle.std.proofs.lemmas.Option.{slice_get-map}
 use Rattle.std.specs.Prelude.{slice_get, nat_lt, ◌==◌}
@@ -22,9 +23,11 @@ use Rattle.mm_model.specs.Meaning.{meant_at}
 use Rattle.mm_model.specs.Areas.{free_number, new_area, area_inserted}
 use Rattle.mm_model.specs.Phase.{IsAscending}
 use Rattle.mm_model.specs.Good.{IsGood, IsPlaced}
-use Rattle.mm_model.specs.Effect.{Effect, with_some, new_effect, weak_effect, area_effect, plain_effect, weak_made, weak_shape}
+use Rattle.mm_model.specs.Effect.{Effect, with_some, new_effect, weak_effect, area_effect, plain_effect, weak_made}
+use Rattle.mm_model.specs.Effect.{weak_shape}
 use Rattle.mm_model.specs.Refusing.{refusal}
-use Rattle.mm_model.specs.Step.{MakesWeak, Ends, Refused_as_full, Below_threshold, At_threshold, IsCarriedOut, IsStepUnless, IsStep}
+use Rattle.mm_model.specs.Step.{MakesWeak, Ends, Refused_as_full, Below_threshold, At_threshold, IsCarriedOut}
+use Rattle.mm_model.specs.Step.{IsStepUnless, IsStep}
 use Rattle.mm_model.specs.Turns.{Turn, Born, births_if, births_of, reply_in}
 use Rattle.mm_model.specs.Faithful.{HasArea, IsThere, KeepsApart}
 use Rattle.mm_model.proofs.Good.Living.{each_get}
@@ -145,7 +148,8 @@ module _ (a : State) (command : Command) (group : List Line) (b : State) (good :
   there-born base born reply births at top =
       let lives = lives-reference b 0 (length a.objects) (reference base (length a.objects)) good top refl in
       let seen : map outline b.objects ≡ map outline a.objects ++ outline_of born ∷ [] =
-      outlines-step a command group b step ∙ ap (λ (bs : List Born). map outline a.objects ++ map outline_of bs) births in
+      outlines-step a command group b step
+      ∙ ap (λ (bs : List Born). map outline a.objects ++ map outline_of bs) births in
       let last : slice_get (map outline b.objects) (length a.objects) ≡ Some (outline_of born) =
       ap (λ xs. slice_get xs (length a.objects)) seen
       ∙ subst
@@ -168,7 +172,8 @@ weak-tells : (a : State) (target : ℕ) (partner : Option ℕ) (log : List Line)
 weak-tells a target (Some weak) log effect m =
     inl (ap (λ (e : Effect). tells_place e.reply) m.effect_is ∙ object-replies tells_place told_quiet a weak)
 weak-tells a target None log effect m =
-    subst (λ (e : Effect). (tells_place e.reply ≡ false) ⊎ ((base : ℕ) × (e.reply ≡ replies.New base))) (sym m.effect_is)
+    subst (λ (e : Effect). (tells_place e.reply ≡ false) ⊎ ((base : ℕ) × (e.reply ≡ replies.New base)))
+    (sym m.effect_is)
     (split m.found)
   where
     split : (found : Option ℕ)
@@ -179,7 +184,8 @@ weak-tells a target None log effect m =
       where
         by_target : (found : Option Object)
             → (tells_place
-            (with_some found m.state (λ x. record { state = weak_made m.state target x base; reply = replies.New base })).reply
+            (with_some found m.state
+            (λ x. record { state = weak_made m.state target x base; reply = replies.New base })).reply
             ≡ false)
             ⊎ ((place : ℕ)
             × ((with_some found m.state
@@ -189,7 +195,8 @@ weak-tells a target None log effect m =
         by_target (Some x) = inr (base, refl)
 
 module _ (a : State) (group : List Line) (b : State) (good : IsGood b) where
-  there-new : (shape : Shape) → IsStep a (commands.New shape) group b → (m : IsCarriedOut a (commands.New shape) group b)
+  there-new : (shape : Shape) → IsStep a (commands.New shape) group b
+      → (m : IsCarriedOut a (commands.New shape) group b)
       → IsThere (turn_of a (commands.New shape) group b) (Some m.effect.reply)
   there-new shape step m = split m.carries.found refl
     where

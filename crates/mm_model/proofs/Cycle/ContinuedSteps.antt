@@ -1,5 +1,6 @@
 -- Each step after which a cycle still runs goes on from the state before it, as marking sees it.
-use Rattle.std.proofs.Common.{◌≡◌, ℕ, Bool, true, false, not, ◌||◌, List, [], ◌∷◌, Option, Some, None, refl, sym, ap, ◌∙◌, subst, ◌⊎◌}
+use Rattle.std.proofs.Common.{◌≡◌, ℕ, Bool, true, false, not, ◌||◌, List, [], ◌∷◌, Option, Some, None, refl, sym, ap}
+use Rattle.std.proofs.Common.{◌∙◌, subst, ◌⊎◌}
 use Rattle.std.specs.Prelude.{IsTrue, is_some, slice_get, slice_index, ◌&&◌, ◌==◌, if◌then◌else◌}
 use Rattle.std.specs.Option.{option_map}
 use Rattle.mm_model.specs.declared.command.Command.{Command}
@@ -22,13 +23,18 @@ use Rattle.mm_model.specs.Place.{Family, Objects, Areas}
 use Rattle.mm_model.specs.Areas.{area_at, with_changed_area}
 use Rattle.mm_model.specs.Phase.{cycle_left, reaped}
 use Rattle.mm_model.specs.Search.{Searches, At_once, After_reap, After_collection}
-use Rattle.mm_model.specs.Store.{is_counted_slot, recounted, with_object, with_slot, with_cell, put_in_slot, put_in_cell}
-use Rattle.mm_model.specs.Effect.{Effect, with_some, made_at, weak_shape, weak_made, new_effect, weak_effect, area_effect, pushes_object, look_effect, plain_effect}
+use Rattle.mm_model.specs.Store.{is_counted_slot, recounted, with_object, with_slot, with_cell, put_in_slot}
+use Rattle.mm_model.specs.Store.{put_in_cell}
+use Rattle.mm_model.specs.Effect.{Effect, with_some, made_at, weak_shape, weak_made, new_effect, weak_effect}
+use Rattle.mm_model.specs.Effect.{area_effect, pushes_object, look_effect, plain_effect}
 use Rattle.mm_model.specs.Refusing.{first_refusal, refusal, is_bad_shape}
-use Rattle.mm_model.specs.Step.{Makes, IsPlain, MakesWeak, Carries, is_full, Ends, Refused_as_full, Below_threshold, At_threshold, IsCarriedOut, IsStepUnless, IsStep}
+use Rattle.mm_model.specs.Step.{Makes, IsPlain, MakesWeak, Carries, is_full, Ends, Refused_as_full, Below_threshold}
+use Rattle.mm_model.specs.Step.{At_threshold, IsCarriedOut, IsStepUnless, IsStep}
 use Rattle.mm_model.specs.Good.{IsShaped, IsGood}
 use Rattle.mm_model.proofs.Good.Births.{made_is_good}
-use Rattle.mm_model.proofs.Cycle.Continuing.{Continues, marked_before, continues-self, Thins, thins-then, continues-then, thins-same, thins-reaped, thins-recounted, thins-weak, good-each_colour, continues-put, continues-born, continues-scanned}
+use Rattle.mm_model.proofs.Cycle.Continuing.{Continues, marked_before, continues-self, Thins, thins-then}
+use Rattle.mm_model.proofs.Cycle.Continuing.{continues-then, thins-same, thins-reaped, thins-recounted, thins-weak}
+use Rattle.mm_model.proofs.Cycle.Continuing.{good-each_colour, continues-put, continues-born, continues-scanned}
 use Rattle.mm_model.proofs.Cycle.Marked.{stack_named}
 use Rattle.mm_model.proofs.Good.Searching.{searched_is_found}
 use Rattle.mm_model.proofs.Good.Shapes.{shaped-newborn, shaped-weak}

@@ -1,5 +1,6 @@
 -- A state that goes on from another, as marking sees it: what marking reaches then it reached before, or it is reached.
-use Rattle.std.proofs.Common.{◌≡◌, ℕ, ◌+◌, ◌≤◌, Bool, true, false, not, ◌||◌, List, [], ◌∷◌, map, length, Option, Some, None, refl, sym, ap, ◌∙◌, subst, ◌⊎◌, ⊎_elim, inl, inr, arith}
+use Rattle.std.proofs.Common.{◌≡◌, ℕ, ◌+◌, ◌≤◌, Bool, true, false, not, ◌||◌, List, [], ◌∷◌, map, length, Option, Some}
+use Rattle.std.proofs.Common.{None, refl, sym, ap, ◌∙◌, subst, ◌⊎◌, ⊎_elim, inl, inr, arith}
 use Rattle.std.proofs.lemmas.List.{length-map, length-set, length_push, get_or_append_left}
 use Rattle.std.proofs.lemmas.Option.{slice_get-map, slice_get_within}
 use Rattle.std.specs.Prelude.{IfSome, slice_get, slice_set, slice_index, ◌&&◌, ◌==◌, if◌then◌else◌}
@@ -15,7 +16,8 @@ use Rattle.mm_model.specs.Words.{SlotKind, slot_kind, root_words, scanned_slots,
 use Rattle.mm_model.specs.Reached.{IsReached}
 use Rattle.mm_model.specs.Count.{made_sticky, with_sticky}
 use Rattle.mm_model.specs.Meaning.{stored}
-use Rattle.mm_model.specs.Marking.{is_white, is_raw, is_passed, colour_in, grayed_cycle, with_grayed, part_done, IsMarked}
+use Rattle.mm_model.specs.Marking.{is_white, is_raw, is_passed, colour_in, grayed_cycle, with_grayed, part_done}
+use Rattle.mm_model.specs.Marking.{IsMarked}
 use Rattle.mm_model.specs.Phase.{is_freed, unless_freed, after_release, cycle_left, released, reaped}
 use Rattle.mm_model.specs.Scan.{AreScanned}
 use Rattle.mm_model.specs.Store.{is_counted_slot, recounted, with_object, with_slot, put_in_slot}

@@ -1,6 +1,8 @@
 -- What marking reaches: as a cycle begins no more than what is reached, at its end all that `finish` spares, and
 -- after a single step in between nothing more, but for what is reached.
-use Rattle.std.proofs.Common.{◌≡◌, ℕ, zero, suc, ◌+◌, Bool, true, false, not, ◌||◌, List, [], ◌∷◌, ◌++◌, replicate, length, take, drop, Option, Some, None, refl, sym, ap, ◌∙◌, ◌⊎◌, ⊎_elim, inl, inr, eqb-true}
+use Rattle.std.proofs.Common.{◌≡◌, ℕ, zero, suc, ◌+◌, Bool, true, false, not, ◌||◌, List, [], ◌∷◌, ◌++◌, replicate}
+use Rattle.std.proofs.Common.{length, take, drop, Option, Some, None, refl, sym, ap, ◌∙◌, ◌⊎◌, ⊎_elim, inl, inr}
+use Rattle.std.proofs.Common.{eqb-true}
 use Rattle.std.proofs.lemmas.Bool.{eq-eqb}
 use Rattle.std.proofs.lemmas.List.{get_or-replicate, length-replicate, get_or-set_other, take-append-drop}
 use Rattle.std.proofs.lemmas.List.Folds.{list_any-append}
@@ -15,7 +17,8 @@ use Rattle.mm_model.specs.Object.{Object}
 use Rattle.mm_model.specs.State.{State, Cycle, Lives, gone_count}
 use Rattle.mm_model.specs.Words.{root_words, scanned_slots, falls, names}
 use Rattle.mm_model.specs.Reached.{IsReached}
-use Rattle.mm_model.specs.Marking.{is_white, colour_of, colour_in, done_of, grayed_cycle, with_grayed, begun, advanced, part_slots, part_done, MayScan, IsKeptAtFinish, IsFreedAtFinish, IsMarked}
+use Rattle.mm_model.specs.Marking.{is_white, colour_of, colour_in, done_of, grayed_cycle, with_grayed, begun, advanced}
+use Rattle.mm_model.specs.Marking.{part_slots, part_done, MayScan, IsKeptAtFinish, IsFreedAtFinish, IsMarked}
 use Rattle.mm_model.specs.Good.{IsColoured, IsGood}
 use Rattle.mm_model.proofs.Lists.Truth.{or_true}
 use Rattle.mm_model.proofs.Good.Graying.{not_white-before, white-before, black-before, names_no_white-grayed}

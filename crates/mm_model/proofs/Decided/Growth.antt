@@ -1,12 +1,15 @@
 -- A set of live objects that grows by one object after another, each of which joins those before it.
-use Rattle.std.proofs.Common.{◌≡◌, ℕ, zero, suc, ◌+◌, ◌<◌, ◌≤◌, ◌==◌, slice_get, Bool, true, false, cond, not, ◌&&◌, ◌||◌, List, [], ◌∷◌, length, Option, Some, None, refl, sym, ap, ◌∙◌, subst, ⊎_elim, eqb-true, arith}
+use Rattle.std.proofs.Common.{◌≡◌, ℕ, zero, suc, ◌+◌, ◌<◌, ◌≤◌, ◌==◌, slice_get, Bool, true, false, cond, not, ◌&&◌}
+use Rattle.std.proofs.Common.{◌||◌, List, [], ◌∷◌, length, Option, Some, None, refl, sym, ap, ◌∙◌, subst, ⊎_elim}
+use Rattle.std.proofs.Common.{eqb-true, arith}
 use Rattle.std.specs.List.{list_any, list_all, find, count_by, AllByRecursion}
 use Rattle.std.proofs.lemmas.Bool.{and_parts, or_cases, or_left, eq-eqb}
 use Rattle.std.proofs.lemmas.List.Sums.{sum_by-cons, count_by-le-length}
 use Rattle.mm_model.specs.Object.{Object, is_live}
 use Rattle.mm_model.specs.State.{State, Lives}
 use Rattle.mm_model.proofs.Lists.Growing.{find-Some, find-None}
-use Rattle.mm_model.proofs.Decided.Members.{Numbered, numbered, living_from, living, has_birth, IsMember, each_from_all, all_from_each, at_live, each_living, any_implied, each_implied}
+use Rattle.mm_model.proofs.Decided.Members.{Numbered, numbered, living_from, living, has_birth, IsMember, each_from_all}
+use Rattle.mm_model.proofs.Decided.Members.{all_from_each, at_live, each_living, any_implied, each_implied}
 
 -- whether an object joins the members
 abbrev pub Joining : Type 0

@@ -1,5 +1,6 @@
 -- Live objects with their birth numbers, and tests over lists of them.
-use Rattle.std.proofs.Common.{◌≡◌, ℕ, zero, suc, ◌+◌, ◌==◌, Bool, true, false, cond, if◌then◌else◌, List, [], ◌∷◌, Some, slice_get, sym, refl, subst, ⊎_elim, eqb-true, add-zero, zero-add, arith}
+use Rattle.std.proofs.Common.{◌≡◌, ℕ, zero, suc, ◌+◌, ◌==◌, Bool, true, false, cond, if◌then◌else◌, List, [], ◌∷◌, Some}
+use Rattle.std.proofs.Common.{slice_get, sym, refl, subst, ⊎_elim, eqb-true, add-zero, zero-add, arith}
 use Rattle.std.specs.List.{list_any, list_all, AllByRecursion}
 use Rattle.std.proofs.lemmas.Bool.{and_parts, and_from, or_cases, or_left, or_right}
 use Rattle.mm_model.specs.Object.{Object, is_live}

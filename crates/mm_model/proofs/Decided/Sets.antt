@@ -10,7 +10,12 @@ use Rattle.mm_model.specs.Reapable.{IsReapable}
 use Rattle.mm_model.specs.Marking.{colour_in, with_grayed, IsKeptAtFinish, IsFreedAtFinish, IsMarked}
 use Rattle.mm_model.proofs.Decided.Members.{Numbered, has_birth}
 use Rattle.mm_model.proofs.Decided.Growth.{joined_is_closed}
-use Rattle.mm_model.proofs.Decided.Closures.{joins_reached, joins_kept, joins_marked, joins_protected, joins_reapable, reached_members, kept_members, marked_members, protected_members, reapable_members, reached_from_member, member_from_reached, kept_from_member, member_from_kept, marked_from_member, member_from_marked, protected_from_member, member_from_protected, reapable_from_member, member_from_reapable}
+use Rattle.mm_model.proofs.Decided.Closures.{joins_reached, joins_kept, joins_marked, joins_protected, joins_reapable}
+use Rattle.mm_model.proofs.Decided.Closures.{reached_members, kept_members, marked_members, protected_members}
+use Rattle.mm_model.proofs.Decided.Closures.{reapable_members, reached_from_member, member_from_reached}
+use Rattle.mm_model.proofs.Decided.Closures.{kept_from_member, member_from_kept, marked_from_member, member_from_marked}
+use Rattle.mm_model.proofs.Decided.Closures.{protected_from_member, member_from_protected, reapable_from_member}
+use Rattle.mm_model.proofs.Decided.Closures.{member_from_reapable}
 
 -- a set that some objects are
 by_members : (In : ℕ → Type 0) (members : List Numbered) (birth : ℕ) → (has_birth members birth ≡ true → In birth)

@@ -1,5 +1,7 @@
 -- A new area keeps a state good: it gets a number that is free and a place that was found, and its cells are 0.
-use Rattle.std.proofs.Common.{◌≡◌, ℕ, suc, ◌+◌, ◌<◌, ◌≤◌, Bool, true, false, not, cond, eqb-true, List, [], ◌∷◌, ◌++◌, map, length, take, replicate, Option, Some, None, refl, sym, ap, ◌∙◌, subst, ⊎_elim, inl, inr, arith}
+use Rattle.std.proofs.Common.{◌≡◌, ℕ, suc, ◌+◌, ◌<◌, ◌≤◌, Bool, true, false, not, cond, eqb-true, List, [], ◌∷◌, ◌++◌}
+use Rattle.std.proofs.Common.{map, length, take, replicate, Option, Some, None, refl, sym, ap, ◌∙◌, subst, ⊎_elim, inl}
+use Rattle.std.proofs.Common.{inr, arith}
 use Rattle.std.proofs.lemmas.Bool.{eq-eqb, cases_lt}
 use Rattle.std.proofs.lemmas.Bool.Decides.{nat_tests}
 use Rattle.std.proofs.lemmas.List.Sums.{sum_by-cons}
@@ -15,13 +17,15 @@ use Rattle.mm_model.specs.Areas.{most_areas, free_number, new_area, area_inserte
 use Rattle.mm_model.specs.Phase.{IsAscending}
 use Rattle.mm_model.specs.Place.{Piece, Areas, object_piece, area_piece, live_pieces, first_from, place_of}
 use Rattle.mm_model.specs.Refusing.{are_areas_full}
-use Rattle.mm_model.specs.Good.{IsInside, AreApart, AreAllApart, IsPlaced, IsStored, is_tight, IsAreaShaped, AreNumbered, IsGood}
+use Rattle.mm_model.specs.Good.{IsInside, AreApart, AreAllApart, IsPlaced, IsStored, is_tight, IsAreaShaped}
+use Rattle.mm_model.specs.Good.{AreNumbered, IsGood}
 use Rattle.mm_model.proofs.Good.Births.{IsZero, zero_words, zero_value, size_of-IsSize, goes-weaker}
 use Rattle.mm_model.proofs.Good.CountedWords.{count_in, refs-sum}
 use Rattle.mm_model.proofs.Lists.Keyed.{refuted}
 use Rattle.mm_model.proofs.Lists.Growing.{count-none}
 use Rattle.mm_model.proofs.Good.Living.{each_get, each_before, each_after, each_append, lives_from_page_1}
-use Rattle.mm_model.proofs.Good.OtherAreas.{numbers, IsFit, good_areas_fit, with_areas, lives_before, sound-areas, few-areas, each_map, each_from_map}
+use Rattle.mm_model.proofs.Good.OtherAreas.{numbers, IsFit, good_areas_fit, with_areas, lives_before, sound-areas}
+use Rattle.mm_model.proofs.Good.OtherAreas.{few-areas, each_map, each_from_map}
 use Rattle.mm_model.proofs.Places.Placing.{Goes, place_goes, each_weaker}
 use Rattle.mm_model.proofs.Good.Sticking.{sound_is_good}
 use Rattle.mm_model.proofs.Lists.Tests.{first_from-Some, first_from-None}

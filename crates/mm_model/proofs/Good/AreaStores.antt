@@ -1,5 +1,6 @@
 -- `aput` keeps a state good.
-use Rattle.std.proofs.Common.{◌≡◌, ℕ, zero, suc, ◌+◌, ◌<◌, false, eqb-true, List, [], ◌∷◌, ◌++◌, map, length, Some, refl, sym, ap, ◌∙◌, subst, ⊎_elim, arith}
+use Rattle.std.proofs.Common.{◌≡◌, ℕ, zero, suc, ◌+◌, ◌<◌, false, eqb-true, List, [], ◌∷◌, ◌++◌, map, length, Some}
+use Rattle.std.proofs.Common.{refl, sym, ap, ◌∙◌, subst, ⊎_elim, arith}
 use Rattle.std.proofs.lemmas.Bool.{eq-eqb}
 use Rattle.std.proofs.lemmas.List.{length-set}
 use Rattle.std.specs.Prelude.{IsTrue, slice_get, slice_set, slice_index, ◌==◌, if◌then◌else◌}
@@ -15,7 +16,8 @@ use Rattle.mm_model.specs.Phase.{IsAscending}
 use Rattle.mm_model.specs.Place.{object_piece, area_piece, live_pieces}
 use Rattle.mm_model.specs.Store.{refuses_word, recounted, with_cell, put_in_cell}
 use Rattle.mm_model.specs.Good.{IsPlaced, IsReferring, IsStored, is_tight, AreNumbered, IsGood}
-use Rattle.mm_model.proofs.Good.CountedWords.{adds, old_value, count_in-set, each_counted-set, each_counted_cell, refs-set_area}
+use Rattle.mm_model.proofs.Good.CountedWords.{adds, old_value, count_in-set, each_counted-set, each_counted_cell}
+use Rattle.mm_model.proofs.Good.CountedWords.{refs-set_area}
 use Rattle.mm_model.proofs.Lists.Keyed.{refuted}
 use Rattle.mm_model.proofs.Lists.Growing.{find-Some}
 use Rattle.mm_model.proofs.Good.Living.{each_get}

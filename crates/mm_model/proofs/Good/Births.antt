@@ -1,5 +1,7 @@
 -- What a birth leaves as it was: the state stays good.
-use Rattle.std.proofs.Common.{◌≡◌, ℕ, zero, suc, ◌+◌, ◌/◌, ◌<◌, ◌≤◌, Bool, true, false, cond, eqb-true, List, [], ◌∷◌, ◌++◌, map, length, take, replicate, Option, Some, None, refl, sym, ap, ◌∙◌, subst, ◌⊎◌, ⊎_elim, inl, inr, append_assoc, arith}
+use Rattle.std.proofs.Common.{◌≡◌, ℕ, zero, suc, ◌+◌, ◌/◌, ◌<◌, ◌≤◌, Bool, true, false, cond, eqb-true, List, [], ◌∷◌}
+use Rattle.std.proofs.Common.{◌++◌, map, length, take, replicate, Option, Some, None, refl, sym, ap, ◌∙◌, subst, ◌⊎◌}
+use Rattle.std.proofs.Common.{⊎_elim, inl, inr, append_assoc, arith}
 use Rattle.std.proofs.lemmas.Bool.Decides.{nat_tests}
 use Rattle.std.proofs.lemmas.List.{map-append, length_push, get_or_append_left, get_or_push}
 use Rattle.std.proofs.lemmas.List.Concat.{flat_map-append}
@@ -20,12 +22,14 @@ use Rattle.mm_model.specs.Words.{counted_slots, scanned_slots, counted_cell_word
 use Rattle.mm_model.specs.Count.{refs, begins_counted, names_counted}
 use Rattle.mm_model.specs.Marking.{colour_of}
 use Rattle.mm_model.specs.Place.{Piece, Objects, object_piece, area_piece, live_pieces, place_of}
-use Rattle.mm_model.specs.Good.{IsInside, AreApart, AreAllApart, IsPlaced, IsStored, IsReferred, is_tight, IsPaired, NamesNoWhite, IsPartlyScanned, IsColoured, IsShaped, IsGood}
+use Rattle.mm_model.specs.Good.{IsInside, AreApart, AreAllApart, IsPlaced, IsStored, IsReferred, is_tight, IsPaired}
+use Rattle.mm_model.specs.Good.{NamesNoWhite, IsPartlyScanned, IsColoured, IsShaped, IsGood}
 use Rattle.mm_model.specs.Effect.{made_at}
 use Rattle.mm_model.proofs.Good.Around.{if_some-weaker}
 use Rattle.mm_model.proofs.Places.Falling.{falls_from, falls_at_base, named_word}
 use Rattle.mm_model.proofs.Lists.Growing.{each_push, get-front, get-push, get-last, any_get, any_from_get, count-none}
-use Rattle.mm_model.proofs.Good.Living.{each_before, each_after, each_append, live_piece, some_extent, lives_from_page_1}
+use Rattle.mm_model.proofs.Good.Living.{each_before, each_after, each_append, live_piece, some_extent}
+use Rattle.mm_model.proofs.Good.Living.{lives_from_page_1}
 use Rattle.mm_model.proofs.Places.Placing.{IsSize, Goes, place_goes, each_weaker, both}
 use Rattle.mm_model.proofs.Good.References.{Keeps, is_stored-kept, each_referring-kept}
 use Rattle.mm_model.proofs.Places.SizeClasses.{class_of_small}

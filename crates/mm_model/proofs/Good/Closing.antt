@@ -1,5 +1,6 @@
 -- Nothing that stays after a phase refers to what the phase frees.
-use Rattle.std.proofs.Common.{◌≡◌, ℕ, zero, suc, ◌<◌, Bool, true, false, not, ◌||◌, eqb-true, List, [], ◌∷◌, take, Option, Some, None, refl, sym, ap, ◌∙◌, subst, arith}
+use Rattle.std.proofs.Common.{◌≡◌, ℕ, zero, suc, ◌<◌, Bool, true, false, not, ◌||◌, eqb-true, List, [], ◌∷◌, take}
+use Rattle.std.proofs.Common.{Option, Some, None, refl, sym, ap, ◌∙◌, subst, arith}
 use Rattle.std.proofs.lemmas.Bool.{eq-eqb}
 use Rattle.std.proofs.lemmas.Bool.Decides.{nat_tests}
 use Rattle.std.proofs.lemmas.Option.{slice_get-map}
@@ -10,7 +11,9 @@ use Rattle.mm_model.specs.declared.object.Kind.{Kind}
 use Rattle.mm_model.specs.Value.{Value, words_of}
 use Rattle.mm_model.specs.Object.{Object, is_counted, is_scanned, live_objects}
 use Rattle.mm_model.specs.State.{State, Area, Lives}
-use Rattle.mm_model.specs.Words.{SlotKind, CountedSlot, WordSlot, RawSlot, slot_kind_at, slot_kind, cell_kind, if_scanned, counted_slots, counted_cells, scanned_slots, scanned_cells, stack_words, area_words, counted_cell_words, names, holds, falls}
+use Rattle.mm_model.specs.Words.{SlotKind, CountedSlot, WordSlot, RawSlot, slot_kind_at, slot_kind, cell_kind}
+use Rattle.mm_model.specs.Words.{if_scanned, counted_slots, counted_cells, scanned_slots, scanned_cells, stack_words}
+use Rattle.mm_model.specs.Words.{area_words, counted_cell_words, names, holds, falls}
 use Rattle.mm_model.specs.Meaning.{keeps, kept_origin, stored}
 use Rattle.mm_model.specs.Count.{begins_counted, names_counted}
 use Rattle.mm_model.specs.Place.{live_pieces}
@@ -18,7 +21,8 @@ use Rattle.mm_model.specs.Phase.{lists, AreBasesOf}
 use Rattle.mm_model.specs.Good.{IsPlaced, IsReferring, is_tight, IsGood}
 use Rattle.mm_model.proofs.Places.Falling.{falls_from, falls_at_base}
 use Rattle.mm_model.proofs.Lists.Growing.{any_get, any_from_get}
-use Rattle.mm_model.proofs.Good.Living.{each_before, each_after, each_get, lives_once, lives_once_at, lives_same, lives_from_page_1, lives_extent}
+use Rattle.mm_model.proofs.Good.Living.{each_before, each_after, each_get, lives_once, lives_once_at, lives_same}
+use Rattle.mm_model.proofs.Good.Living.{lives_from_page_1, lives_extent}
 use Rattle.mm_model.proofs.Lists.Parts.{each_of-live, each_of-get}
 use Rattle.mm_model.proofs.Lists.Passing.{any-flat_map_get, any-flat_map-weaker, any-weaker, any-words_take}
 use Rattle.mm_model.proofs.Places.Placing.{both, some_with}

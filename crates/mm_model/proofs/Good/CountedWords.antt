@@ -1,5 +1,6 @@
 -- The words of all counted places, place by place, and how their counts change where one object or area does.
-use Rattle.std.proofs.Common.{◌≡◌, ℕ, zero, suc, ◌+◌, ◌<◌, ◌≤◌, Bool, true, false, not, cond, eqb-true, List, [], ◌∷◌, length, take, get_or, Some, refl, sym, ap, ◌∙◌, subst, arith}
+use Rattle.std.proofs.Common.{◌≡◌, ℕ, zero, suc, ◌+◌, ◌<◌, ◌≤◌, Bool, true, false, not, cond, eqb-true, List, [], ◌∷◌}
+use Rattle.std.proofs.Common.{length, take, get_or, Some, refl, sym, ap, ◌∙◌, subst, arith}
 use Rattle.std.proofs.lemmas.Bool.Decides.{nat_tests}
 use Rattle.std.proofs.lemmas.List.{take-set-le}
 use Rattle.std.proofs.lemmas.List.Sums.{sum_by-cons, sum_by-append, sum_by-set}
@@ -10,7 +11,8 @@ use Rattle.std.specs.Option.{option_map}
 use Rattle.mm_model.specs.Value.{Value, integer, words_of}
 use Rattle.mm_model.specs.Object.{Object, is_live, live_objects}
 use Rattle.mm_model.specs.State.{State, Area, Lives}
-use Rattle.mm_model.specs.Words.{SlotKind, CountedSlot, WordSlot, slot_kind_at, if_scanned, counted_slots, counted_cells, counted_cell_words, counted_words}
+use Rattle.mm_model.specs.Words.{SlotKind, CountedSlot, WordSlot, slot_kind_at, if_scanned, counted_slots}
+use Rattle.mm_model.specs.Words.{counted_cells, counted_cell_words, counted_words}
 use Rattle.mm_model.specs.Count.{refs}
 use Rattle.mm_model.specs.Store.{is_counted_slot}
 use Rattle.mm_model.proofs.Lists.KeyedSums.{count-flat_map}

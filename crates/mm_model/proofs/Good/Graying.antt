@@ -9,7 +9,8 @@ use Rattle.mm_model.specs.Words.{scanned_slots, names}
 use Rattle.mm_model.specs.Marking.{is_white, colour_of, grayed_cycle}
 use Rattle.mm_model.specs.Good.{NamesNoWhite, IsPartlyScanned, IsColoured}
 use Rattle.mm_model.proofs.Good.Around.{if_some-weaker}
-use Rattle.mm_model.proofs.Good.Shading.{length-grayed, shade, colour-grayed, shade-white, shade-black, shade-gray, shade-named}
+use Rattle.mm_model.proofs.Good.Shading.{length-grayed, shade, colour-grayed, shade-white, shade-black, shade-gray}
+use Rattle.mm_model.proofs.Good.Shading.{shade-named}
 
 -- what isn't white then wasn't white before, or a word names it
 pub shade-not_white : (words : List ℕ) (o : Object) (c : Colour) → not (is_white (shade words o c)) ≡ true

@@ -1,5 +1,6 @@
 -- The live objects of a state, found by their bases, tested and counted.
-use Rattle.std.proofs.Common.{◌≡◌, ℕ, ◌+◌, ◌≤◌, Bool, true, false, cond, eqb-true, List, [], ◌∷◌, map, Some, refl, sym, ap, ◌∙◌, subst, ⊎_elim, arith, zero-add}
+use Rattle.std.proofs.Common.{◌≡◌, ℕ, ◌+◌, ◌≤◌, Bool, true, false, cond, eqb-true, List, [], ◌∷◌, map, Some, refl, sym}
+use Rattle.std.proofs.Common.{ap, ◌∙◌, subst, ⊎_elim, arith, zero-add}
 use Rattle.std.proofs.lemmas.Bool.{eq-eqb}
 use Rattle.std.proofs.lemmas.List.Sums.{sum_by-cons}
 use Rattle.std.specs.Prelude.{◌&&◌, ◌||◌, nat_eq}
@@ -13,7 +14,8 @@ use Rattle.mm_model.proofs.Lists.Growing.{find-only, position_from-get}
 use Rattle.mm_model.proofs.Lists.Keyed.{IsKeyed, refuted}
 use Rattle.mm_model.proofs.Lists.Truth.{together}
 use Rattle.mm_model.proofs.Places.Placing.{both}
-use Rattle.mm_model.proofs.Good.Living.{each_after, all_apart-after, some_extent, lives_same, lives_once_at, lives_where}
+use Rattle.mm_model.proofs.Good.Living.{each_after, all_apart-after, some_extent, lives_same, lives_once_at}
+use Rattle.mm_model.proofs.Good.Living.{lives_where}
 
 -- the live object at a base, found among all or among the live ones
 pub find-live : (objects : List Object) (base : ℕ)

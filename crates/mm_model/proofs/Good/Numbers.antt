@@ -1,6 +1,7 @@
 -- What a command leaves of the numbers that a state counts: it bears at most one object, counts no command, and keeps
 -- the settings.
-use Rattle.std.proofs.Common.{◌≡◌, ℕ, ◌+◌, ◌≤◌, Bool, true, false, not, [], ◌∷◌, length, Option, Some, None, refl, ap, ◌∙◌, arith}
+use Rattle.std.proofs.Common.{◌≡◌, ℕ, ◌+◌, ◌≤◌, Bool, true, false, not, [], ◌∷◌, length, Option, Some, None, refl, ap}
+use Rattle.std.proofs.Common.{◌∙◌, arith}
 use Rattle.std.proofs.lemmas.List.{length_push, length-map, length-set}
 use Rattle.std.specs.Prelude.{slice_get, slice_index, ◌&&◌, ◌==◌, if◌then◌else◌}
 use Rattle.mm_model.specs.declared.command.Command.{Command}
@@ -12,7 +13,8 @@ use Rattle.mm_model.specs.State.{State, Area}
 use Rattle.mm_model.specs.Words.{SlotKind, slot_kind, cell_kind}
 use Rattle.mm_model.specs.Count.{made_sticky, with_sticky}
 use Rattle.mm_model.specs.Marking.{is_raw, is_passed, with_grayed, barrier}
-use Rattle.mm_model.specs.Store.{is_counted_slot, recounted, with_object, with_slot, with_cell, put_in_slot, put_in_cell}
+use Rattle.mm_model.specs.Store.{is_counted_slot, recounted, with_object, with_slot, with_cell, put_in_slot}
+use Rattle.mm_model.specs.Store.{put_in_cell}
 use Rattle.mm_model.specs.Meaning.{meant_at, object_meant}
 use Rattle.mm_model.specs.Areas.{area_at, with_changed_area}
 use Rattle.mm_model.specs.Effect.{Effect, with_some, new_effect, look_effect, pushes_object, plain_effect}

@@ -1,5 +1,6 @@
 -- A good state stays sound with other areas that fit it, and good with fewer of its areas.
-use Rattle.std.proofs.Common.{◌≡◌, ℕ, ◌<◌, ◌≤◌, Bool, true, false, not, cond, List, [], ◌∷◌, ◌++◌, map, take, Some, refl, arith}
+use Rattle.std.proofs.Common.{◌≡◌, ℕ, ◌<◌, ◌≤◌, Bool, true, false, not, cond, List, [], ◌∷◌, ◌++◌, map, take, Some}
+use Rattle.std.proofs.Common.{refl, arith}
 use Rattle.std.proofs.lemmas.List.Sums.{sum_by-cons}
 use Rattle.std.specs.Prelude.{IsTrue, slice_get, ◌==◌}
 use Rattle.std.specs.List.{AllByRecursion, filter, sum_by}
@@ -11,9 +12,11 @@ use Rattle.mm_model.specs.Count.{refs}
 use Rattle.mm_model.specs.Areas.{most_areas, without_area}
 use Rattle.mm_model.specs.Phase.{IsAscending}
 use Rattle.mm_model.specs.Place.{Piece, object_piece, area_piece, live_pieces}
-use Rattle.mm_model.specs.Good.{IsInside, AreApart, AreAllApart, IsPlaced, IsStored, is_tight, IsPaired, NamesNoWhite, IsPartlyScanned, IsColoured, IsAreaShaped, AreNumbered, IsGood}
+use Rattle.mm_model.specs.Good.{IsInside, AreApart, AreAllApart, IsPlaced, IsStored, is_tight, IsPaired, NamesNoWhite}
+use Rattle.mm_model.specs.Good.{IsPartlyScanned, IsColoured, IsAreaShaped, AreNumbered, IsGood}
 use Rattle.mm_model.proofs.Good.Around.{if_some-weaker}
-use Rattle.mm_model.proofs.Good.CountedWords.{count_in, get-filter, each_counted_slot, each_counted_cell, each_counted_word, refs-sum}
+use Rattle.mm_model.proofs.Good.CountedWords.{count_in, get-filter, each_counted_slot, each_counted_cell}
+use Rattle.mm_model.proofs.Good.CountedWords.{each_counted_word, refs-sum}
 use Rattle.mm_model.proofs.Good.Living.{each_before, each_after, each_append}
 use Rattle.mm_model.proofs.Good.References.{Keeps, is_stored-kept, each_referring-kept}
 use Rattle.mm_model.proofs.Good.Sticking.{IsSound, AreFew, sound_is_good}

@@ -1,15 +1,18 @@
 -- A good state stays good with other partners, if these name each other.
-use Rattle.std.proofs.Common.{◌≡◌, ℕ, zero, suc, ◌<◌, ◌≤◌, Bool, List, [], ◌∷◌, ◌++◌, map, take, length, cond, true, false, Option, Some, None, refl, sym, ap, ◌∙◌, subst, ◌||◌}
+use Rattle.std.proofs.Common.{◌≡◌, ℕ, zero, suc, ◌<◌, ◌≤◌, Bool, List, [], ◌∷◌, ◌++◌, map, take, length, cond, true}
+use Rattle.std.proofs.Common.{false, Option, Some, None, refl, sym, ap, ◌∙◌, subst, ◌||◌}
 use Rattle.std.proofs.lemmas.List.{length-map}
 use Rattle.std.specs.Prelude.{IsTrue, IfSome, slice_get, ◌==◌}
 use Rattle.std.specs.List.{AllByRecursion, list_any, flat_map, count_by}
 use Rattle.std.specs.Option.{option_map}
 use Rattle.mm_model.specs.Object.{Object, is_live, is_counted, live_objects}
 use Rattle.mm_model.specs.State.{State, Cycle, Lives}
-use Rattle.mm_model.specs.Words.{slot_kind, cell_kind, counted_slots, scanned_slots, counted_cell_words, counted_words, names}
+use Rattle.mm_model.specs.Words.{slot_kind, cell_kind, counted_slots, scanned_slots, counted_cell_words, counted_words}
+use Rattle.mm_model.specs.Words.{names}
 use Rattle.mm_model.specs.Count.{refs, begins_counted, names_counted}
 use Rattle.mm_model.specs.Place.{object_piece, area_piece, live_pieces}
-use Rattle.mm_model.specs.Good.{IsPlaced, IsStored, is_tight, IsPaired, NamesNoWhite, IsPartlyScanned, IsColoured, IsGood}
+use Rattle.mm_model.specs.Good.{IsPlaced, IsStored, is_tight, IsPaired, NamesNoWhite, IsPartlyScanned, IsColoured}
+use Rattle.mm_model.specs.Good.{IsGood}
 use Rattle.mm_model.proofs.Good.Around.{if_some-weaker}
 use Rattle.mm_model.proofs.Good.Shapes.{shaped-alike}
 use Rattle.mm_model.proofs.Lists.Keyed.{any-map}

@@ -6,10 +6,12 @@ use Rattle.mm_model.specs.declared.object.Colour.{Colour}
 use Rattle.mm_model.specs.declared.object.Colour.TheVariants.{White, Gray, Black}
 use Rattle.mm_model.specs.Object.{Object, is_counted}
 use Rattle.mm_model.specs.State.{State, Cycle, Lives}
-use Rattle.mm_model.specs.Words.{stack_words, area_words, root_words, counted_cell_words, counted_slots, scanned_slots, names, holds}
+use Rattle.mm_model.specs.Words.{stack_words, area_words, root_words, counted_cell_words, counted_slots, scanned_slots}
+use Rattle.mm_model.specs.Words.{names, holds}
 use Rattle.mm_model.specs.Reached.{By_root, By_slot, IsUnreached}
 use Rattle.mm_model.specs.Reapable.{IsReapable, Reapable}
-use Rattle.mm_model.specs.Marking.{colour_of, colour_in, grayed_cycle, with_grayed, IsKeptAtFinish, Already, By_slot as Marked_by_slot, IsFreedAtFinish}
+use Rattle.mm_model.specs.Marking.{colour_of, colour_in, grayed_cycle, with_grayed, IsKeptAtFinish, Already}
+use Rattle.mm_model.specs.Marking.{By_slot as Marked_by_slot, IsFreedAtFinish}
 use Rattle.mm_model.specs.Phase.{lists, released, reaped, collected, AreBasesOf, AreReaped, AreCollected, AreFinished}
 use Rattle.mm_model.specs.Good.{IsColoured, IsGood}
 use Rattle.mm_model.proofs.Good.Around.{good-around}

@@ -1,5 +1,6 @@
 -- Each command that looks for no place, scans nothing and frees nothing keeps a state good, if it isn't refused.
-use Rattle.std.proofs.Common.{◌≡◌, ℕ, ◌<◌, Bool, false, ◌||◌, ◌∷◌, length, drop, Option, Some, None, refl, sym, ap, ◌∙◌, subst, arith}
+use Rattle.std.proofs.Common.{◌≡◌, ℕ, ◌<◌, Bool, false, ◌||◌, ◌∷◌, length, drop, Option, Some, None, refl, sym, ap, ◌∙◌}
+use Rattle.std.proofs.Common.{subst, arith}
 use Rattle.std.proofs.lemmas.Bool.Decides.{nat_tests}
 use Rattle.std.specs.Prelude.{IfSome, slice_get, nat_le}
 use Rattle.std.specs.Option.{option_map_or, option_and_then}
@@ -13,7 +14,8 @@ use Rattle.mm_model.specs.Words.{slot_kind, cell_kind}
 use Rattle.mm_model.specs.Meaning.{meant_at, object_meant}
 use Rattle.mm_model.specs.Areas.{area_at}
 use Rattle.mm_model.specs.Store.{refuses_word}
-use Rattle.mm_model.specs.Refusing.{refusal, no_cell, no_area, means_nothing, has_no_slot, refuses_in_slot, has_no_area_cell, refuses_in_cell, word_at}
+use Rattle.mm_model.specs.Refusing.{refusal, no_cell, no_area, means_nothing, has_no_slot, refuses_in_slot}
+use Rattle.mm_model.specs.Refusing.{has_no_area_cell, refuses_in_cell, word_at}
 use Rattle.mm_model.specs.Effect.{Effect, pushes, with_some, look_effect, put_effect, area_put_effect, plain_effect}
 use Rattle.mm_model.specs.Good.{IsReferring, IsPaired, IsGood}
 use Rattle.mm_model.proofs.Good.AreaStores.{area_stands, area_put_is_good}

@@ -1,5 +1,6 @@
 -- A state without some of its live objects is good, where nothing that stays refers to one of them.
-use Rattle.std.proofs.Common.{◌≡◌, ℕ, ◌≤◌, Bool, true, false, ◌||◌, List, [], ◌∷◌, map, take, Option, Some, None, eqb-true, refl, sym, ap, ◌∙◌, subst, arith}
+use Rattle.std.proofs.Common.{◌≡◌, ℕ, ◌≤◌, Bool, true, false, ◌||◌, List, [], ◌∷◌, map, take, Option, Some, None}
+use Rattle.std.proofs.Common.{eqb-true, refl, sym, ap, ◌∙◌, subst, arith}
 use Rattle.std.proofs.lemmas.List.{length-map}
 use Rattle.std.proofs.lemmas.List.Sums.{sum_by-append}
 use Rattle.std.proofs.lemmas.Option.{slice_get-map}
@@ -10,15 +11,19 @@ use Rattle.mm_model.specs.declared.object.Kind.{Kind}
 use Rattle.mm_model.specs.Value.{Value}
 use Rattle.mm_model.specs.Object.{Object, is_live, is_counted, live_objects}
 use Rattle.mm_model.specs.State.{State, Area, Cycle, PartlyScanned, Lives}
-use Rattle.mm_model.specs.Words.{SlotKind, slot_kind, cell_kind, counted_slots, scanned_slots, counted_cell_words, counted_words, names, falls}
+use Rattle.mm_model.specs.Words.{SlotKind, slot_kind, cell_kind, counted_slots, scanned_slots, counted_cell_words}
+use Rattle.mm_model.specs.Words.{counted_words, names, falls}
 use Rattle.mm_model.specs.Meaning.{keeps, kept_origin, stored}
 use Rattle.mm_model.specs.Count.{refs, begins_counted, names_counted}
 use Rattle.mm_model.specs.Place.{object_piece, area_piece, live_pieces}
-use Rattle.mm_model.specs.Phase.{lists, is_freed, is_freed_birth, unless_freed, after_release, partly_scanned_left, cycle_left, released}
-use Rattle.mm_model.specs.Good.{IsPlaced, IsReferring, IsStored, IsReferred, is_tight, IsPaired, NamesNoWhite, IsPartlyScanned, IsColoured, IsShaped, IsGood}
+use Rattle.mm_model.specs.Phase.{lists, is_freed, is_freed_birth, unless_freed, after_release, partly_scanned_left}
+use Rattle.mm_model.specs.Phase.{cycle_left, released}
+use Rattle.mm_model.specs.Good.{IsPlaced, IsReferring, IsStored, IsReferred, is_tight, IsPaired, NamesNoWhite}
+use Rattle.mm_model.specs.Good.{IsPartlyScanned, IsColoured, IsShaped, IsGood}
 use Rattle.mm_model.proofs.Lists.Growing.{any_get, any_from_get}
 use Rattle.mm_model.proofs.Good.Living.{each_after, each_before, each_append}
-use Rattle.mm_model.proofs.Lists.Parts.{each-part, all_apart-part, part-behind, each_of-live, each_live-of, map_live-part, count_live-part}
+use Rattle.mm_model.proofs.Lists.Parts.{each-part, all_apart-part, part-behind, each_of-live, each_live-of}
+use Rattle.mm_model.proofs.Lists.Parts.{map_live-part, count_live-part}
 use Rattle.mm_model.proofs.Good.Shapes.{shaped-alike}
 use Rattle.mm_model.proofs.Places.Placing.{both}
 

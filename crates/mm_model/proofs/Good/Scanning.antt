@@ -1,5 +1,7 @@
 -- The scan of a part keeps a state good.
-use Rattle.std.proofs.Common.{◌≡◌, ℕ, ◌+◌, ◌-◌, ◌<◌, ◌≤◌, min, Bool, true, false, ◌||◌, List, [], ◌∷◌, ◌++◌, length, take, drop, Option, Some, None, refl, sym, ap, ◌∙◌, subst, ◌⊎◌, ⊎_elim, inl, inr, eqb-true, arith, get_or-set_same, get_or-set_other}
+use Rattle.std.proofs.Common.{◌≡◌, ℕ, ◌+◌, ◌-◌, ◌<◌, ◌≤◌, min, Bool, true, false, ◌||◌, List, [], ◌∷◌, ◌++◌, length}
+use Rattle.std.proofs.Common.{take, drop, Option, Some, None, refl, sym, ap, ◌∙◌, subst, ◌⊎◌, ⊎_elim, inl, inr}
+use Rattle.std.proofs.Common.{eqb-true, arith, get_or-set_same, get_or-set_other}
 use Rattle.std.proofs.Math.Seq.{take-add, take-length}
 use Rattle.std.proofs.lemmas.Bool.{eq-eqb}
 use Rattle.std.proofs.lemmas.List.{take_min, length-take, length-drop, length-set}
@@ -13,7 +15,8 @@ use Rattle.mm_model.specs.declared.object.Colour.TheVariants.{White, Gray, Black
 use Rattle.mm_model.specs.Object.{Object}
 use Rattle.mm_model.specs.State.{State, Cycle, PartlyScanned, Lives}
 use Rattle.mm_model.specs.Words.{scanned_slots, names, falls}
-use Rattle.mm_model.specs.Marking.{MayScan, colour_of, colour_in, done_in, done_of, may_continue, advanced, grayed_cycle, part_done}
+use Rattle.mm_model.specs.Marking.{MayScan, colour_of, colour_in, done_in, done_of, may_continue, advanced}
+use Rattle.mm_model.specs.Marking.{grayed_cycle, part_done}
 use Rattle.mm_model.specs.Scan.{AreScanned}
 use Rattle.mm_model.specs.Good.{NamesNoWhite, IsPartlyScanned, IsColoured, IsGood}
 use Rattle.mm_model.proofs.Good.Around.{good-around}

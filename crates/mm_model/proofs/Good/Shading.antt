@@ -1,5 +1,6 @@
 -- The write barrier shades what a stored word falls in, so that `put` keeps a state good.
-use Rattle.std.proofs.Common.{◌≡◌, ℕ, zero, suc, Bool, true, false, not, ◌||◌, List, [], ◌∷◌, length, Option, Some, None, refl, sym, ap, ◌∙◌, subst, arith}
+use Rattle.std.proofs.Common.{◌≡◌, ℕ, zero, suc, Bool, true, false, not, ◌||◌, List, [], ◌∷◌, length, Option, Some}
+use Rattle.std.proofs.Common.{None, refl, sym, ap, ◌∙◌, subst, arith}
 use Rattle.std.proofs.lemmas.List.{length-set}
 use Rattle.std.specs.Prelude.{IfSome, slice_get, slice_index, slice_index_or, ◌&&◌, ◌==◌, if◌then◌else◌}
 use Rattle.std.specs.Option.{option_map}
@@ -14,7 +15,8 @@ use Rattle.mm_model.specs.Count.{with_sticky}
 use Rattle.mm_model.specs.Store.{is_counted_slot, with_object, with_slot, put_in_slot}
 use Rattle.mm_model.specs.Good.{IsReferring, IsColoured, IsGood}
 use Rattle.mm_model.proofs.Good.Around.{good-around}
-use Rattle.mm_model.proofs.Good.Stores.{IsShaded, any_store, keeps-any_store, any_store_is_coloured, with_store, store_is_good}
+use Rattle.mm_model.proofs.Good.Stores.{IsShaded, any_store, keeps-any_store, any_store_is_coloured, with_store}
+use Rattle.mm_model.proofs.Good.Stores.{store_is_good}
 
 pub length-grayed : (words : List ℕ) (objects : List Object) (colours : List Colour)
     → length (grayed words objects colours) ≡ length colours

@@ -17,9 +17,12 @@ use Rattle.mm_model.specs.Object.{Object, is_weak}
 use Rattle.mm_model.specs.State.{State, Lives, one_more_command}
 use Rattle.mm_model.specs.Words.{stack_words, names, falls}
 use Rattle.mm_model.specs.Areas.{free_number}
-use Rattle.mm_model.specs.Refusing.{first_refusal, refusal, no_cell, means_nothing, means_weak, is_stack_full, is_bad_shape, is_bad_area, are_areas_full}
-use Rattle.mm_model.specs.Effect.{Effect, with_some, new_effect, weak_effect, area_effect, weak_made, pushes, plain_effect}
-use Rattle.mm_model.specs.Step.{IsPlain, Makes, MakesWeak, MakesWeakOf, Reaps, Collects, Finishes, Carries, Ends, Refused_as_full, Below_threshold, At_threshold, is_full, IsStepUnless, IsStep}
+use Rattle.mm_model.specs.Refusing.{first_refusal, refusal, no_cell, means_nothing, means_weak, is_stack_full}
+use Rattle.mm_model.specs.Refusing.{is_bad_shape, is_bad_area, are_areas_full}
+use Rattle.mm_model.specs.Effect.{Effect, with_some, new_effect, weak_effect, area_effect, weak_made, pushes}
+use Rattle.mm_model.specs.Effect.{plain_effect}
+use Rattle.mm_model.specs.Step.{IsPlain, Makes, MakesWeak, MakesWeakOf, Reaps, Collects, Finishes, Carries, Ends}
+use Rattle.mm_model.specs.Step.{Refused_as_full, Below_threshold, At_threshold, is_full, IsStepUnless, IsStep}
 use Rattle.mm_model.specs.Log.{IsRun}
 use Rattle.mm_model.specs.Good.{IsPaired, IsGood}
 use Rattle.mm_model.proofs.Good.Around.{carried_out_is_good}

@@ -1,5 +1,6 @@
 -- Where a counted place gets another word, the object at that base becomes sticky, and the state stays good.
-use Rattle.std.proofs.Common.{◌≡◌, ℕ, ◌+◌, ◌≤◌, Bool, true, false, not, cond, ◌||◌, eqb-true, List, [], ◌∷◌, ◌++◌, map, take, Option, Some, None, refl, sym, ap, ◌∙◌, subst, arith}
+use Rattle.std.proofs.Common.{◌≡◌, ℕ, ◌+◌, ◌≤◌, Bool, true, false, not, cond, ◌||◌, eqb-true, List, [], ◌∷◌, ◌++◌, map}
+use Rattle.std.proofs.Common.{take, Option, Some, None, refl, sym, ap, ◌∙◌, subst, arith}
 use Rattle.std.proofs.lemmas.Bool.{eq-eqb}
 use Rattle.std.proofs.lemmas.Bool.Decides.{nat_tests}
 use Rattle.std.proofs.lemmas.List.{length-map}
@@ -9,11 +10,13 @@ use Rattle.std.specs.List.{AllByRecursion, flat_map, count_by}
 use Rattle.std.specs.Option.{option_map}
 use Rattle.mm_model.specs.Object.{Object, is_live, is_counted, live_objects}
 use Rattle.mm_model.specs.State.{State, Area, Cycle, Lives}
-use Rattle.mm_model.specs.Words.{SlotKind, slot_kind, cell_kind, counted_slots, scanned_slots, counted_cell_words, counted_words, names}
+use Rattle.mm_model.specs.Words.{SlotKind, slot_kind, cell_kind, counted_slots, scanned_slots, counted_cell_words}
+use Rattle.mm_model.specs.Words.{counted_words, names}
 use Rattle.mm_model.specs.Count.{refs, begins_counted, names_counted, made_sticky, with_sticky}
 use Rattle.mm_model.specs.Place.{object_piece, area_piece, live_pieces}
 use Rattle.mm_model.specs.Store.{is_counted_slot, recounted}
-use Rattle.mm_model.specs.Good.{IsPlaced, IsShaped, IsAreaShaped, AreNumbered, IsStored, IsReferred, is_tight, IsPaired, NamesNoWhite, IsPartlyScanned, IsColoured, IsGood}
+use Rattle.mm_model.specs.Good.{IsPlaced, IsShaped, IsAreaShaped, AreNumbered, IsStored, IsReferred, is_tight, IsPaired}
+use Rattle.mm_model.specs.Good.{NamesNoWhite, IsPartlyScanned, IsColoured, IsGood}
 use Rattle.mm_model.proofs.Good.Around.{if_some-weaker}
 use Rattle.mm_model.proofs.Good.CountedWords.{adds, adds-other, adds-same}
 use Rattle.mm_model.proofs.Lists.Keyed.{any-map}

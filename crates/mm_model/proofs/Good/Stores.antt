@@ -1,5 +1,6 @@
 -- A store into a slot keeps a state sound, and good where the slot isn't counted.
-use Rattle.std.proofs.Common.{◌≡◌, ℕ, ◌+◌, ◌<◌, ◌≤◌, Bool, true, false, not, ◌||◌, List, ◌++◌, map, length, take, Option, Some, None, refl, sym, ap, ◌∙◌, subst, ◌⊎◌, ⊎_elim, inl, inr, eqb-true, arith}
+use Rattle.std.proofs.Common.{◌≡◌, ℕ, ◌+◌, ◌<◌, ◌≤◌, Bool, true, false, not, ◌||◌, List, ◌++◌, map, length, take}
+use Rattle.std.proofs.Common.{Option, Some, None, refl, sym, ap, ◌∙◌, subst, ◌⊎◌, ⊎_elim, inl, inr, eqb-true, arith}
 use Rattle.std.proofs.lemmas.Bool.Decides.{nat_tests}
 use Rattle.std.proofs.lemmas.Bool.{eq-eqb}
 use Rattle.std.proofs.lemmas.List.{length-set, length-map}
@@ -9,20 +10,25 @@ use Rattle.mm_model.specs.declared.object.Colour.TheVariants.{White, Gray, Black
 use Rattle.mm_model.specs.Value.{Value, words_of}
 use Rattle.mm_model.specs.Object.{Object, is_counted, is_scanned, is_weak}
 use Rattle.mm_model.specs.State.{State, Cycle, PartlyScanned, Lives}
-use Rattle.mm_model.specs.Words.{SlotKind, CountedSlot, WordSlot, slot_kind_at, slot_kind, cell_kind, if_scanned, counted_slots, scanned_slots, counted_words, names, falls}
+use Rattle.mm_model.specs.Words.{SlotKind, CountedSlot, WordSlot, slot_kind_at, slot_kind, cell_kind, if_scanned}
+use Rattle.mm_model.specs.Words.{counted_slots, scanned_slots, counted_words, names, falls}
 use Rattle.mm_model.specs.Meaning.{stored}
 use Rattle.mm_model.specs.Count.{refs, begins_counted, names_counted}
 use Rattle.mm_model.specs.Marking.{is_raw, is_black, colour_of, done_in}
 use Rattle.mm_model.specs.Place.{object_piece, area_piece}
 use Rattle.mm_model.specs.Store.{is_counted_slot, refuses_word, with_slot}
-use Rattle.mm_model.specs.Good.{IsPlaced, IsReferring, IsStored, IsReferred, is_tight, IsPaired, IsPartlyScanned, IsColoured, IsShaped, IsGood}
+use Rattle.mm_model.specs.Good.{IsPlaced, IsReferring, IsStored, IsReferred, is_tight, IsPaired, IsPartlyScanned}
+use Rattle.mm_model.specs.Good.{IsColoured, IsShaped, IsGood}
 use Rattle.mm_model.proofs.Lists.Truth.{or_true}
 use Rattle.mm_model.proofs.Good.Around.{if_some-weaker}
-use Rattle.mm_model.proofs.Good.CountedWords.{count_in, adds, uncounted_place, count_in-set, each_counted-set, each_counted_slot, each_counted_cell, each_counted_word, refs-set_object}
+use Rattle.mm_model.proofs.Good.CountedWords.{count_in, adds, uncounted_place, count_in-set, each_counted-set}
+use Rattle.mm_model.proofs.Good.CountedWords.{each_counted_slot, each_counted_cell, each_counted_word, refs-set_object}
 use Rattle.mm_model.proofs.Good.Living.{lives_same}
 use Rattle.mm_model.proofs.Places.Placing.{each_weaker}
-use Rattle.mm_model.proofs.Good.References.{IsKept, Keeps, referring-kept, stored-kept, is_stored-kept, each_referring-kept, stored-stored, referring-stored}
-use Rattle.mm_model.proofs.Lists.Replaced.{get-set_same, get-set_other, get-set_cases, map-set, map_live-set, any-set_alike, any_take-set, any-set}
+use Rattle.mm_model.proofs.Good.References.{IsKept, Keeps, referring-kept, stored-kept, is_stored-kept}
+use Rattle.mm_model.proofs.Good.References.{each_referring-kept, stored-stored, referring-stored}
+use Rattle.mm_model.proofs.Lists.Replaced.{get-set_same, get-set_other, get-set_cases, map-set, map_live-set}
+use Rattle.mm_model.proofs.Lists.Replaced.{any-set_alike, any_take-set, any-set}
 use Rattle.mm_model.proofs.Good.Shapes.{shaped-alike}
 use Rattle.mm_model.proofs.Good.Sticking.{IsSound, AreFew, sound_is_good}
 

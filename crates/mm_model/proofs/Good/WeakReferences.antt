@@ -1,5 +1,6 @@
 -- Weak references: one that is made, and one that is kept, keep a state good.
-use Rattle.std.proofs.Common.{◌≡◌, ℕ, ◌≤◌, false, List, [], ◌∷◌, ◌++◌, map, length, Some, None, refl, sym, ap, ◌∙◌, subst, ⊎_elim}
+use Rattle.std.proofs.Common.{◌≡◌, ℕ, ◌≤◌, false, List, [], ◌∷◌, ◌++◌, map, length, Some, None, refl, sym, ap, ◌∙◌}
+use Rattle.std.proofs.Common.{subst, ⊎_elim}
 use Rattle.std.proofs.lemmas.List.{map-append, length-set}
 use Rattle.std.specs.Prelude.{IfSome, slice_get, slice_set}
 use Rattle.mm_model.specs.SizeClass.{object_bytes}

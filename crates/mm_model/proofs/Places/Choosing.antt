@@ -1,5 +1,6 @@
 -- The place that is found is the lowest one that there is, and a piece fits there.
-use Rattle.std.proofs.Common.{◌≡◌, ℕ, suc, ◌+◌, ◌-◌, ◌*◌, ◌/◌, ◌%◌, ◌<◌, ◌≤◌, Bool, true, false, ◌||◌, cond, List, [], ◌∷◌, Option, Some, None, refl, sym, ap, ◌∙◌, subst, ⊎_elim, arith}
+use Rattle.std.proofs.Common.{◌≡◌, ℕ, suc, ◌+◌, ◌-◌, ◌*◌, ◌/◌, ◌%◌, ◌<◌, ◌≤◌, Bool, true, false, ◌||◌, cond, List, []}
+use Rattle.std.proofs.Common.{◌∷◌, Option, Some, None, refl, sym, ap, ◌∙◌, subst, ⊎_elim, arith}
 use Rattle.std.proofs.lemmas.Bool.{cases_lt}
 use Rattle.std.proofs.lemmas.Bool.Decides.{nat_tests}
 use Rattle.std.proofs.lemmas.Nat.{le-div}
@@ -11,12 +12,14 @@ use Rattle.mm_model.specs.declared.object.Size.{Size}
 use Rattle.mm_model.specs.declared.object.Size.TheVariants.{Small, Pages}
 use Rattle.mm_model.specs.SizeClass.{class_sizes, class_index, size_of, extent_of_size, extent_of}
 use Rattle.mm_model.specs.State.{State}
-use Rattle.mm_model.specs.Place.{Family, Piece, overlaps, live_pieces, first_from, is_vacant, is_page_of, free_cell, has_room, cell_place, place_among, place_of}
+use Rattle.mm_model.specs.Place.{Family, Piece, overlaps, live_pieces, first_from, is_vacant, is_page_of, free_cell}
+use Rattle.mm_model.specs.Place.{has_room, cell_place, place_among, place_of}
 use Rattle.mm_model.specs.Good.{AreApart, IsPlaced}
 use Rattle.mm_model.proofs.Lists.Tests.{first_from-Some, first_from-None}
 use Rattle.mm_model.proofs.Places.SizeClasses.{class_bounds, class_of_small, class_fits}
 use Rattle.mm_model.proofs.Places.Placing.{mapped, both, IsSize, place_goes}
-use Rattle.mm_model.specs.Lowest.{piece_of, IsFreeFor, IsRun, IsFreeCell, IsNowhere, IsLowest, IsLowestOf, IsPreferred, Of_first, Of_second}
+use Rattle.mm_model.specs.Lowest.{piece_of, IsFreeFor, IsRun, IsFreeCell, IsNowhere, IsLowest, IsLowestOf, IsPreferred}
+use Rattle.mm_model.specs.Lowest.{Of_first, Of_second}
 use Rattle.mm_model.proofs.Lists.Truth.{together, not-false, no_other}
 
 -- nothing was found through a function

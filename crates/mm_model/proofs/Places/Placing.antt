@@ -1,5 +1,7 @@
 -- A place that is found is inside the region and apart from all that lives.
-use Rattle.std.proofs.Common.{◌≡◌, ℕ, suc, ◌+◌, ◌-◌, ◌*◌, ◌/◌, ◌%◌, ◌<◌, ◌≤◌, Bool, true, false, not, ◌||◌, eqb-true, add-zero, List, [], ◌∷◌, Option, Some, None, refl, sym, ap, ◌∙◌, subst, ◌⊎◌, ⊎_elim, inl, inr, arith}
+use Rattle.std.proofs.Common.{◌≡◌, ℕ, suc, ◌+◌, ◌-◌, ◌*◌, ◌/◌, ◌%◌, ◌<◌, ◌≤◌, Bool, true, false, not, ◌||◌, eqb-true}
+use Rattle.std.proofs.Common.{add-zero, List, [], ◌∷◌, Option, Some, None, refl, sym, ap, ◌∙◌, subst, ◌⊎◌, ⊎_elim, inl}
+use Rattle.std.proofs.Common.{inr, arith}
 use Rattle.std.proofs.lemmas.Bool.Decides.{nat_tests}
 use Rattle.std.proofs.Math.Nat.{mul-le-mul_right, suc-mul, div-mul-le_self, mul-mod_left, zero-mod}
 use Rattle.std.specs.Prelude.{IsTrue, ◌&&◌, ◌==◌, is_some, slice_index}
@@ -8,7 +10,8 @@ use Rattle.std.specs.Option.{option_map}
 use Rattle.mm_model.specs.declared.object.Size.{Size}
 use Rattle.mm_model.specs.declared.object.Size.TheVariants.{Small, Pages}
 use Rattle.mm_model.specs.SizeClass.{class_sizes, extent_of_size}
-use Rattle.mm_model.specs.Place.{Family, Objects, Areas, same_family, Piece, overlaps, first_from, is_vacant, is_page_of, free_cell, has_room, fresh_page, cell_place, place_among}
+use Rattle.mm_model.specs.Place.{Family, Objects, Areas, same_family, Piece, overlaps, first_from, is_vacant}
+use Rattle.mm_model.specs.Place.{is_page_of, free_cell, has_room, fresh_page, cell_place, place_among}
 use Rattle.mm_model.specs.Good.{IsInside, AreApart, AreAllApart}
 use Rattle.mm_model.proofs.Lists.Truth.{no_other}
 use Rattle.mm_model.proofs.Lists.Tests.{first_from-Some, none_passes}

@@ -1,5 +1,6 @@
 -- The state before a command and the lines of its group determine the state after it.
-use Rattle.std.proofs.Common.{◌≡◌, ℕ, Bool, true, false, cond, List, [], ◌∷◌, ◌++◌, Option, Some, None, sym, ap, ◌∙◌, append_assoc, arith}
+use Rattle.std.proofs.Common.{◌≡◌, ℕ, Bool, true, false, cond, List, [], ◌∷◌, ◌++◌, Option, Some, None, sym, ap, ◌∙◌}
+use Rattle.std.proofs.Common.{append_assoc, arith}
 use Rattle.std.specs.Prelude.{nat_le}
 use Rattle.std.specs.Option.{option_and_then, option_map_or}
 use Rattle.std.proofs.lemmas.Bool.Decides.{nat_tests}
@@ -24,8 +25,11 @@ use Rattle.mm_model.specs.Search.{place_now, place_grown, Searches, At_once, Aft
 use Rattle.mm_model.specs.Scan.{AreScanned}
 use Rattle.mm_model.specs.Effect.{Effect, done, new_effect, weak_effect, area_effect, pushes_object, plain_effect}
 use Rattle.mm_model.specs.Refusing.{refusal}
-use Rattle.mm_model.specs.Step.{Makes, IsPlain, MakesWeak, Carries, is_full, Ends, Refused_as_full, Below_threshold, At_threshold, IsCarriedOut, IsStepUnless, IsStep}
-use Rattle.mm_model.specs.After.{phases_in, scanned_bases, first_phase, later_phases, Searched, collected_unless, reaped_unless, searched, Row, row_made, part_done_at, parts_done, weak_row, row_after, ended, after_unless, after}
+use Rattle.mm_model.specs.Step.{Makes, IsPlain, MakesWeak, Carries, is_full, Ends, Refused_as_full, Below_threshold}
+use Rattle.mm_model.specs.Step.{At_threshold, IsCarriedOut, IsStepUnless, IsStep}
+use Rattle.mm_model.specs.After.{phases_in, scanned_bases, first_phase, later_phases, Searched, collected_unless}
+use Rattle.mm_model.specs.After.{reaped_unless, searched, Row, row_made, part_done_at, parts_done, weak_row, row_after}
+use Rattle.mm_model.specs.After.{ended, after_unless, after}
 use Rattle.mm_model.proofs.Steps.Groups.{phases_in-phase_lines, scanned_bases-phase_lines}
 use Rattle.mm_model.proofs.Good.LiveLists.{birth_at-lives}
 

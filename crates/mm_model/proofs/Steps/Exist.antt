@@ -1,5 +1,6 @@
 -- From each good state each command has a step.
-use Rattle.std.proofs.Common.{◌≡◌, ℕ, ◌<◌, ◌≤◌, Bool, true, false, List, [], ◌∷◌, ◌++◌, Option, Some, None, refl, ◌⊎◌, ⊎_elim, inl, inr}
+use Rattle.std.proofs.Common.{◌≡◌, ℕ, ◌<◌, ◌≤◌, Bool, true, false, List, [], ◌∷◌, ◌++◌, Option, Some, None, refl, ◌⊎◌}
+use Rattle.std.proofs.Common.{⊎_elim, inl, inr}
 use Rattle.std.proofs.lemmas.Bool.{cases_lt}
 use Rattle.mm_model.specs.declared.command.Command.{Command}
 use Rattle.mm_model.specs.declared.command.Command.TheVariants as commands
@@ -21,7 +22,8 @@ use Rattle.mm_model.specs.Phase.{phase_lines, reaped, collected, AreReaped, AreC
 use Rattle.mm_model.specs.Search.{place_now, place_grown, Searches, At_once, After_reap, After_collection}
 use Rattle.mm_model.specs.Effect.{Effect, new_effect, weak_effect, area_effect, pushes_object, plain_effect, done}
 use Rattle.mm_model.specs.Refusing.{refusal, no_cell, means_nothing, means_weak, is_stack_full}
-use Rattle.mm_model.specs.Step.{IsPlain, Makes, MakesWeak, Reaps, Collects, Finishes, Carries, Ends, Refused_as_full, Below_threshold, At_threshold, is_full, IsStepUnless, IsStep}
+use Rattle.mm_model.specs.Step.{IsPlain, Makes, MakesWeak, Reaps, Collects, Finishes, Carries, Ends, Refused_as_full}
+use Rattle.mm_model.specs.Step.{Below_threshold, At_threshold, is_full, IsStepUnless, IsStep}
 use Rattle.mm_model.specs.Good.{IsGood}
 use Rattle.mm_model.proofs.Good.Meanings.{is_meant}
 use Rattle.mm_model.proofs.Good.Allowed.{all_allowed, found_some}

@@ -1,5 +1,6 @@
 -- There are scans that are enough for `step`: each part costs something, so they end.
-use Rattle.std.proofs.Common.{◌≡◌, ℕ, zero, suc, ◌-◌, ◌<◌, ◌≤◌, false, List, [], ◌∷◌, length, take, sum, Option, Some, None, refl, sym, ap, ◌∙◌, subst, ◌⊎◌, ⊎_elim, inl, inr, arith}
+use Rattle.std.proofs.Common.{◌≡◌, ℕ, zero, suc, ◌-◌, ◌<◌, ◌≤◌, false, List, [], ◌∷◌, length, take, sum, Option, Some}
+use Rattle.std.proofs.Common.{None, refl, sym, ap, ◌∙◌, subst, ◌⊎◌, ⊎_elim, inl, inr, arith}
 use Rattle.std.specs.Prelude.{IsTrue, IfSome}
 use Rattle.std.specs.List.{find}
 use Rattle.std.proofs.lemmas.Bool.{eq-eqb, cases_lt}
@@ -11,7 +12,8 @@ use Rattle.mm_model.specs.declared.object.Colour.TheVariants.{White, Gray, Black
 use Rattle.mm_model.specs.Object.{Object}
 use Rattle.mm_model.specs.State.{State, Cycle, PartlyScanned, Lives}
 use Rattle.mm_model.specs.Marking.{MayScan, is_gray, colour_in, may_continue, part_slots, part_done}
-use Rattle.mm_model.specs.Scan.{AreScanned, IsNothingGray, IsEnough, Nothing_asked, Cost_reached, Nothing_left, cost, costs}
+use Rattle.mm_model.specs.Scan.{AreScanned, IsNothingGray, IsEnough, Nothing_asked, Cost_reached, Nothing_left, cost}
+use Rattle.mm_model.specs.Scan.{costs}
 use Rattle.mm_model.specs.Step.{Scans}
 use Rattle.mm_model.specs.Good.{IsPartlyScanned, IsColoured, IsGood}
 use Rattle.mm_model.proofs.Lists.Growing.{find-Some, find-None}

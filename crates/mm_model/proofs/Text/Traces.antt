@@ -1,5 +1,7 @@
 -- Laws of cutting bytes into lines and of reading lines in turn, for a loop that takes one byte or one line at a time.
-use Rattle.std.proofs.Common.{◌≡◌, ◌≢◌, ℕ, suc, ◌+◌, ◌<◌, ◌≤◌, true, false, ◌==◌, nat_lt, List, [], ◌∷◌, ◌++◌, length, Option, Some, None, Result, Ok, Err, refl, sym, ◌∙◌, ap, append_assoc, length-append, arith}
+use Rattle.std.proofs.Common.{◌≡◌, ◌≢◌, ℕ, suc, ◌+◌, ◌<◌, ◌≤◌, true, false, ◌==◌, nat_lt, List, [], ◌∷◌, ◌++◌, length}
+use Rattle.std.proofs.Common.{Option, Some, None, Result, Ok, Err, refl, sym, ◌∙◌, ap, append_assoc, length-append}
+use Rattle.std.proofs.Common.{arith}
 use Rattle.std.specs.List.{All, flat_map, onto_first}
 use Rattle.std.proofs.lemmas.Bool.Decides.{nat_tests}
 use Rattle.std.proofs.lemmas.List.{append-nil}
@@ -9,7 +11,8 @@ use Rattle.std.proofs.lemmas.List.Splits.{slice_split_at, slice_split-cons_no, l
 use Rattle.mm_model.specs.declared.command.Command.{Command}
 use Rattle.mm_model.specs.declared.refusal.LineFault.{LineFault}
 use Rattle.mm_model.specs.declared.refusal.LineFault.TheVariants.{LineTooLong}
-use Rattle.mm_model.specs.Trace.{line_reading, pieces_of, ended_lines, last_piece, rest_of, lines_of, complete_lines, line_if, FaultAt, Reading, reading_before, reading_from}
+use Rattle.mm_model.specs.Trace.{line_reading, pieces_of, ended_lines, last_piece, rest_of, lines_of, complete_lines}
+use Rattle.mm_model.specs.Trace.{line_if, FaultAt, Reading, reading_before, reading_from}
 
 -- no byte is a newline
 abbrev pub NoNewline : List ℕ → Type 0

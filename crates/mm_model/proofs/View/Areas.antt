@@ -1,5 +1,6 @@
 -- What the commands on areas do to a view, they do to its state, but for the store into a cell.
-use Rattle.std.proofs.Common.{◌≡◌, ℕ, zero, suc, Bool, true, false, not, cond, List, [], ◌∷◌, map, replicate, Option, Some, None, refl, sym, ap, ◌∙◌}
+use Rattle.std.proofs.Common.{◌≡◌, ℕ, zero, suc, Bool, true, false, not, cond, List, [], ◌∷◌, map, replicate, Option}
+use Rattle.std.proofs.Common.{Some, None, refl, sym, ap, ◌∙◌}
 use mathlib.Core.Path.{fun_ext}
 use Rattle.std.proofs.lemmas.Option.{slice_get-map}
 use Rattle.std.specs.Prelude.{is_some, nat_lt, slice_get, unwrap_or, ◌==◌, if◌then◌else◌}
@@ -14,7 +15,8 @@ use Rattle.mm_model.specs.Areas.{most_areas, area_at, free_number, new_area, are
 use Rattle.mm_model.specs.Effect.{area_effect, plain_effect}
 use Rattle.mm_model.specs.View.{seen_area, view_of}
 use Rattle.mm_model.specs.ViewWords.{area_in}
-use Rattle.mm_model.specs.ViewEffect.{view_free_number, new_area_view, view_area_inserted, view_area_effect, view_plain_effect}
+use Rattle.mm_model.specs.ViewEffect.{view_free_number, new_area_view, view_area_inserted, view_area_effect}
+use Rattle.mm_model.specs.ViewEffect.{view_plain_effect}
 use Rattle.mm_model.proofs.View.SameEffects.{SameEffect, found-same}
 use Rattle.mm_model.proofs.View.Words.{area_in-seen}
 

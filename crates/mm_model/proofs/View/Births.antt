@@ -1,5 +1,6 @@
 -- What a birth in a good state does to its view, with or without another object changed.
-use Rattle.std.proofs.Common.{◌≡◌, ℕ, ◌+◌, ◌-◌, ◌<◌, true, List, [], ◌∷◌, ◌++◌, map, length, Option, Some, None, refl, sym, ap, ◌∙◌, subst, append_assoc, arith}
+use Rattle.std.proofs.Common.{◌≡◌, ℕ, ◌+◌, ◌-◌, ◌<◌, true, List, [], ◌∷◌, ◌++◌, map, length, Option, Some, None, refl}
+use Rattle.std.proofs.Common.{sym, ap, ◌∙◌, subst, append_assoc, arith}
 use Rattle.std.proofs.lemmas.List.{map-append, length_push, length-map, get_or_append_left, get_or_push}
 use Rattle.std.proofs.lemmas.List.Elements.{filter-append}
 use Rattle.std.specs.Prelude.{IfSome, if◌then◌else◌, slice_get}
@@ -7,7 +8,8 @@ use Rattle.std.specs.Option.{option_map, option_and_then}
 use Rattle.mm_model.specs.declared.object.Colour.TheVariants.{White, Black}
 use Rattle.mm_model.specs.Value.{reference}
 use Rattle.mm_model.specs.Object.{Object, is_live, live_objects}
-use Rattle.mm_model.specs.State.{State, Cycle, PartlyScanned, Lives, live_count, totals_of, pushed, with_black_birth, with_born}
+use Rattle.mm_model.specs.State.{State, Cycle, PartlyScanned, Lives, live_count, totals_of, pushed, with_black_birth}
+use Rattle.mm_model.specs.State.{with_born}
 use Rattle.mm_model.specs.Marking.{colour_in}
 use Rattle.mm_model.specs.Place.{area_piece, object_piece, live_pieces}
 use Rattle.mm_model.specs.Good.{IsPlaced, IsPartlyScanned, IsColoured, IsGood}

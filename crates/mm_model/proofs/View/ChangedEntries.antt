@@ -169,6 +169,7 @@ map-changed {X} {Y} v f g alike entries =
     split k None = refl
     split k (Some None) = refl
     split k (Some (Some x)) = ap (λ (y : Option Y). Some y) (alike (16 * k) x)
+
 -- a change of a change
 abbrev pub one_after : {X : Type 0} → (ℕ → X → Option X) → (ℕ → X → Option X) → ℕ → X → Option X
 one_after f g base x = option_and_then (f base) (g base x)

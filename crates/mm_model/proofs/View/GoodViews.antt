@@ -1,5 +1,6 @@
 -- The view of a good state is a good view.
-use Rattle.std.proofs.Common.{◌≡◌, ℕ, ◌<◌, ◌≤◌, false, List, [], ◌∷◌, map, take, length, Option, Some, None, refl, sym, ap, ◌∙◌, subst}
+use Rattle.std.proofs.Common.{◌≡◌, ℕ, ◌<◌, ◌≤◌, false, List, [], ◌∷◌, map, take, length, Option, Some, None, refl, sym}
+use Rattle.std.proofs.Common.{ap, ◌∙◌, subst}
 use Rattle.std.proofs.lemmas.List.{length-map}
 use Rattle.std.proofs.lemmas.Option.{slice_get-map}
 use Rattle.std.specs.Prelude.{IsTrue, IfSome, slice_get, ◌==◌, ◌||◌}
@@ -16,20 +17,24 @@ use Rattle.mm_model.specs.Words.{counted_slots, counted_cells, scanned_slots}
 use Rattle.mm_model.specs.Marking.{colour_in, colour_of}
 use Rattle.mm_model.specs.Areas.{most_areas}
 use Rattle.mm_model.specs.Phase.{IsAscending}
-use Rattle.mm_model.specs.Good.{IsShaped, IsAreaShaped, AreNumbered, is_tight, IsPaired, NamesNoWhite, IsPartlyScanned, IsColoured, IsGood}
+use Rattle.mm_model.specs.Good.{IsShaped, IsAreaShaped, AreNumbered, is_tight, IsPaired, NamesNoWhite, IsPartlyScanned}
+use Rattle.mm_model.specs.Good.{IsColoured, IsGood}
 use Rattle.mm_model.specs.ByBase.{Begins}
 use Rattle.mm_model.specs.ObjectView.{ObjectView, counted_words_of, scanned_words_of, names_at}
 use Rattle.mm_model.specs.SetsByBase.{count_at}
-use Rattle.mm_model.specs.View.{View, AreaView, seen, seen_objects, seen_area, seen_partly, seen_cycle, base_of, Shows, view_of}
+use Rattle.mm_model.specs.View.{View, AreaView, seen, seen_objects, seen_area, seen_partly, seen_cycle, base_of, Shows}
+use Rattle.mm_model.specs.View.{view_of}
 use Rattle.mm_model.specs.ViewWords.{begins_counted_in, counted_cells_of, outside_references}
-use Rattle.mm_model.specs.GoodView.{IsShapedView, IsAreaShapedView, AreTight, IsPairedAt, NamesNoWhiteAt, IsPartlyScannedAt, IsColouredAt, IsColouredView, AreNumberedViews, IsGoodView}
+use Rattle.mm_model.specs.GoodView.{IsShapedView, IsAreaShapedView, AreTight, IsPairedAt, NamesNoWhiteAt}
+use Rattle.mm_model.specs.GoodView.{IsPartlyScannedAt, IsColouredAt, IsColouredView, AreNumberedViews, IsGoodView}
 use Rattle.mm_model.proofs.Good.CountedWords.{each_counted_slot, each_counted_cell}
 use Rattle.mm_model.proofs.Places.Placing.{each_weaker}
 use Rattle.mm_model.proofs.View.Placed.{placed-seen}
 use Rattle.mm_model.proofs.View.Scanning.{base_of-lives}
 use Rattle.mm_model.proofs.View.Seen.{length-seen, begins-seen, seen-begins}
 use Rattle.mm_model.proofs.View.Shown.{shown-is}
-use Rattle.mm_model.proofs.View.Words.{counted_words_of-seen, counted_cells_of-seen, count_at-seen, begins_counted_in-seen}
+use Rattle.mm_model.proofs.View.Words.{counted_words_of-seen, counted_cells_of-seen, count_at-seen}
+use Rattle.mm_model.proofs.View.Words.{begins_counted_in-seen}
 
 -- words are as many as the values that have them
 count_words : (values : List Value) → length (words_of values) ≡ length values

@@ -1,5 +1,6 @@
 -- What the words and the partners of a good view name.
-use Rattle.std.proofs.Common.{◌≡◌, ℕ, ◌*◌, ◌<◌, ◌≤◌, Bool, true, false, Option, Some, None, subst, inl, inr, eqb-true, arith, refl}
+use Rattle.std.proofs.Common.{◌≡◌, ℕ, ◌*◌, ◌<◌, ◌≤◌, Bool, true, false, Option, Some, None, subst, inl, inr, eqb-true}
+use Rattle.std.proofs.Common.{arith, refl}
 use Rattle.std.proofs.lemmas.Bool.{eq-eqb}
 use Rattle.std.specs.Prelude.{IsTrue, IfSome, slice_get, ◌==◌, ◌||◌, ◌&&◌, ◌⊎◌}
 use Rattle.mm_model.specs.Object.{is_counted}

@@ -1,5 +1,6 @@
 -- Graying what some words name, and beginning a cycle, do to a view what they do to its state.
-use Rattle.std.proofs.Common.{◌≡◌, ℕ, ◌*◌, Bool, true, false, eqb-true, List, length, replicate, Option, Some, None, refl, sym, ap, ◌∙◌}
+use Rattle.std.proofs.Common.{◌≡◌, ℕ, ◌*◌, Bool, true, false, eqb-true, List, length, replicate, Option, Some, None}
+use Rattle.std.proofs.Common.{refl, sym, ap, ◌∙◌}
 use Rattle.std.proofs.lemmas.List.{length-replicate}
 use Rattle.std.specs.Prelude.{IsTrue, IfSome, is_some, ◌&&◌, if◌then◌else◌}
 use Rattle.std.specs.List.{list_any}

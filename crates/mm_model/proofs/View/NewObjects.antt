@@ -18,7 +18,8 @@ use Rattle.mm_model.proofs.Lists.Growing.{get-front, get-push}
 use Rattle.mm_model.proofs.Good.Births.{goes_at}
 use Rattle.mm_model.proofs.Places.Placing.{Goes}
 use Rattle.mm_model.proofs.View.Areas.{words_of-zeros}
-use Rattle.mm_model.proofs.View.Births.{colour-old, colour-newborn, placed-born, lives-newborn, base_of-old, view_with_born-seen}
+use Rattle.mm_model.proofs.View.Births.{colour-old, colour-newborn, placed-born, lives-newborn, base_of-old}
+use Rattle.mm_model.proofs.View.Births.{view_with_born-seen}
 use Rattle.mm_model.proofs.View.CommonBases.{seen_at-base, seen_at-alike}
 use Rattle.mm_model.proofs.View.SameEffects.{SameEffect}
 use Rattle.mm_model.proofs.View.Seen.{piece_grain, seen_objects-with_entry}

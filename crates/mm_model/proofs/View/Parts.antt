@@ -1,5 +1,6 @@
 -- The parts that `step` scans: what they do to a view is what they do to the state.
-use Rattle.std.proofs.Common.{◌≡◌, ℕ, ◌+◌, ◌<◌, Bool, true, false, List, [], ◌∷◌, length, take, drop, Option, Some, None, refl, sym, ap, ◌∙◌, subst, arith}
+use Rattle.std.proofs.Common.{◌≡◌, ℕ, ◌+◌, ◌<◌, Bool, true, false, List, [], ◌∷◌, length, take, drop, Option, Some}
+use Rattle.std.proofs.Common.{None, refl, sym, ap, ◌∙◌, subst, arith}
 use Rattle.std.proofs.lemmas.Option.{slice_get_within}
 use Rattle.std.specs.Prelude.{◌==◌, if◌then◌else◌, slice_set}
 use Rattle.std.specs.Option.{option_map}
@@ -9,7 +10,8 @@ use Rattle.mm_model.specs.declared.object.Colour.TheVariants.{White, Gray, Black
 use Rattle.mm_model.specs.Object.{Object}
 use Rattle.mm_model.specs.State.{State, Cycle, Lives}
 use Rattle.mm_model.specs.Words.{scanned_slots}
-use Rattle.mm_model.specs.Marking.{MayScan, colour_in, done_of, advanced, grayed_cycle, with_grayed, part_slots, part_done}
+use Rattle.mm_model.specs.Marking.{MayScan, colour_in, done_of, advanced, grayed_cycle, with_grayed, part_slots}
+use Rattle.mm_model.specs.Marking.{part_done}
 use Rattle.mm_model.specs.Scan.{AreScanned, IsNothingGray, IsEnough, Nothing_asked, Cost_reached, Nothing_left}
 use Rattle.mm_model.specs.Step.{Scans}
 use Rattle.mm_model.specs.Good.{IsGood}
@@ -17,7 +19,8 @@ use Rattle.mm_model.specs.ByBase.{Based, with_entry}
 use Rattle.mm_model.specs.ObjectView.{ObjectView, ObjectsByBase}
 use Rattle.mm_model.specs.SetsByBase.{with_grayed_objects}
 use Rattle.mm_model.specs.View.{View, CycleView, PartlyScannedView, seen, seen_objects, seen_cycle, view_of}
-use Rattle.mm_model.specs.ViewStep.{ViewMayScan, view_advanced, view_part_slots, view_part_done, ViewScansAll, NoGray, ViewIsEnough, ViewScans, slots_done_in}
+use Rattle.mm_model.specs.ViewStep.{ViewMayScan, view_advanced, view_part_slots, view_part_done, ViewScansAll, NoGray}
+use Rattle.mm_model.specs.ViewStep.{ViewIsEnough, ViewScans, slots_done_in}
 use Rattle.mm_model.specs.ViewStep as views
 use Rattle.mm_model.proofs.Good.Scanning.{part_is_good, scanned_is_good}
 use Rattle.mm_model.proofs.Good.Shading.{length-grayed}

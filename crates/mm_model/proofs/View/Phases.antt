@@ -1,5 +1,6 @@
 -- A phase of a view is one of its state: the same lines, and what is left is the view of what the state leaves.
-use Rattle.std.proofs.Common.{◌≡◌, ℕ, ◌*◌, max, List, [], ◌∷◌, ◌++◌, map, length, Option, Some, None, refl, sym, ap, ◌∙◌, subst}
+use Rattle.std.proofs.Common.{◌≡◌, ℕ, ◌*◌, max, List, [], ◌∷◌, ◌++◌, map, length, Option, Some, None, refl, sym, ap}
+use Rattle.std.proofs.Common.{◌∙◌, subst}
 use Rattle.std.proofs.lemmas.List.{length-map}
 use Rattle.std.specs.Prelude.{◌%◌, ◌^◌, IsTrue, IfSome, is_some, sum, if◌then◌else◌}
 use Rattle.std.specs.List.{find, flat_map, AllByRecursion}
@@ -14,13 +15,15 @@ use Rattle.mm_model.specs.Object.{Object}
 use Rattle.mm_model.specs.State.{State, Cycle, Lives, lives_at, totals_of}
 use Rattle.mm_model.specs.Place.{live_pieces}
 use Rattle.mm_model.specs.Good.{IsPlaced, IsColoured, IsGood}
-use Rattle.mm_model.specs.Phase.{final_lines, phase_lines, released, reaped, collected, AreBasesOf, AreReaped, AreCollected, AreFinished}
+use Rattle.mm_model.specs.Phase.{final_lines, phase_lines, released, reaped, collected, AreBasesOf, AreReaped}
+use Rattle.mm_model.specs.Phase.{AreCollected, AreFinished}
 use Rattle.mm_model.specs.Step.{Reaps, Collects, Finishes}
 use Rattle.mm_model.specs.ByBase.{changed}
 use Rattle.mm_model.specs.View.{View, CycleView, seen, seen_objects, view_of}
 use Rattle.mm_model.specs.ViewEffect.{with_colour, view_with_white}
 use Rattle.mm_model.specs.ViewWords.{object_at}
-use Rattle.mm_model.specs.ViewPhase.{view_final_lines, view_phase_lines, so_many_freed, view_released, view_with_threshold, view_reaped, view_collected}
+use Rattle.mm_model.specs.ViewPhase.{view_final_lines, view_phase_lines, so_many_freed, view_released}
+use Rattle.mm_model.specs.ViewPhase.{view_with_threshold, view_reaped, view_collected}
 use Rattle.mm_model.specs.ViewStep.{ViewReapsOnce, ViewCollectsOnce, ViewFinishesOnce}
 use Rattle.mm_model.proofs.Good.Phases.{reaped_is_good, collected_is_good, finished_is_good}
 use Rattle.mm_model.proofs.View.Bases.{reaps-seen, collects-seen, finishes-seen}

@@ -1,5 +1,6 @@
 -- Blocks don't overlap in the view of a state in which they don't.
-use Rattle.std.proofs.Common.{◌≡◌, ℕ, suc, ◌<◌, ◌≤◌, List, [], ◌∷◌, ◌++◌, map, Some, refl, sym, ap, subst, ⊎_elim, arith}
+use Rattle.std.proofs.Common.{◌≡◌, ℕ, suc, ◌<◌, ◌≤◌, List, [], ◌∷◌, ◌++◌, map, Some, refl, sym, ap, subst, ⊎_elim}
+use Rattle.std.proofs.Common.{arith}
 use Rattle.std.proofs.lemmas.Bool.{cases_lt}
 use Rattle.std.specs.Prelude.{slice_get}
 use Rattle.std.specs.List.{AllByRecursion}
@@ -13,7 +14,8 @@ use Rattle.mm_model.specs.ObjectView.{ObjectView, piece_of_object, pieces_of_obj
 use Rattle.mm_model.specs.View.{seen_objects, view_of}
 use Rattle.mm_model.specs.ViewWords.{view_pieces}
 use Rattle.mm_model.proofs.Good.AreaBirths.{apart-sym}
-use Rattle.mm_model.proofs.Good.Living.{each_after, each_before, each_append, all_apart-after, live_piece, live_apart, lives_inside, lives_same}
+use Rattle.mm_model.proofs.Good.Living.{each_after, each_before, each_append, all_apart-after, live_piece, live_apart}
+use Rattle.mm_model.proofs.Good.Living.{lives_inside, lives_same}
 use Rattle.mm_model.proofs.View.Entries.{ascending-based}
 use Rattle.mm_model.proofs.View.Room.{area_pieces-seen}
 use Rattle.mm_model.proofs.View.Seen.{seen_based, seen-based}

@@ -10,7 +10,8 @@ use Rattle.mm_model.proofs.View.AreaStores.{area_put-seen}
 use Rattle.mm_model.proofs.View.Areas.{drop_area-seen, area_get-seen}
 use Rattle.mm_model.proofs.View.Graying.{begin-seen}
 use Rattle.mm_model.proofs.View.Puts.{put-seen}
-use Rattle.mm_model.proofs.View.Reads.{push-seen, dup-seen, pop-seen, inner-seen, get_slot-seen, look-seen, map-seen, stat-seen}
+use Rattle.mm_model.proofs.View.Reads.{push-seen, dup-seen, pop-seen, inner-seen, get_slot-seen, look-seen, map-seen}
+use Rattle.mm_model.proofs.View.Reads.{stat-seen}
 use Rattle.mm_model.proofs.View.SameEffects.{SameEffect, nothing-same}
 
 -- for the other commands both are nothing

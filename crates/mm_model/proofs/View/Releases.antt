@@ -6,7 +6,8 @@ use Rattle.std.specs.Option.{option_map, option_and_then, option_map_or}
 use Rattle.mm_model.specs.Object.{Object}
 use Rattle.mm_model.specs.State.{State, Cycle, PartlyScanned, Lives}
 use Rattle.mm_model.specs.Marking.{colour_in}
-use Rattle.mm_model.specs.Phase.{lists, is_freed, is_freed_birth, unless_freed, after_release, partly_scanned_left, cycle_left, released}
+use Rattle.mm_model.specs.Phase.{lists, is_freed, is_freed_birth, unless_freed, after_release, partly_scanned_left}
+use Rattle.mm_model.specs.Phase.{cycle_left, released}
 use Rattle.mm_model.specs.Place.{live_pieces}
 use Rattle.mm_model.specs.Good.{IsPlaced, IsPaired, IsPartlyScanned, IsColoured, IsGood}
 use Rattle.mm_model.specs.ByBase.{changed}

@@ -5,7 +5,8 @@ use Rattle.std.specs.List.{list_any, count_by, range_with_len}
 use Rattle.mm_model.specs.Object.{live_objects}
 use Rattle.mm_model.specs.State.{State, Area}
 use Rattle.mm_model.specs.SizeClass.{size_of}
-use Rattle.mm_model.specs.Place.{Family, Piece, object_piece, area_piece, live_pieces, is_vacant, place_among, region_pages}
+use Rattle.mm_model.specs.Place.{Family, Piece, object_piece, area_piece, live_pieces, is_vacant, place_among}
+use Rattle.mm_model.specs.Place.{region_pages}
 use Rattle.mm_model.specs.Search.{place_now, place_grown}
 use Rattle.mm_model.specs.Effect.{free_pages}
 use Rattle.mm_model.specs.Good.{IsPlaced}

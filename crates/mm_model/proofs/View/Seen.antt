@@ -1,5 +1,6 @@
 -- The objects of a state's view: each live object at its base, and nothing else.
-use Rattle.std.proofs.Common.{◌≡◌, ℕ, ◌*◌, ◌/◌, ◌%◌, ◌<◌, ◌≤◌, Bool, true, false, cond, eqb-true, map, length, Option, Some, None, refl, sym, ap, ◌∙◌, subst, ⊎_elim, arith, zero-add}
+use Rattle.std.proofs.Common.{◌≡◌, ℕ, ◌*◌, ◌/◌, ◌%◌, ◌<◌, ◌≤◌, Bool, true, false, cond, eqb-true, map, length, Option}
+use Rattle.std.proofs.Common.{Some, None, refl, sym, ap, ◌∙◌, subst, ⊎_elim, arith, zero-add}
 use Rattle.std.proofs.lemmas.Bool.{cases_lt, eq-eqb}
 use Rattle.std.proofs.lemmas.List.{length-map, length-set}
 use Rattle.std.proofs.lemmas.List.FromFn.{length-range_with_len, get_or-range_with_len}
@@ -23,7 +24,8 @@ use Rattle.mm_model.proofs.Places.Placing.{both}
 use Rattle.mm_model.proofs.Places.SizeClasses.{class_bounds}
 use Rattle.mm_model.proofs.Good.Living.{some_extent, lives_same, lives_inside, lives_where}
 use Rattle.mm_model.proofs.Good.LiveLists.{find-live, any-live, count-live, keyed-lives, birth_at-lives, find-lives_at}
-use Rattle.mm_model.proofs.View.Entries.{get-changed, length-changed, get-with_entry, same_entries, based_at, begins_at, keyed-based}
+use Rattle.mm_model.proofs.View.Entries.{get-changed, length-changed, get-with_entry, same_entries, based_at, begins_at}
+use Rattle.mm_model.proofs.View.Entries.{keyed-based}
 
 -- a live object as it stands in the view
 abbrev pub seen_based : State → ℕ → Object → Based ObjectView

@@ -17,7 +17,8 @@ use Rattle.mm_model.specs.ByBase.{with_entry}
 use Rattle.mm_model.specs.ObjectView.{ObjectView}
 use Rattle.mm_model.specs.View.{base_of, seen, seen_at, seen_objects, view_of}
 use Rattle.mm_model.specs.ViewStore.{view_with_word}
-use Rattle.mm_model.proofs.Lists.Replaced.{get-set_same, get-set_other, map-set, map_live-set, position_from-set_alike, option_get-set_alike}
+use Rattle.mm_model.proofs.Lists.Replaced.{get-set_same, get-set_other, map-set, map_live-set, position_from-set_alike}
+use Rattle.mm_model.proofs.Lists.Replaced.{option_get-set_alike}
 use Rattle.mm_model.proofs.Good.Living.{lives_inside}
 use Rattle.mm_model.proofs.Places.Placing.{both}
 use Rattle.mm_model.proofs.View.Alike.{cycle-alike, totals-alike}

@@ -12,12 +12,15 @@ use Rattle.mm_model.specs.Words.{slot_kind, cell_kind, falls}
 use Rattle.mm_model.specs.Meaning.{object_meant}
 use Rattle.mm_model.specs.Areas.{area_at, most_areas}
 use Rattle.mm_model.specs.Store.{refuses_word}
-use Rattle.mm_model.specs.Refusing.{tests_of, refusal_row, first_refusal, no_area, means_nothing, means_weak, is_outside, has_no_slot, refuses_in_slot, has_no_area_cell, refuses_in_cell, word_at, refusal}
+use Rattle.mm_model.specs.Refusing.{tests_of, refusal_row, first_refusal, no_area, means_nothing, means_weak}
+use Rattle.mm_model.specs.Refusing.{is_outside, has_no_slot, refuses_in_slot, has_no_area_cell, refuses_in_cell}
+use Rattle.mm_model.specs.Refusing.{word_at, refusal}
 use Rattle.mm_model.specs.Good.{IsGood}
 use Rattle.mm_model.specs.ObjectView.{slot_kind_of}
 use Rattle.mm_model.specs.View.{AreaView, seen_cycle, seen_area, view_of}
 use Rattle.mm_model.specs.ViewWords.{area_in, view_meant, cell_kind_of, view_refuses_word}
-use Rattle.mm_model.specs.ViewTests.{tests_of_view, view_is_outside, view_has_no_slot, view_refuses_in_slot, view_means_weak, view_has_no_area_cell, view_refuses_in_cell, view_refusal}
+use Rattle.mm_model.specs.ViewTests.{tests_of_view, view_is_outside, view_has_no_slot, view_refuses_in_slot}
+use Rattle.mm_model.specs.ViewTests.{view_means_weak, view_has_no_area_cell, view_refuses_in_cell, view_refusal}
 use Rattle.mm_model.proofs.View.Words.{area_in-seen, view_refuses_word-seen}
 use Rattle.mm_model.proofs.View.Meaning.{asked_of-meant}
 

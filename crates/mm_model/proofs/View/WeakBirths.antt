@@ -1,5 +1,6 @@
 -- What `weak` does to a view where it makes a weak reference is what it does to the state.
-use Rattle.std.proofs.Common.{◌≡◌, ℕ, ◌*◌, ◌/◌, ◌<◌, ◌≤◌, Bool, true, false, eqb-true, List, [], ◌∷◌, map, length, Option, Some, None, refl, sym, ap, ◌∙◌, subst, ⊎_elim, arith}
+use Rattle.std.proofs.Common.{◌≡◌, ℕ, ◌*◌, ◌/◌, ◌<◌, ◌≤◌, Bool, true, false, eqb-true, List, [], ◌∷◌, map, length}
+use Rattle.std.proofs.Common.{Option, Some, None, refl, sym, ap, ◌∙◌, subst, ⊎_elim, arith}
 use Rattle.std.proofs.lemmas.Bool.{eq-eqb}
 use Rattle.std.proofs.lemmas.List.{length-set}
 use Rattle.std.proofs.lemmas.Option.{slice_get_within}
@@ -17,11 +18,13 @@ use Rattle.mm_model.specs.ObjectView.{ObjectView, ObjectsByBase}
 use Rattle.mm_model.specs.View.{seen, seen_at, seen_objects, seen_cycle, base_of, view_of}
 use Rattle.mm_model.specs.ViewEffect.{with_found, newborn_view, view_weak_made, view_weak_effect}
 use Rattle.mm_model.proofs.Lists.Growing.{get-front, get-push}
-use Rattle.mm_model.proofs.Lists.Replaced.{get-set_same, get-set_other, get-set_cases, map_live-set, option_get-set_alike}
+use Rattle.mm_model.proofs.Lists.Replaced.{get-set_same, get-set_other, get-set_cases, map_live-set}
+use Rattle.mm_model.proofs.Lists.Replaced.{option_get-set_alike}
 use Rattle.mm_model.proofs.Good.Births.{goes_at}
 use Rattle.mm_model.proofs.Good.Living.{lives_same, lives_inside}
 use Rattle.mm_model.proofs.Places.Placing.{Goes}
-use Rattle.mm_model.proofs.View.Births.{colour-old, colour-newborn, placed-born, lives-newborn, base_of-old, view_with_born-seen}
+use Rattle.mm_model.proofs.View.Births.{colour-old, colour-newborn, placed-born, lives-newborn, base_of-old}
+use Rattle.mm_model.proofs.View.Births.{view_with_born-seen}
 use Rattle.mm_model.proofs.View.CommonBases.{seen_at-base, seen_at-alike}
 use Rattle.mm_model.proofs.View.Entries.{get-with_entry}
 use Rattle.mm_model.proofs.View.Meaning.{object_at-lives}

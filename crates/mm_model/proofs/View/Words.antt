@@ -1,5 +1,6 @@
 -- The words of a state's view, and how often counted places hold a base.
-use Rattle.std.proofs.Common.{◌≡◌, ℕ, ◌+◌, Bool, true, false, not, cond, List, [], ◌∷◌, ◌++◌, map, take, drop, Some, refl, sym, ap, ◌∙◌}
+use Rattle.std.proofs.Common.{◌≡◌, ℕ, ◌+◌, Bool, true, false, not, cond, List, [], ◌∷◌, ◌++◌, map, take, drop, Some}
+use Rattle.std.proofs.Common.{refl, sym, ap, ◌∙◌}
 use mathlib.Core.Path.{fun_ext}
 use Rattle.std.proofs.lemmas.List.Sums.{sum_by-append}
 use Rattle.std.specs.Prelude.{◌&&◌, ◌==◌, if◌then◌else◌}
@@ -8,7 +9,8 @@ use Rattle.std.specs.Option.{option_map}
 use Rattle.mm_model.specs.Value.{Value, words_of}
 use Rattle.mm_model.specs.Object.{Object, is_live, is_counted, is_scanned, live_objects}
 use Rattle.mm_model.specs.State.{State, Area}
-use Rattle.mm_model.specs.Words.{SlotKind, if_scanned, counted_slots, word_slots, counted_cells, scanned_cells, area_words, root_words, counted_cell_words, falls}
+use Rattle.mm_model.specs.Words.{SlotKind, if_scanned, counted_slots, word_slots, counted_cells, scanned_cells}
+use Rattle.mm_model.specs.Words.{area_words, root_words, counted_cell_words, falls}
 use Rattle.mm_model.specs.Meaning.{falls_in}
 use Rattle.mm_model.specs.Count.{refs, zero_count, names_counted}
 use Rattle.mm_model.specs.Areas.{area_at}
@@ -19,7 +21,9 @@ use Rattle.mm_model.specs.ByBase.{Based, based}
 use Rattle.mm_model.specs.ObjectView.{ObjectView, counted_words_of, word_words_of, references_in}
 use Rattle.mm_model.specs.SetsByBase.{count_at, is_zero_count_at}
 use Rattle.mm_model.specs.View.{AreaView, seen, seen_objects, seen_area, view_of}
-use Rattle.mm_model.specs.ViewWords.{begins_counted_in, falls_in_counted_of, area_in, counted_cells_of, scanned_cells_of, view_root_words, marking_words, outside_references, view_zero_count, view_refuses_word}
+use Rattle.mm_model.specs.ViewWords.{begins_counted_in, falls_in_counted_of, area_in, counted_cells_of}
+use Rattle.mm_model.specs.ViewWords.{scanned_cells_of, view_root_words, marking_words, outside_references}
+use Rattle.mm_model.specs.ViewWords.{view_zero_count, view_refuses_word}
 use Rattle.mm_model.proofs.Lists.KeyedSums.{count-flat_map}
 use Rattle.mm_model.proofs.View.Seen.{any-seen, sum-seen, count-seen}
 

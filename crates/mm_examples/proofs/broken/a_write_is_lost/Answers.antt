@@ -10,7 +10,8 @@ use Rattle.mm_model.specs.Turns.{Turn, Born}
 use Rattle.mm_laws.proofs.Turning.Knowing.{turn_of}
 use Rattle.mm_laws.proofs.Turning.Looks.{weak-idle}
 use Rattle.mm_laws.proofs.Turning.Remembering.{Knows}
-use Rattle.mm_examples.specs.Broken.{Promise, References, Protected, WeakReferences, Collections, Cycles, Apart, KeepsAt}
+use Rattle.mm_examples.specs.Broken.{Promise, References, Protected, WeakReferences, Collections, Cycles, Apart}
+use Rattle.mm_examples.specs.Broken.{KeepsAt}
 use Rattle.mm_examples.proofs.Breaking.{AreChecked, are_turns, front, before, front-known, breaks-last}
 use Rattle.mm_model.specs.declared.command.Command.TheVariants.{Push, Get, Put}
 use Rattle.mm_model.specs.declared.object.Kind.TheVariants.{Traced}
@@ -29,7 +30,8 @@ abbrev lines : List Line
 lines = word 0 ∷ []
 
 abbrev object : Object
-object = record (newborn (record { kind = Traced; finalize = false; counted = 0; slots = 4 }) 4096) { slots = integer 7 ∷ integer 0 ∷ integer 0 ∷ integer 0 ∷ [] }
+object = record (newborn (record { kind = Traced; finalize = false; counted = 0; slots = 4 }) 4096)
+    { slots = integer 7 ∷ integer 0 ∷ integer 0 ∷ integer 0 ∷ [] }
 
 abbrev born : Born
 born = record { base = 4096; shape = record { kind = Traced; finalize = false; counted = 0; slots = 4 }; target = None }

@@ -1,5 +1,6 @@
 -- One part costs 65 at most, and leaves the object gray.
-use Rattle.std.proofs.Common.{◌≡◌, ℕ, zero, suc, false, List, length, drop, sum, ap, subst, [], ◌∷◌, Some, None, refl, sym, ◌∙◌, arith}
+use Rattle.std.proofs.Common.{◌≡◌, ℕ, zero, suc, false, List, length, drop, sum, ap, subst, [], ◌∷◌, Some, None, refl}
+use Rattle.std.proofs.Common.{sym, ◌∙◌, arith}
 use Rattle.std.proofs.lemmas.List.{length-take}
 use Rattle.mm_model.specs.declared.command.Command.{Command}
 use Rattle.mm_model.specs.declared.command.Command.TheVariants.{Begin, Step}

@@ -65,4 +65,5 @@ no_step : IsStep a (Step 1) lines (after a (Step 1) lines) → ⊥
 no_step step = some 4096 [] (scans_none a 1 lines (after a (Step 1) lines) none refl step)
 
 pub returns : goal.returns
-returns c = λ b legal. not_legal usual (omega arith) first groups last (refl, (refl, (refl, tt))) refl here refl no_step b legal
+returns c = λ b legal. not_legal usual (omega arith) first groups last (refl, (refl, (refl, tt))) refl here refl no_step
+    b legal

@@ -19,7 +19,8 @@ loop-at-preserved g c =
       within = grind (arith, common_steps, write.within);
       front = front_grows _ _ _ _ _ _ before.front (grind (arith, common_steps, write.appended));
       keeps =
-          kept_front_grows _ _ _ _ _ _ _ before.keeps (rw (← before.same_room) (grind (arith, common_steps, write.kept)));
+          kept_front_grows _ _ _ _ _ _ _ before.keeps
+          (rw (← before.same_room) (grind (arith, common_steps, write.kept)));
       told = StillTells-append _ _ _ _ _ _ (take c.loop-at.at c.args.bytes.now) (grind (arith, common_steps))
           before.front before.told (rw before.same_room at write.told);
       same_room = write.same_room ∙ before.same_room;

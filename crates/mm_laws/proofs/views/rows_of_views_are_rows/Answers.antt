@@ -9,5 +9,10 @@ pub returns : goal.returns
 returns c =
     λ view a command log left good shows m.
     let one = row-shown a good command log left
-    (subst (λ v. IsViewRow v command log left) (shown-is view a shows) m) in
-    (one.effect, one.row, one.same.reply, subst (λ v. Shows v one.effect.state) (sym one.same.view) (view_of-shows one.effect.state))
+    (subst (λ v. IsViewRow v command log left) (shown-is view a shows) m) in (
+      one.effect,
+      one.row,
+      one.same.reply,
+      subst (λ v. Shows v one.effect.state) (sym one.same.view)
+          (view_of-shows one.effect.state),
+    )

@@ -217,7 +217,8 @@ make_spec 𝓤 𝓛 𝓜 𝓡 wired A L g d dd met md =
     let pair : Val = pair_val (run_val p n) (allocation_val p n) in
     let RunSaid : Type 0 = IsRun x a 0 n [] in
     let AllocationSaid : Type 0 = (h ≡ h) × (n ≡ n) × (n ≡ n) in
-    use0 𝓛 (‵ (allocation_own p n (allocation_val p n ∷ []))) (allocation_made 𝓛 p n small) $ fjoin ! $ move ! (1 ∷ []) $
+    use0 𝓛 (‵ (allocation_own p n (allocation_val p n ∷ []))) (allocation_made 𝓛 p n small) $ fjoin ! $ move ! (1 ∷ [])
+    $
     use0 𝓛 (‵ (run_own p n (run_val p n ∷ []))) (run_made 𝓛 p n small) $ fjoin ! $
     use2 𝓛 (‵ (Pair.own_val (x, k) (pair ∷ []))) (pair_of 𝓛 runs.the_row (allocation.the_row Z g) x k (run_val p n)
     (allocation_val p n)) $

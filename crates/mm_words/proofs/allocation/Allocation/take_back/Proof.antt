@@ -44,7 +44,8 @@ use denote.Triple.Entry.{alive}
 use denote.Triple.Walked.{Stays, stay_dropped, walk_of}
 use Rattle.core.proofs.alloc.Calls.{Goes-blank}
 use Rattle.std.proofs.raw_atomic.Walks.{proved_at, leaves}
-use Rattle.mm_words.proofs.Values.{slot_at, run_val, run_told, allocation_val, allocation_own, allocation_told, allocation_made}
+use Rattle.mm_words.proofs.Values.{slot_at, run_val, run_told, allocation_val, allocation_own, allocation_told}
+use Rattle.mm_words.proofs.Values.{allocation_made}
 use Rattle.mm_words.proofs.Debts.{settles}
 use Rattle.mm_words.proofs.Runs.{run_blanks}
 use Rattle.mm_words.specs.Piece.{Name}

@@ -195,7 +195,8 @@ weigh_spec 𝓤 𝓛 𝓜 𝓡 wired A L g d dd met md =
     rewrite ! 0 (λ (q : Ptr). ‵ (run_own w.ptr w.len (run_val q w.len ∷ []))) w.lies refl $ fjoin ! $
     use2 𝓛 (‵ (Runs.own_val (w, y) (pair_val vw vy ∷ []))) (pair_of 𝓛 runs.the_row runs.the_row w y vw vy) $
     move ! (1 ∷ []) $
-    use0 𝓛 (‵ (allocation_own x.ptr x.total (allocation_val x.ptr x.total ∷ []))) (allocation_made 𝓛 x.ptr x.total fits) $
+    use0 𝓛 (‵ (allocation_own x.ptr x.total (allocation_val x.ptr x.total ∷ []))) (allocation_made 𝓛 x.ptr x.total fits)
+    $
     rewrite ! 0 (λ (q : Ptr). ‵ (allocation_own x.ptr x.total (allocation_val q x.total ∷ []))) x.lies refl $ fjoin ! $
     use2 𝓛 (‵ ((Tuple (allocation.the_row Z g ∷ Runs ∷ [])).own_val (x, (w, y)) (pair_val v (pair_val vw vy) ∷ [])))
     (pair_of 𝓛 (allocation.the_row Z g) Runs x (w, y) v (pair_val vw vy)) $
