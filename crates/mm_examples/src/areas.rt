@@ -1,9 +1,11 @@
 // Traces with areas.
-ghost use Rattle.std.specs.Prelude.{◌∷◌, []};
+ghost use Rattle.std.specs.Prelude.{◌≡◌, ◌∷◌, [], length};
 ghost use Rattle.mm_model.specs.declared.command.Command.TheVariants.{Pop, Inner, Root, Fixed, DropArea, AreaGet};
 ghost use Rattle.mm_model.specs.declared.command.Command.TheVariants.{AreaPut, Reap, Collect, Map, Stat};
 ghost use Rattle.mm_model.specs.declared.object.Kind.TheVariants.{Traced, Counted};
-ghost use Rattle.mm_model.specs.declared.refusal.Refusal.TheVariants.{NoArea, NoSlot};
+ghost use Rattle.mm_model.specs.declared.refusal.Refusal.TheVariants.{NoArea, NoSlot, AreasFull, Shape};
+ghost use Rattle.mm_model.specs.State.{State, one_more_command};
+ghost use Rattle.mm_model.specs.Step.{IsStep};
 ghost use Rattle.mm_examples.specs.Examples.{IsLogOf, usual, new, made, word, area, stat, done, nothing, refused};
 ghost use Rattle.mm_examples.specs.Examples.{reaped, collected, freed, total};
 
@@ -23,4 +25,14 @@ pub fn areas()
     ensures inner_word { IsLogOf usual
         (new Traced 0 4 ∷ Root 0 1 ∷ Inner 0 31 ∷ AreaPut 0 0 0 ∷ Pop 2 ∷ Collect ∷ [])
         (made 4096 ∷ area 0 8192 ∷ word 4127 ∷ done ∷ done ∷ collected 0 ∷ done ∷ total 6 1 0 1 ∷ []) }
+{}
+
+/// Where 1,024 areas live, there is no other one. A bad shape is told first.
+pub fn all_numbers_taken()
+    ensures root { (a : State) → length a.areas ≡ 1024 →
+        IsStep a (Root 1 2) (refused AreasFull ∷ []) (one_more_command a) }
+    ensures fixed { (a : State) → length a.areas ≡ 1024 →
+        IsStep a (Fixed 1) (refused AreasFull ∷ []) (one_more_command a) }
+    ensures shape_first { (a : State) → length a.areas ≡ 1024 →
+        IsStep a (Root 2 1) (refused Shape ∷ []) (one_more_command a) }
 {}
