@@ -2,7 +2,7 @@
 ghost use Rattle.std.specs.Prelude.{◌≡◌, ◌≢◌, ◌+◌, ◌/◌, ◌<◌, ◌≤◌, ℕ, IfOk, slice_index};
 ghost use Rattle.mm_pages.specs.Parked.{AreParked, AreAllParked};
 ghost use Rattle.mm_model.specs.ByBase.{Begins};
-ghost use Rattle.mm_fixed.specs.Fixed.{Block, OutBlock, IsOut};
+ghost use Rattle.mm_fixed.specs.Fixed.{Block, OutBlock, IsOut, IsParked};
 
 use crate::{Fixed, FixedBlock, fixed_words};
 use mm_cells::{Cells, cells_words};
@@ -89,6 +89,7 @@ impl Trial {
         requires most { bytes ≤ 4194300 }
         ensures out { IfOk result (λ block. IsOut self.new.fixed block) }
         ensures kept { (other : OutBlock) → IsOut self.old.fixed other → IsOut self.new.fixed other }
+        ensures parked { (base : ℕ) → IsParked self.old.fixed base → IsParked self.new.fixed base }
     {
         self.fixed.alloc(&mut self.heap, bytes, steps)
     }
@@ -99,6 +100,24 @@ impl Trial {
             → IsOut self.new.fixed other }
     {
         self.fixed.free(&mut self.heap, block, steps);
+    }
+
+    fn park(&mut self, block: FixedBlock) -> u32
+        requires out { IsOut self.old.fixed block }
+        ensures base { result ≡ block.base }
+        ensures there { IsParked self.new.fixed result }
+    {
+        self.fixed.park(block)
+    }
+
+    fn unpark(&mut self, base: u32) -> FixedBlock
+        requires parked { IsParked self.old.fixed base }
+        ensures base { result.base ≡ base }
+        ensures out { IsOut self.new.fixed result }
+        ensures kept { (other : OutBlock) → other.base ≢ base → IsOut self.old.fixed other
+            → IsOut self.new.fixed other }
+    {
+        self.fixed.unpark(base)
     }
 
     // All cells and blocks must have been given back.
@@ -165,4 +184,47 @@ fn work_places<L: Ledger, R: Abort>(rt: &R, alloc: Global, blank: Blank) -> Resu
 #[test]
 fn objects_and_blocks_share_no_page(rt: HostRuntime) -> Result<(), Fail> {
     work_places::<Brand, HostRuntime>(&rt, rt.alloc(), Blank::new(1))
+}
+
+fn work_parking<L: Ledger, R: Abort>(rt: &R, alloc: Global, blank: Blank) -> Result<(), Fail>
+    requires name { blank.name ≡ L.name }
+    requires parts { blank.parts ≡ L.parts }
+    requires shared { 0 < L.parts }
+{
+    let mut steps: Steps<L> = Steps::open(blank);
+    let mut trial = Trial::open(alloc, 2)?;
+    let low = match trial.alloc(20, &mut steps) {
+        Ok(block) => block,
+        Err(NoRun) => rt.abort(),
+    };
+    let base = trial.park(low);
+    assert_eq!(rt; base, 4096);
+    assert_eq!(rt; trial.fixed.extent(base), 32);
+    let high = match trial.alloc(20, &mut steps) {
+        Ok(block) => block,
+        Err(NoRun) => rt.abort(),
+    };
+    assert_eq!(rt; high.base(), 4128);
+    let back = trial.unpark(base);
+    assert_eq!(rt; back.base(), 4096);
+    assert_eq!(rt; back.extent(), 32);
+    if high.base() == back.base() {
+        rt.abort();
+    }
+    trial.free(back, &mut steps);
+    trial.free(high, &mut steps);
+    match trial.alloc(20, &mut steps) {
+        Ok(again) => {
+            assert_eq!(rt; again.base(), 4096);
+            trial.free(again, &mut steps);
+        }
+        Err(NoRun) => rt.abort(),
+    }
+    trial.close(rt, &mut steps);
+    Ok(())
+}
+
+#[test]
+fn a_parked_block_is_out_again_where_it_was(rt: HostRuntime) -> Result<(), Fail> {
+    work_parking::<Brand, HostRuntime>(&rt, rt.alloc(), Blank::new(1))
 }
