@@ -301,3 +301,93 @@ fn work_scanned<L: Ledger, R: Abort>(rt: &R, alloc: Global, blank: Blank) -> Res
 fn the_scanned_areas_come_by_their_numbers(rt: HostRuntime) -> Result<(), Fail> {
     work_scanned::<Brand, HostRuntime>(&rt, rt.alloc(), Blank::new(1))
 }
+
+fn work_pages<L: Ledger, R: Abort>(rt: &R, alloc: Global, blank: Blank) -> Result<(), Fail>
+    requires name { blank.name ≡ L.name }
+    requires parts { blank.parts ≡ L.parts }
+    requires shared { 0 < L.parts }
+{
+    let mut steps: Steps<L> = Steps::open(blank);
+    let mut trial = Trial::open(alloc, 4)?;
+    // 4,100 bytes, which take two pages.
+    assert_eq!(rt; trial.add(true, 0, 1025, &mut steps), made(0, 4096));
+    assert_eq!(rt; trial.add(false, 0, 1, &mut steps), made(1, 12288));
+    assert_eq!(rt;
+        trial.areas.shape(0),
+        Some(AreaShape {
+            scanned: true,
+            counted: 0,
+            cells: 1025,
+            base: 4096,
+            extent: 8192,
+        })
+    );
+    assert_eq!(rt; trial.set_cell(0, 0, 7, &mut steps), Ok(()));
+    assert_eq!(rt; trial.set_cell(0, 1024, 8, &mut steps), Ok(()));
+    assert_eq!(rt; trial.set_cell(1, 0, 9, &mut steps), Ok(()));
+    assert_eq!(rt; trial.cell(0, 0, &mut steps), Ok(Slot::Word(7)));
+    assert_eq!(rt; trial.cell(0, 1023, &mut steps), Ok(Slot::Word(0)));
+    assert_eq!(rt; trial.cell(0, 1024, &mut steps), Ok(Slot::Word(8)));
+    assert_eq!(rt; trial.cell(0, 1025, &mut steps), Err(AreaRefusal::NoSlot));
+    assert_eq!(rt; trial.cell(1, 0, &mut steps), Ok(Slot::Raw(9)));
+    assert_eq!(rt; trial.remove(0, &mut steps), Ok(()));
+    assert_eq!(rt; trial.remove(1, &mut steps), Ok(()));
+    trial.close(rt, &mut steps);
+    Ok(())
+}
+
+#[test]
+fn an_area_of_whole_pages_has_cells_to_its_last(rt: HostRuntime) -> Result<(), Fail> {
+    work_pages::<Brand, HostRuntime>(&rt, rt.alloc(), Blank::new(1))
+}
+
+// Areas of one cell, with all numbers from 0 on.
+fn fill<L: Ledger>(trial: &mut Trial, count: u32, steps: &mut Steps<L>) -> bool
+    requires most { count ≤ 1024 }
+    requires beside { IsBeside trial.old.areas trial.old.heap }
+    ensures beside { IsBeside trial.new.areas trial.new.heap }
+{
+    for a in 0..count {
+        if trial.add(false, 0, 1, steps) != made(a, 4096 + 16 * a) {
+            return false;
+        }
+    }
+    true
+}
+
+fn remove_all<L: Ledger>(trial: &mut Trial, count: u32, steps: &mut Steps<L>)
+    requires beside { IsBeside trial.old.areas trial.old.heap }
+    ensures beside { IsBeside trial.new.areas trial.new.heap }
+{
+    for a in 0..count {
+        let _ = trial.remove(a, steps);
+    }
+}
+
+fn work_full<L: Ledger, R: Abort>(rt: &R, alloc: Global, blank: Blank) -> Result<(), Fail>
+    requires name { blank.name ≡ L.name }
+    requires parts { blank.parts ≡ L.parts }
+    requires shared { 0 < L.parts }
+{
+    let mut steps: Steps<L> = Steps::open(blank);
+    // The areas take pages 1 to 4, and page 5 has room for another one.
+    let mut trial = Trial::open(alloc, 6)?;
+    assert!(rt; fill(&mut trial, 1024, &mut steps));
+    assert_eq!(rt; trial.set_cell(1023, 0, 7, &mut steps), Ok(()));
+    assert_eq!(rt;
+        trial.add(false, 0, 1, &mut steps),
+        Err(AreaRefusal::AreasFull)
+    );
+    assert_eq!(rt; trial.areas.live(), 1024);
+    assert_eq!(rt; trial.cell(1023, 0, &mut steps), Ok(Slot::Raw(7)));
+    assert_eq!(rt; trial.remove(700, &mut steps), Ok(()));
+    assert_eq!(rt; trial.add(false, 0, 1, &mut steps), made(700, 15296));
+    remove_all(&mut trial, 1024, &mut steps);
+    trial.close(rt, &mut steps);
+    Ok(())
+}
+
+#[test]
+fn after_1024_areas_a_number_must_be_given_back(rt: HostRuntime) -> Result<(), Fail> {
+    work_full::<Brand, HostRuntime>(&rt, rt.alloc(), Blank::new(1))
+}
