@@ -137,6 +137,21 @@ impl Trial {
         can
     }
 
+    // The region loses its last page, if no object lies there.
+    fn shrink(&mut self) -> bool {
+        let pages = self.heap.size() - 1;
+        let top = self.pages.top();
+        if pages < 2 {
+            return false;
+        }
+        if pages < top {
+            return false;
+        }
+        self.heap.resize(&mut self.arena, pages);
+        self.pages.set_limit(pages);
+        true
+    }
+
     // All objects must have been taken away.
     fn close<L: Ledger>(self, rt: &impl Abort, steps: &mut Steps<L>) {
         let Trial {
@@ -379,6 +394,68 @@ fn work_growth<L: Ledger, R: Abort>(rt: &R, alloc: Global, blank: Blank) -> Resu
 #[test]
 fn a_region_that_grows_by_a_page_has_room_for_another_object(rt: HostRuntime) -> Result<(), Fail> {
     work_growth::<Brand, HostRuntime>(&rt, rt.alloc(), Blank::new(1))
+}
+
+fn work_shrinking<L: Ledger, R: Abort>(rt: &R, alloc: Global, blank: Blank) -> Result<(), Fail>
+    requires name { blank.name ≡ L.name }
+    requires parts { blank.parts ≡ L.parts }
+    requires shared { 0 < L.parts }
+{
+    let mut steps: Steps<L> = Steps::open(blank);
+    let mut trial = Trial::open(alloc, 3, 3)?;
+    assert_eq!(rt; trial.create(PAGE, &mut steps), Some(4096));
+    assert_eq!(rt; trial.create(PAGE, &mut steps), Some(8192));
+    assert!(rt; trial.set_slot(4096, 1019, 7, &mut steps));
+    assert!(rt; trial.set_slot(8192, 0, 8, &mut steps));
+    assert!(rt; !trial.shrink());
+    assert!(rt; trial.erase(8192, &mut steps));
+    assert!(rt; trial.shrink());
+    assert_eq!(rt; trial.heap.size(), 2);
+    assert_eq!(rt; trial.create(PAGE, &mut steps), None);
+    assert_eq!(rt; trial.slot_word(4096, 1019, &mut steps), Some(7));
+    assert!(rt; trial.grow());
+    assert_eq!(rt; trial.create(PAGE, &mut steps), Some(8192));
+    assert_eq!(rt; trial.slot_word(8192, 0, &mut steps), Some(0));
+    assert!(rt; trial.erase(4096, &mut steps));
+    assert!(rt; trial.erase(8192, &mut steps));
+    trial.close(rt, &mut steps);
+    Ok(())
+}
+
+#[test]
+fn a_region_that_shrinks_by_a_page_has_no_room_there(rt: HostRuntime) -> Result<(), Fail> {
+    work_shrinking::<Brand, HostRuntime>(&rt, rt.alloc(), Blank::new(1))
+}
+
+fn work_largest<L: Ledger, R: Abort>(rt: &R, alloc: Global, blank: Blank) -> Result<(), Fail>
+    requires name { blank.name ≡ L.name }
+    requires parts { blank.parts ≡ L.parts }
+    requires shared { 0 < L.parts }
+{
+    let mut steps: Steps<L> = Steps::open(blank);
+    let mut trial = Trial::open(alloc, 1025, 1026)?;
+    // 4,194,316 bytes, which take 1,025 pages beside page 0.
+    assert_eq!(rt; trial.create(traced(1048575), &mut steps), None);
+    assert!(rt; trial.grow());
+    assert_eq!(rt; trial.create(traced(1048575), &mut steps), Some(4096));
+    assert_eq!(rt; trial.extent(4096, &mut steps), Some(4198400));
+    assert!(rt; trial.set_slot(4096, 1048574, 7, &mut steps));
+    assert!(rt; !trial.set_slot(4096, 1048575, 8, &mut steps));
+    assert_eq!(rt; trial.slot_word(4096, 1048574, &mut steps), Some(7));
+    assert_eq!(rt; trial.slot_word(4096, 1048573, &mut steps), Some(0));
+    assert_eq!(rt;
+        trial.heap.look_up(4202495, &mut steps),
+        found(4096, traced(1048575))
+    );
+    assert_eq!(rt; trial.heap.look_up(4202496, &mut steps), None);
+    assert!(rt; trial.erase(4096, &mut steps));
+    trial.close(rt, &mut steps);
+    Ok(())
+}
+
+#[test]
+fn the_largest_object_takes_1025_pages(rt: HostRuntime) -> Result<(), Fail> {
+    work_largest::<Brand, HostRuntime>(&rt, rt.alloc(), Blank::new(1))
 }
 
 fn work_beside<L: Ledger, R: Abort>(rt: &R, alloc: Global, blank: Blank) -> Result<(), Fail>
