@@ -10,7 +10,8 @@ use Rattle.mm_cells.specs.Cells as cells
 use Rattle.mm_cells.specs.Cells.{Taken, Cells, with_cell, newly_taken, IsTaken, IsSoundCells}
 use Rattle.mm_cells.specs.Placing.{LeavesPage}
 use Rattle.mm_fixed.specs.Fixed.{Block, Fixed, OutBlock, with_block, with_run, block_out, IsSoundFixed}
-use Rattle.mm_fixed.specs.Kept.{colour_of, cell_of, cells_of, fixed_of, KeepsBlocks}
+use Rattle.mm_fixed.specs.Cells.{colour_of, cell_of, cells_of}
+use Rattle.mm_fixed.specs.Kept.{fixed_of, KeepsBlocks}
 use Rattle.mm_fixed.specs.Placing.{base_in}
 use Rattle.mm_fixed.proofs.Shown.{kept-shown, cells_of-with_block, begins-cell}
 use Rattle.mm_fixed.proofs.Sound.{IsSoundFixed-cells}

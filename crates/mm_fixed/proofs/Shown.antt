@@ -9,7 +9,8 @@ use Rattle.mm_words.specs.Location.{Location}
 use Rattle.mm_cells.specs.Cells as cells
 use Rattle.mm_cells.specs.Cells.{Taken, Cells, with_cell}
 use Rattle.mm_fixed.specs.Fixed.{Block, Fixed, fresh, with_block}
-use Rattle.mm_fixed.specs.Kept.{colour_of, cell_of, cells_of, is_parked, block_of, fixed_of, KeepsBlocks}
+use Rattle.mm_fixed.specs.Cells.{colour_of, cell_of, cells_of}
+use Rattle.mm_fixed.specs.Kept.{is_parked, block_of, fixed_of, KeepsBlocks}
 
 is_parked-colour_of : (parked : Bool) → is_parked (colour_of parked) ≡ parked
 is_parked-colour_of true = refl

@@ -7,7 +7,7 @@ use Rattle.mm_model.proofs.Places.SizeClasses.{class_bounds}
 use Rattle.mm_cells.specs.Cells as cells
 use Rattle.mm_cells.specs.Cells.{Taken, Cells, IsSoundCells}
 use Rattle.mm_fixed.specs.Fixed.{Block, Fixed, piece_at, HasNoBlock, IsSoundFixed}
-use Rattle.mm_fixed.specs.Kept.{cell_of, cells_of}
+use Rattle.mm_fixed.specs.Cells.{cell_of, cells_of}
 use Rattle.mm_fixed.proofs.Shown.{begins-cell, begins-block}
 
 -- a block lies where its cell would lie as an object

@@ -1,3 +1,4 @@
+pub mod Cells
 pub mod Fixed
 pub mod Kept
 pub mod Placing

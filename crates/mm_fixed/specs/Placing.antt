@@ -4,7 +4,7 @@ use Rattle.mm_model.specs.declared.object.Size.{Size}
 use Rattle.mm_pages.specs.Pages.{Pages}
 use Rattle.mm_cells.specs.Placing.{IsPlaceFor}
 use Rattle.mm_fixed.specs.Fixed.{Fixed, OutBlock}
-use Rattle.mm_fixed.specs.Kept.{cells_of}
+use Rattle.mm_fixed.specs.Cells.{cells_of}
 
 -- the place for a block of this size, by the rule for cells
 abbrev pub IsPlaceForBlock : Fixed → Pages → Size → Option ℕ → Type 0

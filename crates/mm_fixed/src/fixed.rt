@@ -9,7 +9,7 @@ ghost use Rattle.mm_cells.specs.Map.{table_size};
 ghost use Rattle.mm_cells.specs.Placing.{run_length, LeavesPage};
 ghost use Rattle.mm_fixed.specs.Fixed.{fresh, with_block, with_run, block_out, block_parked, out_at};
 ghost use Rattle.mm_fixed.specs.Fixed.{IsOut, IsParked, HasNoBlock, HasNoBlockAt, IsSoundFixed};
-ghost use Rattle.mm_fixed.specs.Kept.{cells_of};
+ghost use Rattle.mm_fixed.specs.Cells.{cells_of};
 ghost use Rattle.mm_fixed.specs.Placing.{IsPlaceForBlock, base_in};
 
 use crate::block::FixedBlock;

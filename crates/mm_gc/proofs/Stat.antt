@@ -10,7 +10,7 @@ use Rattle.mm_model.specs.ViewEffect.{view_stat, view_free_pages}
 use Rattle.mm_model.specs.ViewWords.{view_region_pages, outside_references}
 use Rattle.mm_pages.specs.Pages.{is_free_page, count_below}
 use Rattle.mm_object.specs.Heap.{cells_in}
-use Rattle.mm_fixed.specs.Kept.{cells_of}
+use Rattle.mm_fixed.specs.Cells.{cells_of}
 use Rattle.mm_gc.specs.declared.region.Region.{Region}
 use Rattle.mm_gc.specs.Gc.{Gc, areas_in, pieces_in, view_of_gc}
 use Rattle.mm_gc.specs.Kept.{KeepsGc}

@@ -10,7 +10,7 @@ ghost use Rattle.mm_pages.specs.Parked.{AreParked, HaveNoCommonRun, AreAllParked
 ghost use Rattle.mm_cells.specs.Placing.{run_length, found_in, LeavesPage};
 ghost use Rattle.mm_object.specs.Heap.{Heap, IsSound, FitsHeap};
 ghost use Rattle.mm_fixed.specs.Fixed.{with_block, with_run, block_parked, IsParked, HasNoBlockAt, IsSoundFixed};
-ghost use Rattle.mm_fixed.specs.Kept.{cells_of};
+ghost use Rattle.mm_fixed.specs.Cells.{cells_of};
 ghost use Rattle.mm_fixed.specs.Placing.{IsPlaceForBlock};
 ghost use Rattle.mm_roots.specs.declared.area_shape.AreaShape.{AreaShape};
 ghost use Rattle.mm_roots.specs.Areas.{area_at, with_area, over, live_areas, placed_at, AddCause};

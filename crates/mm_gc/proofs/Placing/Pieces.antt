@@ -16,8 +16,8 @@ use Rattle.mm_cells.specs.Cells.{Taken, Begins}
 use Rattle.mm_object.specs.Object.{StoredObject, view_of_stored, views_of}
 use Rattle.mm_object.specs.Heap.{Heap, cell_of, cells_in}
 use Rattle.mm_fixed.specs.Fixed.{Fixed}
-use Rattle.mm_fixed.specs.Kept as fixed
-use Rattle.mm_fixed.specs.Kept.{cells_of}
+use Rattle.mm_fixed.specs.Cells as fixed
+use Rattle.mm_fixed.specs.Cells.{cells_of}
 use Rattle.mm_fixed.proofs.Shown.{begins-cell, begins-block}
 use Rattle.mm_gc.specs.Pieces.{piece_in, HasCell, ArePieces, AreBlocks}
 

@@ -14,7 +14,7 @@ use Rattle.mm_cells.specs.Cells.{Cells}
 use Rattle.mm_cells.specs.Placing.{LeavesPage, Page_stays, Page_goes}
 use Rattle.mm_object.specs.Heap.{Heap, IsSound, FitsHeap}
 use Rattle.mm_fixed.specs.Fixed.{Block, Fixed, with_block}
-use Rattle.mm_fixed.specs.Kept.{cells_of}
+use Rattle.mm_fixed.specs.Cells.{cells_of}
 use Rattle.mm_fixed.specs.Placing.{IsPlaceForBlock}
 use Rattle.mm_roots.specs.declared.area_shape.AreaShape.{AreaShape}
 use Rattle.mm_roots.specs.declared.area_shape.AreaRefusal.{AreaRefusal}

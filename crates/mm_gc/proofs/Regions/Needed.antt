@@ -9,7 +9,7 @@ use Rattle.mm_pages.specs.Pages.{IsHighestUsed, EndsBy}
 use Rattle.mm_object.specs.Object.{StoredObjects, views_of}
 use Rattle.mm_object.specs.Heap as objects
 use Rattle.mm_object.specs.Heap.{cells_in}
-use Rattle.mm_fixed.specs.Kept.{cells_of}
+use Rattle.mm_fixed.specs.Cells.{cells_of}
 use Rattle.mm_gc.specs.declared.region.Region.{Region}
 use Rattle.mm_gc.specs.Gc.{objects_in, areas_in, pieces_in, pages_needed}
 use Rattle.mm_gc.specs.Kept.{KeepsRegion}

@@ -12,7 +12,7 @@ use Rattle.mm_cells.specs.Cells.{Taken, IsSoundCells}
 use Rattle.mm_cells.specs.Marks.{IsFlags}
 use Rattle.mm_object.specs.Heap.{cells_in}
 use Rattle.mm_fixed.specs.Fixed.{Fixed, piece_at, IsSoundFixed}
-use Rattle.mm_fixed.specs.Kept.{cell_of, cells_of}
+use Rattle.mm_fixed.specs.Cells.{cell_of, cells_of}
 use Rattle.mm_fixed.proofs.Shown.{begins-cell, begins-block}
 use Rattle.mm_gc.specs.declared.region.Region.{Region}
 use Rattle.mm_gc.specs.Gc.{objects_in, areas_in, pieces_in}

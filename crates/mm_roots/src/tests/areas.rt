@@ -355,13 +355,16 @@ fn fill<L: Ledger>(trial: &mut Trial, count: u32, steps: &mut Steps<L>) -> bool
     true
 }
 
-fn remove_all<L: Ledger>(trial: &mut Trial, count: u32, steps: &mut Steps<L>)
+fn remove_all<L: Ledger>(trial: &mut Trial, count: u32, steps: &mut Steps<L>) -> bool
     requires beside { IsBeside trial.old.areas trial.old.heap }
     ensures beside { IsBeside trial.new.areas trial.new.heap }
 {
     for a in 0..count {
-        let _ = trial.remove(a, steps);
+        if trial.remove(a, steps).is_err() {
+            return false;
+        }
     }
+    true
 }
 
 fn work_full<L: Ledger, R: Abort>(rt: &R, alloc: Global, blank: Blank) -> Result<(), Fail>
@@ -382,7 +385,7 @@ fn work_full<L: Ledger, R: Abort>(rt: &R, alloc: Global, blank: Blank) -> Result
     assert_eq!(rt; trial.cell(1023, 0, &mut steps), Ok(Slot::Raw(7)));
     assert_eq!(rt; trial.remove(700, &mut steps), Ok(()));
     assert_eq!(rt; trial.add(false, 0, 1, &mut steps), made(700, 15296));
-    remove_all(&mut trial, 1024, &mut steps);
+    assert!(rt; remove_all(&mut trial, 1024, &mut steps));
     trial.close(rt, &mut steps);
     Ok(())
 }

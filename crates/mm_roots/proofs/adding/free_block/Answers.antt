@@ -3,7 +3,7 @@ use Rattle.std.proofs.lemmas.List.{set-set}
 use Rattle.mm_pages.specs.Parked.{HaveNoCommonRun, AreAllParked}
 use Rattle.mm_cells.specs.Placing.{LeavesPage}
 use Rattle.mm_fixed.specs.Fixed.{Fixed, OutBlock, with_block, block_out}
-use Rattle.mm_fixed.specs.Kept.{cells_of}
+use Rattle.mm_fixed.specs.Cells.{cells_of}
 use Rattle.mm_roots.proofs.Blocks.{leaves-from}
 use Rattle.mm_roots.proofs.adding.free_block.Given.{Over}
 use Rattle.mm_roots.proofs.adding.free_block.Goals as goal

@@ -9,7 +9,8 @@ use Rattle.mm_model.specs.declared.object.Colour.TheVariants.{White}
 use Rattle.mm_cells.specs.Cells.{Cells, newly_taken}
 use Rattle.mm_cells.specs.Placing.{IsPlaceFor, run_length}
 use Rattle.mm_fixed.specs.Fixed.{Fixed, with_block, with_run, block_out}
-use Rattle.mm_fixed.specs.Kept.{cells_of, fixed_of}
+use Rattle.mm_fixed.specs.Cells.{cells_of}
+use Rattle.mm_fixed.specs.Kept.{fixed_of}
 use Rattle.mm_fixed.specs.Placing.{IsPlaceForBlock}
 use Rattle.mm_fixed.proofs.Clear.{run_length-some, placed-clear}
 use Rattle.mm_fixed.proofs.Kept.{keeps, taken-kept, placed-kept, sound-shown, base_in-err}

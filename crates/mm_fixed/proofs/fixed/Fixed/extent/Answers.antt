@@ -1,6 +1,6 @@
 -- A parked block begins there.
 use Rattle.mm_fixed.specs.Fixed.{block_parked}
-use Rattle.mm_fixed.specs.Kept.{cell_of}
+use Rattle.mm_fixed.specs.Cells.{cell_of}
 use Rattle.mm_fixed.proofs.Kept.{taken-kept, sound-shown}
 use Rattle.mm_fixed.proofs.Shown.{kept-shown}
 use Rattle.mm_fixed.proofs.fixed.Fixed.extent.Goals as goal

@@ -4,7 +4,8 @@ use Rattle.std.specs.Prelude.{None}
 use Rattle.mm_model.specs.ByBase.{Begins}
 use Rattle.mm_pages.specs.Parked.{HaveNoCommonRun, AreAllParked}
 use Rattle.mm_fixed.specs.Fixed.{Fixed, OutBlock, block_out, with_block}
-use Rattle.mm_fixed.specs.Kept.{cells_of, fixed_of}
+use Rattle.mm_fixed.specs.Cells.{cells_of}
+use Rattle.mm_fixed.specs.Kept.{fixed_of}
 use Rattle.mm_cells.proofs.Region.Places.{run-some}
 use Rattle.mm_fixed.proofs.Clear.{left-clear}
 use Rattle.mm_fixed.proofs.Kept.{keeps, taken-kept, gone-kept, page-kept, sound-shown}

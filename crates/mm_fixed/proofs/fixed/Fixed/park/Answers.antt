@@ -3,7 +3,7 @@ use Rattle.std.proofs.Common.{◌≡◌, ℕ, true, refl, sym, ap, subst}
 use Rattle.std.specs.Prelude.{Some}
 use Rattle.mm_model.specs.ByBase.{Begins}
 use Rattle.mm_fixed.specs.Fixed.{Fixed, OutBlock, block_parked, block_out, with_block, IsParked}
-use Rattle.mm_fixed.specs.Kept.{cells_of}
+use Rattle.mm_fixed.specs.Cells.{cells_of}
 use Rattle.mm_fixed.proofs.Kept.{keeps, taken-kept, painted-kept, begins-written, sound-shown}
 use Rattle.mm_fixed.proofs.Shown.{kept-shown, shown-kept}
 use Rattle.mm_fixed.proofs.fixed.Fixed.park.Goals as goal

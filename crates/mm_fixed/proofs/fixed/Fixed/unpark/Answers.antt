@@ -5,7 +5,7 @@ use Rattle.mm_model.specs.ByBase.{Begins}
 use Rattle.mm_words.specs.Location.{Location}
 use Rattle.mm_cells.specs.Cells.{Cells}
 use Rattle.mm_fixed.specs.Fixed.{Fixed, block_parked, block_out, out_at, with_block, IsOut}
-use Rattle.mm_fixed.specs.Kept.{cells_of}
+use Rattle.mm_fixed.specs.Cells.{cells_of}
 use Rattle.mm_fixed.proofs.Kept.{keeps, taken-kept, painted-kept, begins-written, sound-shown}
 use Rattle.mm_fixed.proofs.Shown.{kept-shown, shown-kept}
 use Rattle.mm_fixed.proofs.fixed.Fixed.unpark.Goals as goal

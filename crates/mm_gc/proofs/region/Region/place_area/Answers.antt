@@ -2,7 +2,7 @@ use Rattle.std.proofs.Common.{arith, Some, None, sym, ap, ◌∙◌, subst}
 use Rattle.mm_model.specs.SizeClass.{area_bytes}
 use Rattle.mm_pages.specs.Pages.{Pages}
 use Rattle.mm_object.specs.Heap.{Heap, cells_in}
-use Rattle.mm_fixed.specs.Kept.{cells_of}
+use Rattle.mm_fixed.specs.Cells.{cells_of}
 use Rattle.mm_roots.specs.Areas as areas
 use Rattle.mm_gc.specs.Gc.{areas_in, pieces_in}
 use Rattle.mm_gc.specs.Kept.{KeepsRegion}

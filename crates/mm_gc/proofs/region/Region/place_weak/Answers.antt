@@ -1,6 +1,6 @@
 use Rattle.std.proofs.Common.{◌∙◌}
 use Rattle.mm_object.specs.Heap.{cells_in}
-use Rattle.mm_fixed.specs.Kept.{cells_of}
+use Rattle.mm_fixed.specs.Cells.{cells_of}
 use Rattle.mm_weak.specs.Links.{made_in}
 use Rattle.mm_gc.specs.Gc.{pieces_in}
 use Rattle.mm_gc.proofs.Placing.Places.{object_place}

@@ -2,7 +2,7 @@ use Rattle.std.proofs.Common.{◌≡◌, ◌/◌, ℕ, List, Option, None, not, 
 use Rattle.std.specs.Prelude.{◌==◌, is_some}
 use Rattle.std.specs.List.{filter, count_by}
 use Rattle.mm_fixed.specs.Fixed.{Fixed}
-use Rattle.mm_fixed.specs.Kept.{cells_of}
+use Rattle.mm_fixed.specs.Cells.{cells_of}
 use Rattle.mm_pages.specs.Parked.{HaveNoCommonRun, AreAllParked}
 use Rattle.mm_roots.specs.declared.area_shape.AreaShape.{AreaShape}
 use Rattle.mm_roots.specs.Areas.{Areas, with_area, over, IsSoundAreas, IsBeside, OwnsAll}

@@ -6,7 +6,7 @@ use Rattle.mm_pages.specs.Pages.{Pages}
 use Rattle.mm_cells.specs.Placing.{LeavesPage}
 use Rattle.mm_cells.proofs.Region.Empty.{table-left}
 use Rattle.mm_fixed.specs.Fixed.{Fixed, with_block}
-use Rattle.mm_fixed.specs.Kept.{cells_of}
+use Rattle.mm_fixed.specs.Cells.{cells_of}
 use Rattle.mm_roots.specs.declared.area_shape.AreaShape.{AreaShape}
 use Rattle.mm_roots.specs.declared.area_shape.AreaRefusal.{AreaRefusal}
 use Rattle.mm_roots.specs.Areas.{Areas, area_at, with_area, over, RemoveCause}
