@@ -40,7 +40,8 @@ module _ (h : Heap) (sound : IsSound h) where
   composite_at-zero : (word : ℕ) → word ≡ 0 → composite_at h.objects word ≡ composite_in 0
   composite_at-zero word e = ap (composite_at h.objects) e ∙ composite_at-none h.objects none
 
-  pub table_raised-zero : (table : Table) (word : ℕ) → word ≡ 0 → table ≡ table_raised table (composite_at h.objects word)
+  pub table_raised-zero : (table : Table) (word : ℕ) → word ≡ 0
+      → table ≡ table_raised table (composite_at h.objects word)
   table_raised-zero table word e = ap (table_raised table) (sym (composite_at-zero word e))
 
   pub table_lowered-zero : (table : Table) (word : ℕ) → word ≡ 0

@@ -1,5 +1,6 @@
 -- Runs that stay clear of those of another family in the same page heap.
-use Rattle.std.proofs.Common.{◌≡◌, ℕ, zero, suc, ◌/◌, ◌<◌, inl, inr, List, length, set, slice_index, refl, arith, sym, ◌∙◌, ap, subst}
+use Rattle.std.proofs.Common.{◌≡◌, ℕ, zero, suc, ◌/◌, ◌<◌, inl, inr, List, length, set, slice_index, refl, arith, sym}
+use Rattle.std.proofs.Common.{◌∙◌, ap, subst}
 use Rattle.std.specs.Prelude.{Some}
 use Rattle.std.proofs.lemmas.Bool.{cases_eq, cases_lt}
 use Rattle.std.proofs.lemmas.List.{length-set, get_or-set_same, get_or-set_other, get_or_past}
@@ -71,7 +72,8 @@ set-clear own page count runs none clear at some = elim (cases_eq at page) [
 ]
 
 -- where one goes
-gone-clear : (own : List ℕ) (page : ℕ) (runs : List ℕ) → HaveNoCommonRun own runs → HaveNoCommonRun (set own page 0) runs
+gone-clear : (own : List ℕ) (page : ℕ) (runs : List ℕ) → HaveNoCommonRun own runs
+    → HaveNoCommonRun (set own page 0) runs
 gone-clear own page runs clear at some = elim (cases_eq at page) [
   | inl e ↦ absurd (elim (cases_lt page (length own)) [
     | inl h ↦ omega (arith, some, ap (slice_index (set own page 0)) e, get_or-set_same own page 0 0 h)
@@ -91,10 +93,12 @@ pub placed-clear : (v after : Cells) (heap : heaps.Pages) (size : Size) (base : 
     HaveNoCommonRun after.runs runs
 placed-clear v after heap size base runs sound some place is parked clear =
     subst (λ (own : List ℕ). HaveNoCommonRun own runs) (sym is)
-    (set-clear v.runs (base / 4096) (run_length size) runs (place-clear v heap size base runs sound some place parked clear)
+    (set-clear v.runs (base / 4096) (run_length size) runs
+    (place-clear v heap size base runs sound some place parked clear)
     clear)
 
-pub left-clear : (v after : Cells) (heap now : heaps.Pages) (page : ℕ) (runs : List ℕ) → LeavesPage v after heap page now →
+pub left-clear : (v after : Cells) (heap now : heaps.Pages) (page : ℕ) (runs : List ℕ)
+    → LeavesPage v after heap page now →
     HaveNoCommonRun v.runs runs → HaveNoCommonRun after.runs runs
 left-clear v after heap now page runs (Page_stays base cell begins inside is) clear =
     subst (λ (own : List ℕ). HaveNoCommonRun own runs) (sym is) clear

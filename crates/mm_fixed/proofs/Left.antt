@@ -42,7 +42,8 @@ AreAllParked-swap runs others heap all = λ page. omega (arith, all page)
 
 -- a block stays out while the entry for another base changes
 pub out-beside : (v after : Fixed) (block : OutBlock) (base : ℕ) (entry : Option Block) → after.table ≡ v.table →
-    after.blocks ≡ with_entry base entry v.blocks → (block.base / 16 ≡ base / 16 → ⊥) → IsOut v block → IsOut after block
+    after.blocks ≡ with_entry base entry v.blocks → (block.base / 16 ≡ base / 16 → ⊥) → IsOut v block
+    → IsOut after block
 out-beside v after block base entry table blocks other out =
     let grain : block.base / 16 ≡ out.begins.grain = omega (arith, out.begins.aligned) in
     record {

@@ -1,5 +1,6 @@
 -- What is made at a place that a search may find leaves a good state shown.
-use Rattle.std.proofs.Common.{◌≡◌, ℕ, ◌≤◌, ◌⊎◌, ⊎_elim, Bool, false, Option, Some, None, IfSome, length, refl, sym, ap, ◌∙◌, subst, arith}
+use Rattle.std.proofs.Common.{◌≡◌, ℕ, ◌≤◌, ◌⊎◌, ⊎_elim, Bool, false, Option, Some, None, IfSome, length, refl, sym, ap}
+use Rattle.std.proofs.Common.{◌∙◌, subst, arith}
 use Rattle.std.proofs.lemmas.List.{length-map}
 use Rattle.std.specs.Prelude.{◌==◌}
 use Rattle.std.specs.Option.{option_and_then}
@@ -65,10 +66,16 @@ place-within a good family bytes base at =
 -- the view of a state that is good
 shows-same : (v : ViewEffect) (e : Effect) → SameEffect v e → IsGood e.state → IsShowing v.view
 shows-same v e same good =
-    record { state = e.state; good = good; shows = subst (λ view. Shows view e.state) (sym same.view) (view_of-shows e.state) }
+    record {
+      state = e.state;
+      good = good;
+      shows = subst (λ view. Shows view e.state) (sym same.view)
+          (view_of-shows e.state);
+    }
 
 object_of_state : (a : State) → IsGood a → (shape : Shape) → is_bad_shape shape ≡ false → (found : Option ℕ)
-    → IsPlaceOf (view_of a) Objects (object_bytes shape.slots) found → IsShowing (view_new_effect (view_of a) shape found).view
+    → IsPlaceOf (view_of a) Objects (object_bytes shape.slots) found
+    → IsShowing (view_new_effect (view_of a) shape found).view
 object_of_state a good shape accepted None at = record { state = a; good = good; shows = view_of-shows a }
 object_of_state a good shape accepted (Some base) at =
     let within = place-within a good Objects (object_bytes shape.slots) base at in
@@ -105,7 +112,8 @@ area-shows view showing scanned counted cells accepted raw room found at =
     let is = shown-is view showing.state showing.shows in
     let a = showing.state in
     let full : are_areas_full a ≡ false =
-    ap (λ n. n == most_areas) (sym (length-map a.areas seen_area)) ∙ ap (λ (v : View). length v.areas == most_areas) (sym is) ∙ room in
+    ap (λ n. n == most_areas) (sym (length-map a.areas seen_area))
+    ∙ ap (λ (v : View). length v.areas == most_areas) (sym is) ∙ room in
     subst (λ v. IsShowing (view_area_effect v scanned counted cells found).view) (sym is)
     (area_of_state a showing.good scanned counted cells accepted raw full found
     (subst (λ v. IsPlaceOf v Areas (area_bytes cells) found) is at))
@@ -120,7 +128,8 @@ alone-seen a birth object (Some other) paired e =
 weak_of_state : (a : State) → IsGood a → (base : ℕ) (target : ObjectView) → Begins (seen_objects a) base target
     → target.partner ≡ None → is_weak target.kind ≡ false → (found : Option ℕ)
     → IsPlaceOf (view_of a) Objects (object_bytes 0) found → IsShowing (view_weak_effect (view_of a) base found).view
-weak_of_state a good base target begins alone strong None at = record { state = a; good = good; shows = view_of-shows a }
+weak_of_state a good base target begins alone strong None at = record
+    { state = a; good = good; shows = view_of-shows a }
 weak_of_state a good base target begins alone strong (Some place) at =
     let one = seen-begins a base target begins in
     let within = place-within a good Objects (object_bytes 0) place at in

@@ -157,7 +157,8 @@ module _ (objects : ObjectsByBase) (words : List ℕ) where
       (white_reached by reached)
 
   pub collects-whitened : (dead : List ℕ)
-      → AreBasesAt (changed (with_colour White) objects) (IsUnreachedAt (changed (with_colour White) objects) words) dead
+      → AreBasesAt (changed (with_colour White) objects) (IsUnreachedAt (changed (with_colour White) objects) words)
+      dead
       → AreBasesAt objects (IsUnreachedAt objects words) dead
   unfolding whitened
   collects-whitened dead bases =

@@ -15,7 +15,8 @@ use Rattle.mm_mark.specs.Marker.{Marker, ShowsMarking, marking}
 use Rattle.mm_mark.specs.Colours.{IsSameButColours}
 use Rattle.mm_gc.specs.Counts.{HasCounts}
 use Rattle.mm_gc.specs.Stores.{cycle_with}
-use Rattle.mm_gc.proofs.Outlines.{HaveOneOutline, white-alike, references-coloured, alike-right, alike-counted, alike-listed}
+use Rattle.mm_gc.proofs.Outlines.{HaveOneOutline, white-alike, references-coloured, alike-right, alike-counted}
+use Rattle.mm_gc.proofs.Outlines.{alike-listed}
 use Rattle.mm_gc.proofs.Outlines.{alike-unpinned, alike-links, linked-kept}
 
 module _ (before after : Heap) (same : IsSameButColours before after) where

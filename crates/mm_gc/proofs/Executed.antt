@@ -1,5 +1,6 @@
 -- From a row to a step: the reap at the end of a command, and the count of commands.
-use Rattle.std.proofs.Common.{◌≡◌, ℕ, ◌+◌, Bool, true, false, not, ◌&&◌, List, [], ◌∷◌, ◌++◌, Option, Some, None, refl, sym, ap, ◌∙◌, subst}
+use Rattle.std.proofs.Common.{◌≡◌, ℕ, ◌+◌, Bool, true, false, not, ◌&&◌, List, [], ◌∷◌, ◌++◌, Option, Some, None, refl}
+use Rattle.std.proofs.Common.{sym, ap, ◌∙◌, subst}
 use Rattle.std.proofs.lemmas.List.{append-nil}
 use Rattle.std.specs.Prelude.{if◌then◌else◌}
 use Rattle.std.specs.Prelude.{slice_get}
@@ -20,9 +21,12 @@ use Rattle.mm_model.specs.ViewWords.{object_at, view_meant, area_in, cell_kind_o
 use Rattle.mm_model.specs.Store.{is_counted_slot}
 use Rattle.mm_model.specs.ViewTests.{view_refusal}
 use Rattle.mm_model.specs.ViewStore.{view_store_reply}
-use Rattle.mm_model.specs.ViewEffect.{ViewEffect, with_found, view_done, view_pushed, view_pushes, view_look_effect, view_map_reply, view_plain_effect, view_put_effect, view_area_put_effect, view_new_effect, view_weak_effect, view_area_effect, view_weak_made}
+use Rattle.mm_model.specs.ViewEffect.{ViewEffect, with_found, view_done, view_pushed, view_pushes, view_look_effect}
+use Rattle.mm_model.specs.ViewEffect.{view_map_reply, view_plain_effect, view_put_effect, view_area_put_effect}
+use Rattle.mm_model.specs.ViewEffect.{view_new_effect, view_weak_effect, view_area_effect, view_weak_made}
 use Rattle.mm_gc.specs.Ending.{is_refused}
-use Rattle.mm_model.specs.ViewStep.{IsViewRow, ViewRowUnless, IsViewStep, IsViewStepUnless, ViewCarries, ViewMakesWeak, ViewEnds, ViewIsPlain, one_more_counted}
+use Rattle.mm_model.specs.ViewStep.{IsViewRow, ViewRowUnless, IsViewStep, IsViewStepUnless, ViewCarries, ViewMakesWeak}
+use Rattle.mm_model.specs.ViewStep.{ViewEnds, ViewIsPlain, one_more_counted}
 
 -- it refuses as full, or it refuses nothing
 record RefusesAtMostFull (reply : Reply) : Type 0 where
@@ -151,7 +155,8 @@ carries_full view (commands.Root counted cells) log effect m =
     of_effect effect (view_area_effect m.left true counted cells m.found) m.effect_is
     (area_full m.left true counted cells m.found)
 carries_full view (commands.Fixed cells) log effect m =
-    of_effect effect (view_area_effect m.left false 0 cells m.found) m.effect_is (area_full m.left false 0 cells m.found)
+    of_effect effect (view_area_effect m.left false 0 cells m.found) m.effect_is
+    (area_full m.left false 0 cells m.found)
 carries_full view commands.Reap log effect m = done_full effect.reply m.1
 carries_full view commands.Collect log effect m = done_full effect.reply m.1
 carries_full view (commands.Step k) log effect m = done_full effect.reply m.1
@@ -165,7 +170,8 @@ carries_full view (commands.Put i s j) log effect m = plain_full view (commands.
 carries_full view (commands.Look i) log effect m = plain_full view (commands.Look i) log effect m
 carries_full view (commands.DropArea number) log effect m = plain_full view (commands.DropArea number) log effect m
 carries_full view (commands.AreaGet number s) log effect m = plain_full view (commands.AreaGet number s) log effect m
-carries_full view (commands.AreaPut number s j) log effect m = plain_full view (commands.AreaPut number s j) log effect m
+carries_full view (commands.AreaPut number s j) log effect m = plain_full view (commands.AreaPut number s j) log effect
+    m
 carries_full view commands.Begin log effect m = plain_full view commands.Begin log effect m
 carries_full view (commands.Map i) log effect m = plain_full view (commands.Map i) log effect m
 carries_full view commands.Stat log effect m = plain_full view commands.Stat log effect m

@@ -66,7 +66,8 @@ module _ (objects : ObjectsByBase) (white : AreWhite objects) (words : List ℕ)
       let one = from_shaded objects words base o h in
       IsReachedAt.By_root base one.before one.begins (split one (names_at words base one.before) refl)
     where
-      split : (one : IsShadedFrom objects words base o) (b : Bool) → names_at words base one.before ≡ b → IsTrue (names_at words base one.before)
+      split : (one : IsShadedFrom objects words base o) (b : Bool) → names_at words base one.before ≡ b
+          → IsTrue (names_at words base one.before)
       split one true e = e
       split one false e =
           let w = white base one.before one.begins in
@@ -93,12 +94,14 @@ module _ (objects : ObjectsByBase) (white : AreWhite objects) (words : List ℕ)
   reached_is_kept base (IsReachedAt.By_slot _ o by holder h k named reached) =
       split (reached_is_kept by reached) (names_at words base o) refl
     where
-      split : IsKeptAtFinishAt (grayed objects words) by → (b : Bool) → names_at words base o ≡ b → IsKeptAtFinishAt (grayed objects words) base
+      split : IsKeptAtFinishAt (grayed objects words) by → (b : Bool) → names_at words base o ≡ b
+          → IsKeptAtFinishAt (grayed objects words) base
       split kept true e =
           IsKeptAtFinishAt.Already base (shaded objects words base o) (shaded-begins objects words base o h)
           (ap (λ (x : ObjectView). x.colour) (shaded-named objects words base o (white base o h) e))
       split kept false e =
-          IsKeptAtFinishAt.By_slot base (shaded objects words base o) by (shaded objects words by holder) (shaded-begins objects words base o h)
+          IsKeptAtFinishAt.By_slot base (shaded objects words base o) by (shaded objects words by holder)
+          (shaded-begins objects words base o h)
           (ap (λ (x : ObjectView). x.colour) (shaded-unnamed objects words base o (white base o h) e) ∙ white base o h)
           (shaded-begins objects words by holder k)
           (ap (λ ws. names_at ws base (shaded objects words base o)) (scanned-shaded objects words by holder)

@@ -32,9 +32,11 @@ pub row-refused : (view : View) (command : Command) (because : Refusal) → Refu
     → IsViewRow view command [] (record { view = view; reply = replies.Refused because })
 row-refused view command because e =
     subst (λ found. ViewRowUnless found view command [] (record { view = view; reply = replies.Refused because }))
-    (sym (refuses-is (refusal_row (tests_of_view view) command) (Some because) e)) (record { no_lines = refl; effect_is = refl })
+    (sym (refuses-is (refusal_row (tests_of_view view) command) (Some because) e))
+    (record { no_lines = refl; effect_is = refl })
 
 pub row-carried : (view : View) (command : Command) (log : List Line) (effect : ViewEffect)
     → RefusesIn view command None → ViewCarries view command log effect → IsViewRow view command log effect
 row-carried view command log effect e carries =
-    subst (λ found. ViewRowUnless found view command log effect) (sym (refuses-is (refusal_row (tests_of_view view) command) None e)) carries
+    subst (λ found. ViewRowUnless found view command log effect)
+    (sym (refuses-is (refusal_row (tests_of_view view) command) None e)) carries

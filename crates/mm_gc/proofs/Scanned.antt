@@ -1,5 +1,6 @@
 -- Scans one after the other, and when they are enough.
-use Rattle.std.proofs.Common.{◌≡◌, ℕ, ◌+◌, ◌-◌, ◌<◌, ◌≤◌, List, [], ◌∷◌, ◌++◌, take, length, sum, refl, sym, ap, ◌∙◌, subst, arith}
+use Rattle.std.proofs.Common.{◌≡◌, ℕ, ◌+◌, ◌-◌, ◌<◌, ◌≤◌, List, [], ◌∷◌, ◌++◌, take, length, sum, refl, sym, ap, ◌∙◌}
+use Rattle.std.proofs.Common.{subst, arith}
 use Rattle.std.proofs.Math.Seq.{take-append_seam}
 use Rattle.std.proofs.lemmas.List.{length-append, length-map}
 use Rattle.std.proofs.lemmas.List.Sums.{sum_by-append, sum_by-cons}
@@ -17,7 +18,8 @@ pub scans-push : (view left : View) (os : List (Based ObjectView)) (o : Based Ob
     → ViewScansAll view (os ++ o ∷ []) (log ++ lines.Scan o.base (length (view_part_slots left o)) ∷ [])
     (view_part_done left o)
 scans-push view left [] o log h may =
-    subst (λ now. ViewScansAll view (o ∷ []) (log ++ lines.Scan o.base (length (view_part_slots now o)) ∷ []) (view_part_done now o))
+    subst (λ now. ViewScansAll view (o ∷ []) (log ++ lines.Scan o.base (length (view_part_slots now o)) ∷ [])
+    (view_part_done now o))
     (sym h.1) (
       [],
       subst (λ now. ViewMayScan now o) h.1 may,
@@ -32,7 +34,8 @@ scans-push view left (p ∷ os) o log h may =
       scans-push (view_part_done view p) left os o h.0 h.3 may,
     )
 
-costs-push : (log : List Line) (base slots : ℕ) → costs (log ++ lines.Scan base slots ∷ []) ≡ costs log ++ (1 + slots) ∷ []
+costs-push : (log : List Line) (base slots : ℕ)
+    → costs (log ++ lines.Scan base slots ∷ []) ≡ costs log ++ (1 + slots) ∷ []
 costs-push [] base slots = refl
 costs-push (line ∷ log) base slots = ap (λ ns. cost line ∷ ns) (costs-push log base slots)
 

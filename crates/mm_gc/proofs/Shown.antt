@@ -31,7 +31,8 @@ row_is_good a command log effect good row = split (refusal a command) refl row
     split (Some because) refused m = subst (λ (e : Effect). IsGood e.state) (sym m.effect_is) good
 
 row-answered : (a : State) → IsGood a → (old new : View) → Shows old a → (command : Command) (log : List Line)
-    (reply : Reply) → IsViewRow old command log (record { view = new; reply = reply }) → IsAnswered new command log reply a
+    (reply : Reply) → IsViewRow old command log (record { view = new; reply = reply })
+    → IsAnswered new command log reply a
 row-answered a good old new shows command log reply row =
     let shown = row-shown a good command log (record { view = new; reply = reply })
     (subst (λ view. IsViewRow view command log (record { view = new; reply = reply })) (shown-is old a shows) row) in

@@ -182,7 +182,8 @@ module _ (h : Heap) (base s word : ℕ) (object : StoredObject) (begins : Begins
       let middle = written_at base s word h in
       linked-kept middle after (keeps-links middle.objects after.objects keeps)
       (linked-kept h middle
-      (alike-links h.objects middle.objects (subst (HaveOneOutline h.objects) (sym written_at-is) written-alike)) linked)
+      (alike-links h.objects middle.objects (subst (HaveOneOutline h.objects) (sym written_at-is) written-alike))
+      linked)
 
   -- Where the slot isn't counted.
   module _ (plain : is_counted_slot (slot_kind_of (view_of_stored object) s) ≡ false) where

@@ -1,5 +1,6 @@
 -- The entries of the zero-count table are as many as there are zero-count objects.
-use Rattle.std.proofs.Common.{◌≡◌, ℕ, suc, Bool, true, false, ◌&&◌, not, cond, eqb-true, List, [], ◌∷◌, map, length, Option, Some, None, refl, sym, ap, ◌∙◌, subst, arith}
+use Rattle.std.proofs.Common.{◌≡◌, ℕ, suc, Bool, true, false, ◌&&◌, not, cond, eqb-true, List, [], ◌∷◌, map, length}
+use Rattle.std.proofs.Common.{Option, Some, None, refl, sym, ap, ◌∙◌, subst, arith}
 use Rattle.std.proofs.lemmas.Bool.{eq-eqb}
 use Rattle.std.proofs.lemmas.List.Sums.{sum_by-cons, length-filter}
 use Rattle.std.specs.Prelude.{nat_eq, slice_get, ◌==◌, if◌then◌else◌}
@@ -30,7 +31,8 @@ module _ {X : Type 0} (key : X → ℕ) (test : X → Bool) where
   passing None = None
   passing (Some x) = if test x then Some x else None
 
-  at-none : (xs : List X) (k : ℕ) → AllByRecursion (λ n. nat_eq k n ≡ false) (map key xs) → at key (filter test xs) k ≡ None
+  at-none : (xs : List X) (k : ℕ) → AllByRecursion (λ n. nat_eq k n ≡ false) (map key xs)
+      → at key (filter test xs) k ≡ None
   at-none [] k h = refl
   at-none (x ∷ xs) k h =
       let rest = at-none xs k h.1 in
@@ -51,7 +53,8 @@ module _ {X : Type 0} (key : X → ℕ) (test : X → Bool) where
     where
       split : at key (filter test xs) k ≡ passing (at key xs k) → (t b : Bool) → test x ≡ t → nat_eq (key x) k ≡ b
           → at key (cond t (x ∷ filter test xs) (filter test xs)) k ≡ passing (cond b (Some x) (at key xs k))
-      split rest true true p q = ap (λ b. cond b (Some x) (at key (filter test xs) k)) q ∙ sym (ap (λ b. if b then Some x else None) p)
+      split rest true true p q = ap (λ b. cond b (Some x) (at key (filter test xs) k)) q
+          ∙ sym (ap (λ b. if b then Some x else None) p)
       split rest true false p q = ap (λ b. cond b (Some x) (at key (filter test xs) k)) q ∙ rest
       split rest false true p q =
           at-none xs k (subst (λ n. AllByRecursion (λ m. nat_eq n m ≡ false) (map key xs)) (eqb-true (key x) k q) d.0)
@@ -67,7 +70,8 @@ sum-ones (x ∷ xs) =
     omega (arith, first, rest)
 
 module _ {X : Type 0} (key : X → ℕ) (test : X → Bool) where
-  each-filter : (P : ℕ → Type 0) (xs : List X) → AllByRecursion P (map key xs) → AllByRecursion P (map key (filter test xs))
+  each-filter : (P : ℕ → Type 0) (xs : List X) → AllByRecursion P (map key xs)
+      → AllByRecursion P (map key (filter test xs))
   each-filter P [] h = tt
   each-filter P (x ∷ xs) h =
       let rest = each-filter P xs h.1 in
@@ -102,7 +106,8 @@ distinct_from : (xs : List ℕ) → ((p q n : ℕ) → slice_get xs p ≡ Some n
     → IsKeyed (λ (n : ℕ). n) xs
 unfolding IsDistinct
 distinct_from [] once = tt
-distinct_from (x ∷ xs) once = (others xs (λ p e. once 0 (suc p) x refl e), distinct_from xs (λ p q n e f. less (once (suc p) (suc q) n e f)))
+distinct_from (x ∷ xs) once =
+    (others xs (λ p e. once 0 (suc p) x refl e), distinct_from xs (λ p q n e f. less (once (suc p) (suc q) n e f)))
   where
     less : {p q : ℕ} → suc p ≡ suc q → p ≡ q
     less e = omega arith
@@ -111,7 +116,8 @@ distinct_from (x ∷ xs) once = (others xs (λ p e. once 0 (suc p) x refl e), di
         → AllByRecursion (λ n. nat_eq x n ≡ false) (map (λ (n : ℕ). n) ys)
     others [] f = tt
     others (y ∷ ys) f = (
-      refuted (nat_eq x y) (λ e. let same = eqb-true x y e in let none = f 0 (ap (λ (n : ℕ). Some n) (sym same)) in omega arith),
+      refuted (nat_eq x y) (λ e. let same = eqb-true x y e in let none = f 0 (ap (λ (n : ℕ). Some n) (sym same)) in
+          omega arith),
       others ys (λ p e. let none = f (suc p) e in omega arith),
     )
 
@@ -148,7 +154,8 @@ module _ (table : Table) (h : Heap) (outside : ℕ → ℕ) (right : IsRight tab
       let zero : count_at (views_of h.objects) outside base ≡ 0 = sym same ∙ told ∙ none in
       together (is_counted object.kind && not (view_of_stored object).sticky)
       (count_at (views_of h.objects) outside base == 0)
-      (together (is_counted object.kind) (not (view_of_stored object).sticky) kind (not-false (view_of_stored object).sticky exact))
+      (together (is_counted object.kind) (not (view_of_stored object).sticky) kind
+      (not-false (view_of_stored object).sticky exact))
       (eq-eqb (count_at (views_of h.objects) outside base) 0 zero)
 
   entry_is_zero : (place base : ℕ) → slice_get table.entries place ≡ Some base
@@ -163,11 +170,13 @@ module _ (table : Table) (h : Heap) (outside : ℕ → ℕ) (right : IsRight tab
       refuted (composite_of entry.object).sticky (λ sticky. let most = composite.sticky sticky in omega arith) in
       let seen = begins_mapped view_of_stored h.objects base entry.object entry.begins in
       let place = based_at (views_of h.objects) base (view_of_stored entry.object) seen in
-      let there = keyed-get (λ (o : Based ObjectView). o.base) (based (views_of h.objects)) (keyed-based (views_of h.objects))
+      let there = keyed-get (λ (o : Based ObjectView). o.base) (based (views_of h.objects))
+      (keyed-based (views_of h.objects))
       place.0 (record { base = base; value = view_of_stored entry.object }) place.1 in
       let passes = is_zero base entry.object entry.begins entry.counted exact none in (
         record { base = base; value = view_of_stored entry.object },
-        at-filter (λ (o : Based ObjectView). o.base) test (based (views_of h.objects)) base (keyed-based (views_of h.objects))
+        at-filter (λ (o : Based ObjectView). o.base) test (based (views_of h.objects)) base
+            (keyed-based (views_of h.objects))
             ∙ ap (passing (λ (o : Based ObjectView). o.base) test) there
             ∙ ap (λ b. if b then Some (record { base = base; value = view_of_stored entry.object }) else None) passes,
       )
@@ -186,7 +195,8 @@ module _ (table : Table) (h : Heap) (outside : ℕ → ℕ) (right : IsRight tab
   unfolding objects test
   zero_is_entry k o e =
       let found = passes_of (at (λ (o : Based ObjectView). o.base) (based (views_of h.objects)) k) o
-      (sym (at-filter (λ (o : Based ObjectView). o.base) test (based (views_of h.objects)) k (keyed-based (views_of h.objects)))
+      (sym (at-filter (λ (o : Based ObjectView). o.base) test (based (views_of h.objects)) k
+      (keyed-based (views_of h.objects)))
       ∙ e) in
       let key = found_key (λ (o : Based ObjectView). o.base) (based (views_of h.objects)) k o found.0 in
       let place = find-Some (λ (o : Based ObjectView). nat_eq o.base k) (based (views_of h.objects)) o found.0 in
@@ -195,7 +205,8 @@ module _ (table : Table) (h : Heap) (outside : ℕ → ℕ) (right : IsRight tab
       let kind_and = both (is_counted o.value.kind && not o.value.sticky)
       (count_at (views_of h.objects) outside o.base == 0) found.1 in
       let kind = both (is_counted o.value.kind) (not o.value.sticky) kind_and.0 in
-      let counted_kind : is_counted stored.value.kind ≡ true = ap (λ (v : ObjectView). is_counted v.kind) stored.is ∙ kind.0 in
+      let counted_kind : is_counted stored.value.kind ≡ true = ap (λ (v : ObjectView). is_counted v.kind) stored.is
+      ∙ kind.0 in
       let exact : (composite_of stored.value).sticky ≡ false =
       ap (λ (v : ObjectView). v.sticky) stored.is ∙ not-true_is o.value.sticky kind.1 in
       let seen = begins_mapped view_of_stored h.objects o.base stored.value stored.begins in

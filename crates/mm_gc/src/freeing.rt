@@ -1,5 +1,6 @@
 // What phases do to the parts of a heap: marking to the end, and freeing what was found.
-ghost use Rattle.std.specs.Prelude.{◌≡◌, ◌≤◌, ◌<◌, ◌^◌, ◌+◌, ◌*◌, ◌-◌, ℕ, false, true, None, IfSome, List, length, take};
+ghost use Rattle.std.specs.Prelude.{◌≡◌, ◌≤◌, ◌<◌, ◌^◌, ◌+◌, ◌*◌, ◌-◌, ℕ, false, true, None, IfSome, List, length};
+ghost use Rattle.std.specs.Prelude.{take};
 ghost use Rattle.mm_model.specs.declared.line.Phase.TheVariants as phases;
 ghost use Rattle.mm_model.specs.declared.object.Colour.TheVariants.{White};
 ghost use Rattle.mm_model.specs.ByBase.{changed};

@@ -1,5 +1,6 @@
 -- Entries of the queue at which no gray object begins, where the queue has room for every object.
-use Rattle.std.specs.Prelude.{◌≡◌, ◌+◌, ◌*◌, ◌/◌, ◌≤◌, ◌<◌, ℕ, false, ⊤, if◌then◌else◌, List, [], ◌∷◌, length, Option, Some, None}
+use Rattle.std.specs.Prelude.{◌≡◌, ◌+◌, ◌*◌, ◌/◌, ◌≤◌, ◌<◌, ℕ, false, ⊤, if◌then◌else◌, List, [], ◌∷◌, length, Option}
+use Rattle.std.specs.Prelude.{Some, None}
 use Rattle.mm_model.specs.declared.object.Colour.TheVariants.{White}
 use Rattle.mm_model.specs.declared.object.Part.{Part}
 use Rattle.mm_model.specs.ByBase.{Begins}

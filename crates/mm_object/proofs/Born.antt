@@ -176,7 +176,8 @@ module _ (memory : Piece) (cells : Cells) (kept : KeepsHeap memory cells) (base 
       ∙ ap (option_map (option_map (object_at memory.words (16 * place.grain))))
       (none (get_or cells.taken place.grain None) (slice_get-get_or cells.taken place.grain None place.within))
     where
-      none : (x : Option Taken) → slice_get cells.taken place.grain ≡ Some x → slice_get cells.taken place.grain ≡ Some None
+      none : (x : Option Taken) → slice_get cells.taken place.grain ≡ Some x
+          → slice_get cells.taken place.grain ≡ Some None
       none None e = e
       none (Some cell) e =
           absurd (place.free cell (record { grain = place.grain; aligned = place.aligned; is = e }))

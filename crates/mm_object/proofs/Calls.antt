@@ -92,8 +92,11 @@ module _ (memory : Piece) (cells : Cells) (kept : KeepsHeap memory cells) (h : H
         → (object : StoredObject) × Covers h word base object
     covers word base cell covering =
         let one = cell-covers memory cells kept word
-        (record { base = base; cell = cell; begins = covering.begins; from = covering.from; to = covering.to }) in
-        (object_at memory.words base cell, subst (λ (v : Heap). Covers v word base (object_at memory.words base cell)) is one)
+        (record { base = base; cell = cell; begins = covering.begins; from = covering.from; to = covering.to }) in (
+          object_at memory.words base cell,
+          subst (λ (v : Heap). Covers v word base (object_at memory.words base cell))
+              is one,
+        )
 
     pub none-covers : (word : ℕ) → ((base : ℕ) (cell : Taken) → cells_specs.Covers cells word base cell → ⊥)
         → FallsInNone h word
@@ -185,7 +188,8 @@ module _ (memory : Piece) (cells : Cells) (kept : KeepsHeap memory cells) (h : H
           → object_told (at-object base object begins).cell
           (set (extent_words memory.words base (at-object base object begins).cell.extent) i word)
           ≡ f (object_at memory.words base (at-object base object begins).cell)
-          → heap_of (with_words memory (set memory.words (base / 4 + i) word)) cells ≡ with_object h base (Some (f object))
+          → heap_of (with_words memory (set memory.words (base / 4 + i) word)) cells ≡ with_object h base
+          (Some (f object))
       set-with i word within f told =
           let at = at-object base object begins in
           heap-set memory cells kept base at.cell at.begins i word within
@@ -198,14 +202,16 @@ module _ (memory : Piece) (cells : Cells) (kept : KeepsHeap memory cells) (h : H
       keep-at i word within =
           let at = at-object base object begins in
           kept-set memory cells kept base at.cell at.begins (suc (suc i)) word within
-          (headed-set at.cell (extent_words memory.words base at.cell.extent) i word (kept.headed base at.cell at.begins))
+          (headed-set at.cell (extent_words memory.words base at.cell.extent) i word
+          (kept.headed base at.cell at.begins))
 
       pub set-link : (word : ℕ) → heap_of (with_words memory (set memory.words (base / 4 + 2) word)) cells
           ≡ with_object h base (Some (record object { link = word }))
       set-link word =
           let at = at-object base object begins in
           set-with 2 word (omega (arith, at.header)) (λ o. record o { link = word })
-          (told-link at.cell (extent_words memory.words base at.cell.extent) word (omega (arith, length-own, at.header)))
+          (told-link at.cell (extent_words memory.words base at.cell.extent) word
+          (omega (arith, length-own, at.header)))
 
       pub keep-link : (word : ℕ) → KeepsHeap (with_words memory (set memory.words (base / 4 + 2) word)) cells
       keep-link word = let at = at-object base object begins in keep-at 0 word (omega (arith, at.header))

@@ -162,7 +162,8 @@ module _ (memory : Piece) (cells : Cells) (kept : KeepsHeap memory cells) (h : H
         ap (λ (v : Cells). raw_from v.taken 0 (written (base / 4) (newborn_words shape) memory.words)) (sym flagged)
         ∙ ap (λ (p : Piece). raw_from after.taken 0 p.words) (sym writes) in
         ap (λ (p : Piece). heap_of p after) writes
-        ∙ ap (λ (v : Cells). heap_of (with_words memory (written (base / 4) (newborn_words shape) memory.words)) v) flagged
+        ∙ ap (λ (v : Cells). heap_of (with_words memory (written (base / 4) (newborn_words shape) memory.words)) v)
+        flagged
         ∙ born-heap memory cells kept base (newborn_cell shape colour) runs place sound_now
         (written (base / 4) (newborn_words shape) memory.words) changes
         ∙ ap (λ (o : StoredObject). record (heap_of memory cells) {

@@ -55,7 +55,8 @@ module _ (memory : Piece) (cells : Cells) (kept : KeepsHeap memory cells) (h : H
       let at = at-object memory cells kept h is base object begins in
       subst (λ (o : StoredObject). LeavesWords h.raw (raw_from after.taken 0 memory.words) base o.extent) (sym at.is)
       (subst (λ (v : Heap). LeavesWords v.raw (raw_from after.taken 0 memory.words) base at.cell.extent) is
-      (subst (λ (v : Cells). LeavesWords (heap_of memory cells).raw (raw_from v.taken 0 memory.words) base at.cell.extent)
+      (subst (λ (v : Cells). LeavesWords (heap_of memory cells).raw (raw_from v.taken 0 memory.words) base
+      at.cell.extent)
       (sym gone) (gone-raw memory cells kept base at.cell at.begins after.runs)))
 
   pub erased-page : (heap left : heaps.Pages) → LeavesPage cells after heap (base / 4096) left

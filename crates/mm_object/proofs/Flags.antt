@@ -4,7 +4,8 @@ use Rattle.mm_cells.specs.declared.marks.CellBits.{CellBits}
 use Rattle.mm_cells.specs.Marks.{IsFlags}
 use Rattle.mm_object.specs.Object.{flags_with, has_finalizer, has_weak_object}
 
-bits : (n : ℕ) → n < 4 → record { 0 = n } ≡ flags_with (has_finalizer (record { 0 = n })) (has_weak_object (record { 0 = n }))
+bits : (n : ℕ) → n < 4
+    → record { 0 = n } ≡ flags_with (has_finalizer (record { 0 = n })) (has_weak_object (record { 0 = n }))
 bits zero h = refl
 bits (suc zero) h = refl
 bits (suc (suc zero)) h = refl

@@ -38,7 +38,8 @@ module _ (memory : Piece) (cells : Cells) (sound : IsSoundCells cells) (empty : 
       (objects-none memory.words 0 cells.taken
       (λ k cell e. empty (16 * k) cell (record { grain = k; aligned = refl; is = e }))
       ∙ ap (λ (n : ℕ). replicate n None) sound.size)
-      ∙ ap (λ (ws : List (Option ℕ)). record (fresh memory cells) { raw = ws }) (raw-none cells.taken 0 memory.words uncovered)
+      ∙ ap (λ (ws : List (Option ℕ)). record (fresh memory cells) { raw = ws })
+      (raw-none cells.taken 0 memory.words uncovered)
 
   pub kept-fresh : length memory.words ≡ 1024 * (length memory.words / 1024) → 2 ≤ length memory.words / 1024
       → length memory.words / 1024 ≤ cells.pages → KeepsHeap memory cells

@@ -72,7 +72,8 @@ object-begins words cells base object h = split (slice_get cells.taken h.grain) 
         absurd (cc)
     split (Some (Some cell)) e =
         let aligned : 16 * h.grain ≡ base = sym h.aligned in
-        let same : ◌≡◌ {A = Option (Option StoredObject)} (Some (Some object)) (Some (Some (object_at words base cell))) =
+        let same : ◌≡◌ {A = Option (Option StoredObject)} (Some (Some object)) (Some (Some (object_at words base cell)))
+        =
         sym h.is ∙ get-objects words cells.taken h.grain
         ∙ ap (λ (x : Option (Option Taken)). option_map (option_map (object_at words (16 * h.grain))) x) e
         ∙ ap (λ (n : ℕ). Some (Some (object_at words n cell))) aligned in
@@ -95,7 +96,8 @@ objects-changed words others taken grain entry within same = same_entries _ _ ea
     here = option_map (object_at others (16 * grain)) entry
 
     old : (x : Option Taken) → slice_get taken grain ≡ Some x
-        → slice_get (slice_set (objects_from words 0 taken) grain (option_map (object_at others (16 * grain)) entry)) grain
+        → slice_get (slice_set (objects_from words 0 taken) grain (option_map (object_at others (16 * grain)) entry))
+        grain
         ≡ Some (option_map (object_at others (16 * grain)) entry)
     old x e =
         get-set_same (objects_from words 0 taken) grain (option_map (object_at words (16 * grain)) x)
@@ -105,7 +107,8 @@ objects-changed words others taken grain entry within same = same_entries _ _ ea
 
     inside : (x : Option (Option Taken)) → slice_get taken grain ≡ x
         → slice_get (objects_from others 0 (slice_set taken grain entry)) grain
-        ≡ slice_get (slice_set (objects_from words 0 taken) grain (option_map (object_at others (16 * grain)) entry)) grain
+        ≡ slice_get (slice_set (objects_from words 0 taken) grain (option_map (object_at others (16 * grain)) entry))
+        grain
     inside None e = absurd (past taken grain within e)
       where
         past : (xs : List (Option Taken)) (n : ℕ) → n < length xs → slice_get xs n ≡ None → ⊥
@@ -130,7 +133,8 @@ objects-changed words others taken grain entry within same = same_entries _ _ ea
       | inl e ↦
           ap (slice_get (objects_from others 0 (slice_set taken grain entry))) e
           ∙ inside (slice_get taken grain) refl
-          ∙ ap (slice_get (slice_set (objects_from words 0 taken) grain (option_map (object_at others (16 * grain)) entry)))
+          ∙ ap (slice_get (slice_set (objects_from words 0 taken) grain
+          (option_map (object_at others (16 * grain)) entry)))
           (sym e)
       | inr d ↦
           get-objects others (slice_set taken grain entry) k
@@ -138,7 +142,8 @@ objects-changed words others taken grain entry within same = same_entries _ _ ea
           (get-set_other taken grain k entry d)
           ∙ alike k d (slice_get taken k) refl
           ∙ sym (get-objects words taken k)
-          ∙ sym (get-set_other (objects_from words 0 taken) grain k (option_map (object_at others (16 * grain)) entry) d)
+          ∙ sym (get-set_other (objects_from words 0 taken) grain k (option_map (object_at others (16 * grain)) entry)
+          d)
     ]
 
 -- all cells tell the same objects

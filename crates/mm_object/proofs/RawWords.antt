@@ -68,7 +68,8 @@ covered-alike cells others address to back = elim (cases_Bool (is_covered cells.
   | inl e ↦ is_covered_at others address (to (covered_by cells address e)) ∙ sym e
   | inr e ↦
       false_from_ne_true (is_covered others.taken address) (λ h.
-      let f : is_covered cells.taken address ≡ true = is_covered_at cells address (back (covered_by others address h)) in
+      let f : is_covered cells.taken address ≡ true = is_covered_at cells address (back (covered_by others address h))
+      in
       absurd (cc))
       ∙ sym e
 ]
@@ -125,7 +126,8 @@ pub raw-same : (cells others : Cells) (words news : List ℕ)
     → raw_from others.taken 0 news ≡ raw_from cells.taken 0 words
 raw-same cells others words news covers same size = same_entries _ _ each
   where
-    both : (i : ℕ) → is_covered cells.taken (4 * i) ≡ true → (x y : Option ℕ) → slice_get words i ≡ x → slice_get news i ≡ y
+    both : (i : ℕ) → is_covered cells.taken (4 * i) ≡ true → (x y : Option ℕ) → slice_get words i ≡ x
+        → slice_get news i ≡ y
         → option_map (kept_raw others.taken i) y ≡ option_map (kept_raw cells.taken i) x
     both i t None None e f = refl
     both i t None (Some b) e f = absurd (omega (arith, slice_get_within news i b f, get-none words i e))
@@ -134,7 +136,8 @@ raw-same cells others words news covers same size = same_entries _ _ each
         ap Some (kept_raw-none others.taken i b (covers i ∙ t) ∙ sym (kept_raw-none cells.taken i a t))
 
     here : (i : ℕ) → (b : Bool) → is_covered cells.taken (4 * i) ≡ b
-        → option_map (kept_raw others.taken i) (slice_get news i) ≡ option_map (kept_raw cells.taken i) (slice_get words i)
+        → option_map (kept_raw others.taken i) (slice_get news i) ≡ option_map (kept_raw cells.taken i)
+        (slice_get words i)
     here i true t = both i t (slice_get words i) (slice_get news i) refl refl
     here i false n =
         ap (option_map (kept_raw others.taken i)) (same i n)

@@ -35,7 +35,12 @@ begun cells grain base entry other one aligned within h =
           is_here (omega arith) (let same : entry ≡ Some one = cc in same)
       | inr d ↦
           is_other (λ e. d (omega arith))
-          (record { grain = h.grain; aligned = h.aligned; is = sym (get-set_other cells.taken grain h.grain entry d) ∙ there })
+          (record {
+            grain = h.grain;
+            aligned = h.aligned;
+            is = sym (get-set_other cells.taken grain h.grain entry d)
+                ∙ there;
+          })
     ]
   where
     slice_get-within : (xs : List (Option Taken)) (i : ℕ) → i < length xs

@@ -61,7 +61,8 @@ module _ (memory : Piece) (cells : Cells) (kept : KeepsHeap memory cells) (h : H
         (subst (λ (v : Heap). Covers v word base object) (sym is) covering) in
         let at = at-object memory cells kept h is base object covering.begins in
         let colour : at.cell.colour ≡ White = sym (ap (λ (o : StoredObject). o.colour) at.is) ∙ white in
-        let to : word < base + at.cell.extent = subst (λ (o : StoredObject). word < base + o.extent) at.is covering.to in
+        let to : word < base + at.cell.extent = subst (λ (o : StoredObject). word < base + o.extent) at.is covering.to
+        in
         none base at.cell (record { begins = at.begins; from = covering.from; to = to }) colour
 
     pub next-of : (colour : Colour) (from base : ℕ) → cells_looking.IsNextOf cells colour from base
@@ -94,7 +95,12 @@ module _ (memory : Piece) (cells : Cells) (kept : KeepsHeap memory cells) (h : H
     to-white : (base : ℕ) (cell : Taken) → Begins cells base cell
         → Begins (all_white cells) base (record cell { colour = White })
     to-white base cell b =
-        record { grain = b.grain; aligned = b.aligned; is = slice_get-map whitened cells.taken b.grain ∙ ap (option_map whitened) b.is }
+        record {
+          grain = b.grain;
+          aligned = b.aligned;
+          is = slice_get-map whitened cells.taken b.grain
+              ∙ ap (option_map whitened) b.is;
+        }
 
     from-white : (base : ℕ) (cell : Taken) → Begins (all_white cells) base cell
         → (one : Taken) × Begins cells base one × (cell ≡ record one { colour = White })

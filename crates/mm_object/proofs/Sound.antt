@@ -110,7 +110,8 @@ module _ (memory : Piece) (cells : Cells) (kept : KeepsHeap memory cells) where
         let one = object-begins memory.words cells base object begins in
         let two = object-begins memory.words cells other_base other others in
         subst (λ (o : StoredObject). AreApart (piece_at base o) (piece_at other_base other)) (sym one.is)
-        (subst (λ (o : StoredObject). AreApart (piece_at base (object_at memory.words base one.cell)) (piece_at other_base o))
+        (subst (λ (o : StoredObject). AreApart (piece_at base (object_at memory.words base one.cell))
+        (piece_at other_base o))
         (sym two.is) (kept.sound.apart base other_base one.cell two.cell one.begins two.begins d));
     covered = λ place base object h.
         let one = covers-cell (4 * place) base object h in

@@ -1,5 +1,6 @@
 -- What a test's heap keeps, none of whose objects is counted, while objects are made, written, linked and freed.
-use Rattle.std.proofs.Common.{◌≡◌, ⊎_elim, ℕ, zero, suc, ◌*◌, ◌/◌, ◌≤◌, Bool, true, false, List, [], ◌∷◌, replicate, take}
+use Rattle.std.proofs.Common.{◌≡◌, ⊎_elim, ℕ, zero, suc, ◌*◌, ◌/◌, ◌≤◌, Bool, true, false, List, [], ◌∷◌, replicate}
+use Rattle.std.proofs.Common.{take}
 use Rattle.std.proofs.Common.{Option, Some, None, Result, Ok, Err, refl, sym, ap, ◌∙◌, subst, arith}
 use Rattle.std.specs.Prelude.{◌==◌, ◌&&◌, not, if◌then◌else◌, IsTrue, IfOk, OnErr, IfSome, slice_get, slice_set}
 use Rattle.std.specs.List.{AllByRecursion}
@@ -24,7 +25,8 @@ use Rattle.mm_count.specs.Counts.{IsCountedBy}
 use Rattle.mm_count.specs.Listed.{AllListed, NonePinned}
 use Rattle.mm_count.proofs.Born.{spelled-blank}
 use Rattle.mm_weak.specs.Links.{IsLinked, IsWeakMade, partner_of, is_linked_target, unlinked, with_weak, newly_weak}
-use Rattle.mm_weak.proofs.Partners.{ArePartners, IsPairedWith, partners-paired, paired-partners, partner-no_link, none-not_some}
+use Rattle.mm_weak.proofs.Partners.{ArePartners, IsPairedWith, partners-paired, paired-partners, partner-no_link}
+use Rattle.mm_weak.proofs.Partners.{none-not_some}
 use Rattle.mm_sweep.specs.Release.{after_release, AreObjects}
 use Rattle.mm_sweep.specs.Sweep.{KeepsWhitened}
 
@@ -147,7 +149,8 @@ linked-born h after base x none is link flag linked =
     linked-kept h after
     (λ b y begins. back b y (replaced h.objects base x b y (subst (λ (os : StoredObjects). Begins os b y) is begins)))
     (λ b z begins.
-    subst (λ (os : StoredObjects). IsAlike os b z) (sym is) (entry-to h.objects base None x none (λ o e. clash o e) b z begins))
+    subst (λ (os : StoredObjects). IsAlike os b z) (sym is)
+    (entry-to h.objects base None x none (λ o e. clash o e) b z begins))
     linked
   where
     clash : (o : StoredObject) → ◌≡◌ {A = Option StoredObject} None (Some o) → AreAlike o x
@@ -368,7 +371,8 @@ pub record KeepsTrial (h after : Heap) (pages now : Pages) : Type 0 where
   pub still : IsStill h after
   pub pages_still : now.table ≡ pages.table
 
-pub trial-made : {E : Type 0} (result : Result ℕ E) (h after : Heap) (pages now : Pages) (shape : Shape) (colour : Colour)
+pub trial-made : {E : Type 0} (result : Result ℕ E) (h after : Heap) (pages now : Pages) (shape : Shape)
+    (colour : Colour)
     (runs : ℕ → List ℕ) (length : ℕ) → is_counted shape.kind ≡ false → shape.counted ≡ 0 → ArePlain h.objects
     → IfOk result (λ base. after ≡ record h {
       objects = with_entry base (Some (newly_stored shape colour)) h.objects;
@@ -392,7 +396,8 @@ trial-made (Err refused) h after pages now shape colour runs length kind counted
       pages_still = ap (λ (x : Pages). x.table) none.1;
     }
 
-pub trial-weak : (made : Option ℕ) (h after : Heap) (pages now : Pages) (base : ℕ) (colour : Colour) → ArePlain h.objects
+pub trial-weak : (made : Option ℕ) (h after : Heap) (pages now : Pages) (base : ℕ) (colour : Colour)
+    → ArePlain h.objects
     → IfSome made (λ w. IsWeakMade h base colour w after)
     → IfSome made (λ w. now ≡ with_parked pages (w / 4096) 1)
     → (made ≡ None → (after ≡ h) × (now ≡ pages))

@@ -1,5 +1,6 @@
 -- Targets with their weak objects: what is known of both, and how a heap stays linked where a couple is made or parted.
-use Rattle.std.proofs.Common.{◌≡◌, ◌≢◌, ℕ, ◌*◌, Bool, true, false, eqb-true, Option, Some, None, refl, sym, ap, subst, ◌∙◌, arith}
+use Rattle.std.proofs.Common.{◌≡◌, ◌≢◌, ℕ, ◌*◌, Bool, true, false, eqb-true, Option, Some, None, refl, sym, ap, subst}
+use Rattle.std.proofs.Common.{◌∙◌, arith}
 use Rattle.std.specs.Prelude.{slice_get, ◌==◌, ◌&&◌, not}
 use Rattle.std.proofs.lemmas.Bool.{eq-eqb}
 use Rattle.mm_model.specs.declared.object.Colour.{Colour}
@@ -9,8 +10,10 @@ use Rattle.mm_model.proofs.View.Entries.{begins_same}
 use Rattle.mm_model.specs.GoodView.{ArePaired}
 use Rattle.mm_object.specs.Object.{StoredObject, StoredObjects, views_of}
 use Rattle.mm_object.specs.Heap.{Heap}
-use Rattle.mm_weak.specs.Links.{IsLinked, IsTargetOf, IsParted, partner_of, is_linked_target, with_weak, newly_weak, unlinked, with_partners}
-use Rattle.mm_weak.proofs.Partners.{partner-link, partner-no_link, link-partner, ArePartners, AreFlagged, partners-paired, paired-partners, partners-changed, flagged-changed}
+use Rattle.mm_weak.specs.Links.{IsLinked, IsTargetOf, IsParted, partner_of, is_linked_target, with_weak, newly_weak}
+use Rattle.mm_weak.specs.Links.{unlinked, with_partners}
+use Rattle.mm_weak.proofs.Partners.{partner-link, partner-no_link, link-partner, ArePartners, AreFlagged}
+use Rattle.mm_weak.proofs.Partners.{partners-paired, paired-partners, partners-changed, flagged-changed}
 
 -- a target and its weak object
 pub record IsCouple (objects : StoredObjects) (base w : ℕ) : Type 0 where
@@ -122,7 +125,8 @@ couple-named h w weak base linked begins kind e =
 pub couple-apart : (objects : StoredObjects) (base w : ℕ) → IsCouple objects base w → base ≡ w → ⊥
 couple-apart objects base w couple same =
     let one =
-    begins_same objects w couple.target couple.weak (subst (λ (n : ℕ). Begins objects n couple.target) same couple.target_begins)
+    begins_same objects w couple.target couple.weak
+    (subst (λ (n : ℕ). Begins objects n couple.target) same couple.target_begins)
     couple.weak_begins in
     not_both (sym couple.target_kind ∙ ap (λ (o : StoredObject). is_weak o.kind) one ∙ couple.weak_kind)
 
@@ -149,8 +153,10 @@ IsLinked-parted h after base w couple linked e = subst IsLinked (sym e) there
         record {
           paired =
               paired-partners _
-              (partners-changed h.objects base couple.target_begins.grain w couple.weak_begins.grain (Some couple.target)
-              (Some couple.weak) (unlinked couple.target) (record couple.weak { link = 0 }) couple.target_begins.aligned couple.weak_begins.aligned
+              (partners-changed h.objects base couple.target_begins.grain w couple.weak_begins.grain
+              (Some couple.target)
+              (Some couple.weak) (unlinked couple.target) (record couple.weak { link = 0 }) couple.target_begins.aligned
+              couple.weak_begins.aligned
               (couple-apart h.objects base w couple) couple.target_begins.is couple.weak_begins.is partners
               (λ at object begins not_base not_w e.
               not_w (sym (named_by h.objects at base object couple.target partners begins couple.target_begins e)
@@ -165,7 +171,8 @@ IsLinked-parted h after base w couple linked e = subst IsLinked (sym e) there
               }));
           flagged =
               flagged-changed h.objects base couple.target_begins.grain w couple.weak_begins.grain (Some couple.target)
-              (Some couple.weak) (unlinked couple.target) (record couple.weak { link = 0 }) couple.target_begins.aligned couple.weak_begins.aligned
+              (Some couple.weak) (unlinked couple.target) (record couple.weak { link = 0 }) couple.target_begins.aligned
+              couple.weak_begins.aligned
               (couple-apart h.objects base w couple) couple.target_begins.is couple.weak_begins.is linked.flagged
               (sym (ap (λ (k : Bool). not k && false) couple.target_kind))
               (linked.flagged w couple.weak couple.weak_begins
@@ -174,7 +181,8 @@ IsLinked-parted h after base w couple linked e = subst IsLinked (sym e) there
         }
 
 pub IsParted-couple : (h after : Heap) (base w : ℕ) (couple : IsCouple h.objects base w)
-    → after ≡ with_partners h base (unlinked couple.target) w (record couple.weak { link = 0 }) → IsParted h base w after
+    → after ≡ with_partners h base (unlinked couple.target) w (record couple.weak { link = 0 })
+    → IsParted h base w after
 IsParted-couple h after base w couple e =
     record {
       target = couple.target;
@@ -187,7 +195,8 @@ IsParted-couple h after base w couple e =
 pub IsLinked-made : (h after : Heap) (base w j : ℕ) (colour : Colour) (target : StoredObject) → IsLinked h
     → Begins h.objects base target → is_weak target.kind ≡ false → target.link ≡ 0 → base ≢ 0 → w ≢ 0 → base ≢ w
     → w ≡ 16 * j → slice_get h.objects j ≡ Some None
-    → after.objects ≡ with_entry base (Some (with_weak w target)) (with_entry w (Some (newly_weak base colour)) h.objects)
+    → after.objects ≡ with_entry base (Some (with_weak w target))
+    (with_entry w (Some (newly_weak base colour)) h.objects)
     → IsLinked after
 IsLinked-made h after base w j colour target linked begins kind alone some_base some_w apart at was_none e =
     record {
@@ -202,7 +211,8 @@ IsLinked-made h after base w j colour target linked begins kind alone some_base 
         → other ≡ base → ⊥
     named object at other begins_at e same =
         let p = partners at object other begins_at e in
-        let own = begins_same h.objects base p.partner target (subst (λ (n : ℕ). Begins h.objects n p.partner) same p.begins) begins in
+        let own = begins_same h.objects base p.partner target
+        (subst (λ (n : ℕ). Begins h.objects n p.partner) same p.begins) begins in
         no_partner (sym (partner-no_link target alone) ∙ ap partner_of (sym own) ∙ p.back)
       where
         no_partner : {n : ℕ} → ◌≡◌ {A = Option ℕ} None (Some n) → ⊥
@@ -231,7 +241,8 @@ IsLinked-made h after base w j colour target linked begins kind alone some_base 
     partners_there : ArePartners
         (with_entry base (Some (with_weak w target)) (with_entry w (Some (newly_weak base colour)) h.objects))
     partners_there =
-        partners-changed h.objects base begins.grain w j (Some target) None (with_weak w target) (newly_weak base colour)
+        partners-changed h.objects base begins.grain w j (Some target) None (with_weak w target)
+        (newly_weak base colour)
         begins.aligned at apart begins.is was_none partners
         (λ at_object object begins_at not_base not_w e. named object at_object base begins_at e refl)
         (λ at_object object begins_at not_base not_w e. missing object at_object w begins_at e refl)

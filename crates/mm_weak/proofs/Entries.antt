@@ -1,5 +1,6 @@
 -- What begins where in a list by base, once one entry of it is another.
-use Rattle.std.proofs.Common.{◌≡◌, ℕ, zero, suc, ◌*◌, ◌/◌, ◌⊎◌, List, [], ◌∷◌, Option, Some, inl, inr, refl, sym, ap, subst, ◌∙◌, ⊎_elim, arith}
+use Rattle.std.proofs.Common.{◌≡◌, ℕ, zero, suc, ◌*◌, ◌/◌, ◌⊎◌, List, [], ◌∷◌, Option, Some, inl, inr, refl, sym, ap}
+use Rattle.std.proofs.Common.{subst, ◌∙◌, ⊎_elim, arith}
 use Rattle.std.specs.Prelude.{slice_get, slice_set}
 use Rattle.std.proofs.lemmas.Bool.{cases_eq}
 use Rattle.mm_model.specs.ByBase.{Begins, with_entry}
@@ -38,7 +39,8 @@ begins-other_entry {X} entries other k entry base x at h apart =
 pub get-other_entry : {X : Type 0} (entries : List (Option X)) (other j k : ℕ) (entry : Option X) → other ≡ 16 * j
     → (k ≡ j → ⊥) → slice_get (with_entry other entry entries) k ≡ slice_get entries k
 get-other_entry {X} entries other j k entry at apart =
-    ap (λ (n : ℕ). slice_get (slice_set entries n entry) k) (grain_of other j at) ∙ get-set_other entries j k entry apart
+    ap (λ (n : ℕ). slice_get (slice_set entries n entry) k) (grain_of other j at)
+    ∙ get-set_other entries j k entry apart
 
 -- it began there before, and not at the base of the new entry
 pub record IsOld {X : Type 0} (entries : List (Option X)) (other base : ℕ) (x : X) : Type 0 where

@@ -89,7 +89,8 @@ module _ (h m : Heap) (w : ℕ) (colour : Colour) (born : IsBorn h m w colour) w
           })
           (with_entry-twice h.objects w (Some (newly_weak base colour)) (Some (newly_stored weak_shape colour)))
           ∙ ap (λ raw. record h {
-            objects = with_entry base (Some (with_weak w target)) (with_entry w (Some (newly_weak base colour)) h.objects);
+            objects = with_entry base (Some (with_weak w target))
+                (with_entry w (Some (newly_weak base colour)) h.objects);
             runs = slice_set h.runs (w / 4096) 1;
             raw = raw;
           })

@@ -53,7 +53,8 @@ pub writes-partners : (h first second third : Heap) (base w target_link weak_lin
 writes-partners h first second third base w target_link weak_link has_weak target weak writes begins at apart =
     let linked = begins-first h first second base w target_link weak_link target weak begins at apart writes.on_weak in
     let flagged =
-    begins-second h first second base w target_link weak_link target weak begins at apart writes.on_weak writes.on_target in
+    begins-second h first second base w target_link weak_link target weak begins at apart writes.on_weak
+    writes.on_target in
     let last : StoredObject = record target { link = target_link; has_weak = has_weak } in
     writes.on_flag (record target { link = target_link }) flagged
     ∙ ap (λ (x : Heap). with_object x base (Some last)) (writes.on_target target linked)

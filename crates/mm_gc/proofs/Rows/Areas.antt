@@ -36,7 +36,8 @@ pub drop-row : (view : View) (number : ℕ) (area : AreaView) → area_in view n
     → IsViewRow view (commands.DropArea number) []
     (record { view = view_without_area number view; reply = replies.Done })
 drop-row view number area e =
-    row-carried view (commands.DropArea number) [] (record { view = view_without_area number view; reply = replies.Done })
+    row-carried view (commands.DropArea number) []
+    (record { view = view_without_area number view; reply = replies.Done })
     (Later (some_area view number area e) Allowed) (record { no_lines = refl; effect_is = refl })
 
 -- aget
@@ -59,9 +60,11 @@ module _ (view : View) (number s : ℕ) (area : AreaView) (e : area_in view numb
       Later (some_area view number area e) (Later (test_cell (le-false (length area.words) s within)) (Here full))
 
   pub area_get-row : (word : ℕ) → slice_get area.words s ≡ Some word → HasRoomOnStack view
-      → IsViewRow view (commands.AreaGet number s) [] (record { view = view_pushed word view; reply = replies.Word word })
+      → IsViewRow view (commands.AreaGet number s) []
+      (record { view = view_pushed word view; reply = replies.Word word })
   area_get-row word cell room =
-      row-carried view (commands.AreaGet number s) [] (record { view = view_pushed word view; reply = replies.Word word })
+      row-carried view (commands.AreaGet number s) []
+      (record { view = view_pushed word view; reply = replies.Word word })
       (Later (some_area view number area e)
       (Later (test_cell (le-false (length area.words) s (slice_get_within area.words s word cell)))
       (Later room Allowed)))
@@ -88,7 +91,8 @@ module _ (view : View) (number s j word : ℕ) (area : AreaView) (cell : slice_g
   test_put_cell is = told_area view number area e (λ area. nat_le (length area.words) s) is
 
   test_word : {b : Bool} → view_refuses_word view (cell_kind_of area s) word ≡ b
-      → option_map_or (λ area. view_refuses_word view (cell_kind_of area s) (view_word view j)) (area_in view number) false
+      → option_map_or (λ area. view_refuses_word view (cell_kind_of area s) (view_word view j)) (area_in view number)
+      false
       ≡ b
   test_word is =
       told_area view number area e (λ area. view_refuses_word view (cell_kind_of area s) (view_word view j))

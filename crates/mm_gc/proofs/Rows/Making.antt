@@ -1,5 +1,6 @@
 -- The rows of the commands that look for a place.
-use Rattle.std.proofs.Common.{◌≡◌, ℕ, ◌≤◌, Bool, true, false, List, [], ◌++◌, length, Option, Some, None, refl, sym, subst}
+use Rattle.std.proofs.Common.{◌≡◌, ℕ, ◌≤◌, Bool, true, false, List, [], ◌++◌, length, Option, Some, None, refl, sym}
+use Rattle.std.proofs.Common.{subst}
 use Rattle.std.specs.Prelude.{◌==◌}
 use Rattle.std.specs.Option.{option_map_or}
 use Rattle.mm_model.specs.declared.object.Shape.{Shape}
@@ -17,7 +18,8 @@ use Rattle.mm_model.specs.ByBase.{Based}
 use Rattle.mm_model.specs.ObjectView.{ObjectView}
 use Rattle.mm_model.specs.View.{View}
 use Rattle.mm_model.specs.ViewWords.{view_meant}
-use Rattle.mm_model.specs.ViewEffect.{ViewEffect, view_pushed, view_pushes, view_new_effect, view_weak_effect, view_area_effect}
+use Rattle.mm_model.specs.ViewEffect.{ViewEffect, view_pushed, view_pushes, view_new_effect, view_weak_effect}
+use Rattle.mm_model.specs.ViewEffect.{view_area_effect}
 use Rattle.mm_model.specs.ViewPhase.{view_phase_lines, view_reaped, view_collected, ViewReaps, ViewCollects}
 use Rattle.mm_model.specs.ViewStep.{IsViewRow, ViewMakes, ViewMakesWeak, ViewSearches, view_place_now, view_place_grown}
 use Rattle.mm_gc.proofs.Refusals.{RefusesIn, row-carried}
@@ -68,7 +70,8 @@ module _ (view : View) (shape : Shape) where
   pub new-shape : is_bad_shape shape ≡ true → RefusesIn view (commands.New shape) (Some refusals.Shape)
   new-shape bad = Here bad
 
-  pub new-full : is_bad_shape shape ≡ false → IsFull view → RefusesIn view (commands.New shape) (Some refusals.StackFull)
+  pub new-full : is_bad_shape shape ≡ false → IsFull view
+      → RefusesIn view (commands.New shape) (Some refusals.StackFull)
   new-full fine full = Later fine (Here full)
 
   pub new-row : (log : List Line) (effect : ViewEffect) → is_bad_shape shape ≡ false → HasRoomOnStack view
@@ -82,7 +85,8 @@ pub weak-no_cell : (view : View) (i : ℕ) → length view.stack ≤ i
     → RefusesIn view (commands.Weak i) (Some refusals.NoCell)
 weak-no_cell view i past = Here (le-true (length view.stack) i past)
 
-pub weak-nothing : (view : View) (i : ℕ) → MeansNothing view i → RefusesIn view (commands.Weak i) (Some refusals.Nothing)
+pub weak-nothing : (view : View) (i : ℕ) → MeansNothing view i
+    → RefusesIn view (commands.Weak i) (Some refusals.Nothing)
 weak-nothing view i h = Later (is_cell view i h.word h.cell) (Here (none_meant view i h.meant))
 
 module _ (view : View) (i word : ℕ) (o : Based ObjectView) (h : MeansObject view i word o) where
@@ -94,7 +98,8 @@ module _ (view : View) (i word : ℕ) (o : Based ObjectView) (h : MeansObject vi
   weak-weak weak =
       Later (is_cell view i word h.cell) (Later (some_meant view i o h.meant) (Here (test_weak weak)))
 
-  pub weak-full : is_weak o.value.kind ≡ false → IsFull view → RefusesIn view (commands.Weak i) (Some refusals.StackFull)
+  pub weak-full : is_weak o.value.kind ≡ false → IsFull view
+      → RefusesIn view (commands.Weak i) (Some refusals.StackFull)
   weak-full strong full =
       Later (is_cell view i word h.cell)
       (Later (some_meant view i o h.meant) (Later (test_weak strong) (Here full)))
@@ -137,7 +142,8 @@ module _ (view : View) (counted cells : ℕ) where
   root-full fine full = Later fine (Here full)
 
   pub root-row : (log : List Line) (effect : ViewEffect) → is_bad_area counted cells ≡ false → AreAreasFull view false
-      → ViewMakes view Areas (area_bytes cells) (λ left found. view_area_effect left true counted cells found) log effect
+      → ViewMakes view Areas (area_bytes cells) (λ left found. view_area_effect left true counted cells found) log
+      effect
       → IsViewRow view (commands.Root counted cells) log effect
   root-row log effect fine room makes =
       row-carried view (commands.Root counted cells) log effect (Later fine (Later room Allowed)) makes

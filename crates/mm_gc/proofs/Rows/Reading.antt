@@ -1,5 +1,6 @@
 -- The rows of the commands that read through what a stack cell means.
-use Rattle.std.proofs.Common.{◌≡◌, ℕ, ◌+◌, ◌<◌, ◌≤◌, Bool, true, false, not, [], length, Option, Some, None, refl, sym, ap, ◌∙◌}
+use Rattle.std.proofs.Common.{◌≡◌, ℕ, ◌+◌, ◌<◌, ◌≤◌, Bool, true, false, not, [], length, Option, Some, None, refl, sym}
+use Rattle.std.proofs.Common.{ap, ◌∙◌}
 use Rattle.std.proofs.lemmas.Option.{slice_get_within, slice_get-get_or}
 use Rattle.std.specs.Prelude.{nat_le, slice_get, is_some}
 use Rattle.std.specs.Option.{option_map_or}
@@ -194,7 +195,8 @@ map-row view i word found cell meant =
       effect_is = sym (ap (λ found. record { view = view; reply = view_map_reply found }) meant);
     })
 
-pub stat-row : (view : View) → IsViewRow view commands.Stat [] (record { view = view; reply = replies.Stat (view_stat view) })
+pub stat-row : (view : View)
+    → IsViewRow view commands.Stat [] (record { view = view; reply = replies.Stat (view_stat view) })
 stat-row view =
     row-carried view commands.Stat [] (record { view = view; reply = replies.Stat (view_stat view) }) Allowed
     (record { no_lines = refl; effect_is = refl })

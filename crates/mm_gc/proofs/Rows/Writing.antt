@@ -47,7 +47,8 @@ module _ (view : View) (i s j word value : ℕ) (o : Based ObjectView) (h : Mean
   test_slot is = told view i o h.meant (λ o. nat_le (length o.value.words) s) is
 
   test_word : {b : Bool} → view_refuses_word view (slot_kind_of o.value s) value ≡ b
-      → option_map_or (λ o. view_refuses_word view (slot_kind_of o.value s) (view_word view j)) (view_meant view i) false ≡ b
+      → option_map_or (λ o. view_refuses_word view (slot_kind_of o.value s) (view_word view j)) (view_meant view i)
+      false ≡ b
   test_word is =
       told view i o h.meant (λ o. view_refuses_word view (slot_kind_of o.value s) (view_word view j))
       (ap (view_refuses_word view (slot_kind_of o.value s)) (word_of-cell view j value second) ∙ is)

@@ -33,7 +33,8 @@ returns-in-Some-clause-forgotten g c =
 
 pub returns-in-Some-clause-alone : goal.returns-in-Some-clause-alone
 returns-in-Some-clause-alone g c =
-    λ object begins none. absurd (none-not_some (sym (partner-no_link object none) ∙ sym (c.in-Some.ensures.partner object begins)))
+    λ object begins none. absurd
+    (none-not_some (sym (partner-no_link object none) ∙ sym (c.in-Some.ensures.partner object begins)))
 
 pub returns-in-Some-clause-linked : goal.returns-in-Some-clause-linked
 returns-in-Some-clause-linked g c =

@@ -4,7 +4,8 @@ use Rattle.mm_pages.specs.Parked.{AreAllParked}
 use Rattle.mm_object.specs.Object.{newly_stored}
 use Rattle.mm_object.specs.Heap.{Heap}
 use Rattle.mm_weak.proofs.Partners.{partner-none}
-use Rattle.mm_weak.proofs.Making.{IsBorn, begins-born, begins-target, born-apart, made-joined, fits-joined, linked-joined}
+use Rattle.mm_weak.proofs.Making.{IsBorn, begins-born, begins-target, born-apart, made-joined, fits-joined}
+use Rattle.mm_weak.proofs.Making.{linked-joined}
 use Rattle.mm_weak.proofs.links.make_for.Given as given
 use Rattle.mm_weak.proofs.links.make_for.Goals as goal
 

@@ -13,7 +13,8 @@ set_has_weak-requires g c = (
 pub returns-clause-partners : goal.returns-clause-partners
 returns-clause-partners g c =
     λ target weak begins at.
-    writes-partners c.args.heap.now c.set_link.new.self c.set_link-2.new.self c.set_has_weak.new.heap c.args.base c.args.w
+    writes-partners c.args.heap.now c.set_link.new.self c.set_link-2.new.self c.set_has_weak.new.heap c.args.base
+    c.args.w
     0 0 false target weak
     (record {
       on_weak = c.set_link.ensures.word;

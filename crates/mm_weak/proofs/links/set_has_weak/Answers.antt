@@ -16,7 +16,8 @@ says : (g : given.Over) (c : goal.After-set_flags-arg-2-1 g) (object : StoredObj
     → SaysWeak object.finalize c.args.has_weak c.set.new.self.0
 says g c object begins =
     flags-set c.flags-flags.result c.set.new.self object.finalize object.has_weak c.args.has_weak
-    (flags-object c.args.heap.now c.cells.result.now c.args.base object c.flags-flags.result c.cells.ensures.cells begins
+    (flags-object c.args.heap.now c.cells.result.now c.args.base object c.flags-flags.result c.cells.ensures.cells
+    begins
     c.flags-flags.ensures.flags)
     (c.set.ensures tt)
 
@@ -31,7 +32,8 @@ returns-clause-flag g c =
     λ object begins.
     let weak : (c.set.new.self.0 / 2 % 2 == 1) ≡ c.args.has_weak =
     (flags-set c.flags-flags.result c.set.new.self object.finalize object.has_weak c.args.has_weak
-    (flags-object c.args.heap.now c.cells.result.now c.args.base object c.flags-flags.result c.cells.ensures.cells begins
+    (flags-object c.args.heap.now c.cells.result.now c.args.base object c.flags-flags.result c.cells.ensures.cells
+    begins
     c.flags-flags.ensures.flags)
     (c.set.ensures tt)).weak in
     c.set_flags.ensures.flags object begins

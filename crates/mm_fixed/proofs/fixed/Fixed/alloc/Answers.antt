@@ -78,7 +78,8 @@ returns-clause-apart g c = λ runs parked clear.
     let some = subst (λ (size : Size). 0 < run_length size) c.class_of.ensures.value
     (run_length-some c.class_of.result c.class_of.ensures.size) in
     placed-clear c.self.inside.cells c.place.new.self c.args.pages.now (size_of c.args.bytes) c.in_ok-base.base runs
-    c.self.invariant.sound some c.in_ok-base.ensures.place (ap (λ (w : Cells). w.runs) c.in_ok-base.ensures.taken) parked
+    c.self.invariant.sound some c.in_ok-base.ensures.place (ap (λ (w : Cells). w.runs) c.in_ok-base.ensures.taken)
+    parked
     (subst (λ (v : Fixed). HaveNoCommonRun v.runs runs) (sym c.self.view_is) clear)
 
 pub returns-clause-all_parked : goal.returns-clause-all_parked

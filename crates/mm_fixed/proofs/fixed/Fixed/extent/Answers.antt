@@ -7,8 +7,11 @@ use Rattle.mm_fixed.proofs.fixed.Fixed.extent.Goals as goal
 
 pub extent-requires : goal.extent-requires
 extent-requires c =
-    let is = kept-shown c.self.inside.cells c.args.self.now c.self.invariant c.self.view_is in
-    (_, taken-kept c.self.inside.cells c.args.self.now c.args.base (block_parked c.requires.extent) is c.requires.begins)
+    let is = kept-shown c.self.inside.cells c.args.self.now c.self.invariant c.self.view_is in (
+      _,
+      taken-kept c.self.inside.cells c.args.self.now c.args.base (block_parked c.requires.extent) is
+          c.requires.begins,
+    )
 
 pub returns-clause-extent : goal.returns-clause-extent
 returns-clause-extent c = λ extent begins.

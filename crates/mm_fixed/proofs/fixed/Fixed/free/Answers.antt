@@ -19,7 +19,8 @@ release-requires-clause-taken g c =
     let base : c.args.block.base ≡ c.block.inside.base = ap (λ (b : OutBlock). b.base) (sym c.block.view_is) in (
       _,
       taken-kept c.self.inside.cells c.args.self.now c.block.inside.base (block_out c.args.block.extent) is
-          (subst (λ (b : ℕ). Begins c.args.self.now.blocks b (block_out c.args.block.extent)) base c.requires.out.begins),
+          (subst (λ (b : ℕ). Begins c.args.self.now.blocks b (block_out c.args.block.extent)) base
+          c.requires.out.begins),
     )
 
 -- what the cells are afterwards
@@ -59,7 +60,8 @@ returns-clause-others g c = λ runs clear parked.
 
 pub returns-clause-apart : goal.returns-clause-apart
 returns-clause-apart g c = λ runs clear.
-    left-clear c.self.inside.cells c.release.new.self c.args.pages.now c.release.new.pages (c.block.inside.base / 4096) runs
+    left-clear c.self.inside.cells c.release.new.self c.args.pages.now c.release.new.pages (c.block.inside.base / 4096)
+    runs
     c.release.ensures.page (subst (λ (v : Fixed). HaveNoCommonRun v.runs runs) (sym c.self.view_is) clear)
 
 pub returns-clause-all_parked : goal.returns-clause-all_parked

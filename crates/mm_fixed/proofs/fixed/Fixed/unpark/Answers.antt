@@ -12,15 +12,19 @@ use Rattle.mm_fixed.proofs.fixed.Fixed.unpark.Goals as goal
 
 pub paint-requires : goal.paint-requires
 paint-requires c =
-    let is = kept-shown c.self.inside.cells c.args.self.now c.self.invariant c.self.view_is in
-    (_, taken-kept c.self.inside.cells c.args.self.now c.args.base (block_parked c.requires.extent) is c.requires.begins)
+    let is = kept-shown c.self.inside.cells c.args.self.now c.self.invariant c.self.view_is in (
+      _,
+      taken-kept c.self.inside.cells c.args.self.now c.args.base (block_parked c.requires.extent) is
+          c.requires.begins,
+    )
 
 -- what the cells are afterwards
 unpainted : (c : goal.After-of) →
     c.paint.new.self ≡ cells_of (with_block c.args.self.now c.args.base (Some (block_out c.requires.extent)))
 unpainted c =
     let is = kept-shown c.self.inside.cells c.args.self.now c.self.invariant c.self.view_is in
-    painted-kept c.self.inside.cells c.paint.new.self c.args.self.now c.args.base (block_parked c.requires.extent) false is
+    painted-kept c.self.inside.cells c.paint.new.self c.args.self.now c.args.base (block_parked c.requires.extent) false
+    is
     c.requires.begins c.paint.ensures.colour
 
 -- the block that was parked there
@@ -36,13 +40,15 @@ invariant_of-self c = keeps c.paint.new.self _ (unpainted c) c.paint.ensures.sou
 
 pub returns-clause-block : goal.returns-clause-block
 returns-clause-block c = λ extent begins.
-    ap (λ (table : Location). record { allocator = table; base = c.args.base; extent = c.extent-extent.result }) (same c)
+    ap (λ (table : Location). record { allocator = table; base = c.args.base; extent = c.extent-extent.result })
+    (same c)
     ∙ ap (λ (e : ℕ). out_at c.args.self.now c.args.base e) (c.extent-extent.ensures.extent extent begins)
 
 pub returns-clause-out : goal.returns-clause-out
 returns-clause-out c =
     let now : Fixed = with_block c.args.self.now c.args.base (Some (block_out c.requires.extent)) in
-    subst (λ (v : Fixed). IsOut v (record { allocator = c.of.result.value.table; base = c.args.base; extent = c.extent-extent.result }))
+    subst (λ (v : Fixed). IsOut v
+    (record { allocator = c.of.result.value.table; base = c.args.base; extent = c.extent-extent.result }))
     (sym (shown-kept c.paint.new.self now (unpainted c))) (record {
       own = same c;
       begins = subst (λ (e : ℕ). Begins now.blocks c.args.base (block_out e)) (sym (told c))

@@ -13,11 +13,13 @@ invariant_of-result-clause-in_runs c = λ base block begins.
 
 pub invariant_of-result-clause-cells_parked : goal.invariant_of-result-clause-cells_parked
 invariant_of-result-clause-cells_parked c =
-    let pages = ap (λ (h : Pages). h.pages) c.make-2.ensures.value in c.make-3.ensures.parked c.make-2.result (omega (arith, pages))
+    let pages = ap (λ (h : Pages). h.pages) c.make-2.ensures.value in c.make-3.ensures.parked c.make-2.result
+    (omega (arith, pages))
 
 pub invariant_of-result-clause-fixed_parked : goal.invariant_of-result-clause-fixed_parked
 invariant_of-result-clause-fixed_parked c =
-    let pages = ap (λ (h : Pages). h.pages) c.make-2.ensures.value in c.make-4.ensures.parked c.make-2.result (omega (arith, pages))
+    let pages = ap (λ (h : Pages). h.pages) c.make-2.ensures.value in c.make-4.ensures.parked c.make-2.result
+    (omega (arith, pages))
 
 pub invariant_of-result-clause-all_parked : goal.invariant_of-result-clause-all_parked
 invariant_of-result-clause-all_parked c = λ page.

@@ -20,7 +20,8 @@ invariant_of-self g c =
       in_runs = c.args.self.now.in_runs;
       cells_parked = c.release.ensures.parked;
       fixed_parked = c.release.ensures.others c.args.self.now.fixed.runs
-          (clear (c.args.base / 4096) (run-some c.args.self.now.cells c.args.base found.0 c.resolve.ensures.sound begins))
+          (clear (c.args.base / 4096)
+          (run-some c.args.self.now.cells c.args.base found.0 c.resolve.ensures.sound begins))
           c.args.self.now.fixed_parked;
       all_parked = c.release.ensures.all_parked c.args.self.now.fixed.runs c.args.self.now.all_parked;
       heap_own = ap (λ (p : Location). p.arena) heap ∙ c.args.self.now.heap_own;

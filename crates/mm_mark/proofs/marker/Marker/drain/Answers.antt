@@ -6,7 +6,8 @@ use Rattle.mm_mark.specs.Parts.{NoneIsGray}
 use Rattle.mm_mark.specs.Stale.{stale_of, slots_of}
 use Rattle.mm_mark.specs.Draining.{IsDrained, unscanned}
 use Rattle.mm_mark.proofs.Drained.{draining-begins, draining-goes_on, draining-ends}
-use Rattle.mm_mark.proofs.Potential.{scanned-less, less-left, some-scanned, none-scanned, none-slots, part-paid, cycle-then}
+use Rattle.mm_mark.proofs.Potential.{scanned-less, less-left, some-scanned, none-scanned, none-slots, part-paid}
+use Rattle.mm_mark.proofs.Potential.{cycle-then}
 use Rattle.mm_mark.proofs.Tidied.{none-under}
 use Rattle.mm_mark.proofs.marker.Marker.drain.Goals as goal
 

@@ -10,7 +10,8 @@ get-requires g c =
 
 pub returns-clause-word : goal.returns-clause-word
 returns-clause-word g c = λ object begins.
-    c.get.ensures ∙ read-composite c.self.inside.memory c.self.inside.cells c.self.invariant c.args.self.now c.self.view_is
+    c.get.ensures ∙ read-composite c.self.inside.memory c.self.inside.cells c.self.invariant c.args.self.now
+    c.self.view_is
     c.args.base object begins
 
 pub returns-clause-sound : goal.returns-clause-sound

@@ -11,7 +11,8 @@ use Rattle.mm_object.specs.Heap.{Heap, IsSound}
 use Rattle.mm_object.specs.Kept.{heap_of}
 use Rattle.mm_object.proofs.Sound.{IsSound-kept}
 use Rattle.mm_object.proofs.Created.{place-shown, found-none, made, made-begins, made-within, made-cells}
-use Rattle.mm_object.proofs.Created.{created-kept, created-heap, created-begins, created-raw, created-none, created-fits}
+use Rattle.mm_object.proofs.Created.{created-kept, created-heap, created-begins, created-raw, created-none}
+use Rattle.mm_object.proofs.Created.{created-fits}
 use Rattle.mm_object.proofs.heap.Heap.create.Goals as goal
 
 pub returns-in_err-base-clause-place : goal.returns-in_err-base-clause-place
@@ -55,7 +56,8 @@ invariant_of-self-2 g c =
     c.args.shape c.args.colour c.requires.shape c.write_newborn.ensures.means m.enough c.in_ok-base.base m.vacant
     (slice_set c.self.inside.cells.runs (c.in_ok-base.base / 4096)
     (run_length (size_of (object_bytes c.args.shape.slots)))) c.set_flags.new.self
-    (made-cells c.self.inside.memory c.self.inside.cells c.place.new.self c.set_flags.new.self c.args.shape c.args.colour
+    (made-cells c.self.inside.memory c.self.inside.cells c.place.new.self c.set_flags.new.self c.args.shape
+    c.args.colour
     c.in_ok-base.base c.flags_for.result m c.flags_for.ensures c.set_flags.ensures.flags)
     c.set_flags.ensures.sound c.write_newborn.new.memory c.write_newborn.ensures.words
 
@@ -75,11 +77,13 @@ returns-clause-created g c =
     c.args.shape c.args.colour c.requires.shape c.write_newborn.ensures.means m.enough c.in_ok-base.base m.vacant
     (slice_set c.self.inside.cells.runs (c.in_ok-base.base / 4096)
     (run_length (size_of (object_bytes c.args.shape.slots)))) c.set_flags.new.self
-    (made-cells c.self.inside.memory c.self.inside.cells c.place.new.self c.set_flags.new.self c.args.shape c.args.colour
+    (made-cells c.self.inside.memory c.self.inside.cells c.place.new.self c.set_flags.new.self c.args.shape
+    c.args.colour
     c.in_ok-base.base c.flags_for.result m c.flags_for.ensures c.set_flags.ensures.flags)
     c.set_flags.ensures.sound c.write_newborn.new.memory c.write_newborn.ensures.words
     ∙ ap (λ (v : Heap). record c.args.self.now {
-      objects = bases.with_entry c.in_ok-base.base (Some (newly_stored c.args.shape c.args.colour)) c.args.self.now.objects;
+      objects = bases.with_entry c.in_ok-base.base (Some (newly_stored c.args.shape c.args.colour))
+          c.args.self.now.objects;
       runs = slice_set v.runs (c.in_ok-base.base / 4096) (run_length (size_of (object_bytes c.args.shape.slots)));
       raw = (heap_of c.write_newborn.new.memory c.set_flags.new.self).raw;
     }) c.self.view_is
@@ -94,7 +98,8 @@ returns-clause-begins g c =
     c.args.shape c.args.colour c.requires.shape c.write_newborn.ensures.means m.enough c.in_ok-base.base m.vacant
     (slice_set c.self.inside.cells.runs (c.in_ok-base.base / 4096)
     (run_length (size_of (object_bytes c.args.shape.slots)))) c.set_flags.new.self
-    (made-cells c.self.inside.memory c.self.inside.cells c.place.new.self c.set_flags.new.self c.args.shape c.args.colour
+    (made-cells c.self.inside.memory c.self.inside.cells c.place.new.self c.set_flags.new.self c.args.shape
+    c.args.colour
     c.in_ok-base.base c.flags_for.result m c.flags_for.ensures c.set_flags.ensures.flags)
     c.set_flags.ensures.sound c.write_newborn.new.memory c.write_newborn.ensures.words
 
@@ -108,7 +113,8 @@ returns-clause-was_none g c =
     c.args.shape c.args.colour c.requires.shape c.write_newborn.ensures.means m.enough c.in_ok-base.base m.vacant
     (slice_set c.self.inside.cells.runs (c.in_ok-base.base / 4096)
     (run_length (size_of (object_bytes c.args.shape.slots)))) c.set_flags.new.self
-    (made-cells c.self.inside.memory c.self.inside.cells c.place.new.self c.set_flags.new.self c.args.shape c.args.colour
+    (made-cells c.self.inside.memory c.self.inside.cells c.place.new.self c.set_flags.new.self c.args.shape
+    c.args.colour
     c.in_ok-base.base c.flags_for.result m c.flags_for.ensures c.set_flags.ensures.flags)
     c.set_flags.ensures.sound c.write_newborn.new.memory c.write_newborn.ensures.words
 
@@ -122,7 +128,8 @@ returns-clause-raw g c =
     c.args.shape c.args.colour c.requires.shape c.write_newborn.ensures.means m.enough c.in_ok-base.base m.vacant
     (slice_set c.self.inside.cells.runs (c.in_ok-base.base / 4096)
     (run_length (size_of (object_bytes c.args.shape.slots)))) c.set_flags.new.self
-    (made-cells c.self.inside.memory c.self.inside.cells c.place.new.self c.set_flags.new.self c.args.shape c.args.colour
+    (made-cells c.self.inside.memory c.self.inside.cells c.place.new.self c.set_flags.new.self c.args.shape
+    c.args.colour
     c.in_ok-base.base c.flags_for.result m c.flags_for.ensures c.set_flags.ensures.flags)
     c.set_flags.ensures.sound c.write_newborn.new.memory c.write_newborn.ensures.words
 
@@ -141,7 +148,8 @@ returns-clause-fits g c =
     c.args.shape c.args.colour c.requires.shape c.write_newborn.ensures.means m.enough c.in_ok-base.base m.vacant
     (slice_set c.self.inside.cells.runs (c.in_ok-base.base / 4096)
     (run_length (size_of (object_bytes c.args.shape.slots)))) c.set_flags.new.self
-    (made-cells c.self.inside.memory c.self.inside.cells c.place.new.self c.set_flags.new.self c.args.shape c.args.colour
+    (made-cells c.self.inside.memory c.self.inside.cells c.place.new.self c.set_flags.new.self c.args.shape
+    c.args.colour
     c.in_ok-base.base c.flags_for.result m c.flags_for.ensures c.set_flags.ensures.flags)
     c.set_flags.ensures.sound c.write_newborn.new.memory c.write_newborn.ensures.words
     c.args.pages.now c.place.new.pages c.requires.fits

@@ -18,17 +18,20 @@ release-requires-clause-parked g c =
 pub invariant_of-self : goal.invariant_of-self
 invariant_of-self g c =
     erased-kept c.self.inside.memory c.self.inside.cells c.self.invariant c.args.self.now c.self.view_is
-    c.args.base c.requires.object.0 c.requires.object.1 c.release.new.self c.release.ensures.gone c.release.ensures.sound
+    c.args.base c.requires.object.0 c.requires.object.1 c.release.new.self c.release.ensures.gone
+    c.release.ensures.sound
 
 pub returns-clause-erased : goal.returns-clause-erased
 returns-clause-erased g c =
     erased-heap c.self.inside.memory c.self.inside.cells c.self.invariant c.args.self.now c.self.view_is
-    c.args.base c.requires.object.0 c.requires.object.1 c.release.new.self c.release.ensures.gone c.release.ensures.sound
+    c.args.base c.requires.object.0 c.requires.object.1 c.release.new.self c.release.ensures.gone
+    c.release.ensures.sound
 
 pub returns-clause-page : goal.returns-clause-page
 returns-clause-page g c =
     erased-page c.self.inside.memory c.self.inside.cells c.self.invariant c.args.self.now c.self.view_is
-    c.args.base c.requires.object.0 c.requires.object.1 c.release.new.self c.release.ensures.gone c.release.ensures.sound
+    c.args.base c.requires.object.0 c.requires.object.1 c.release.new.self c.release.ensures.gone
+    c.release.ensures.sound
     c.args.pages.now c.release.new.pages c.release.ensures.page
 
 pub returns-clause-raw : goal.returns-clause-raw
@@ -39,7 +42,8 @@ returns-clause-raw g c = λ object begins.
 pub returns-clause-fits : goal.returns-clause-fits
 returns-clause-fits g c =
     erased-fits c.self.inside.memory c.self.inside.cells c.self.invariant c.args.self.now c.self.view_is
-    c.args.base c.requires.object.0 c.requires.object.1 c.release.new.self c.release.ensures.gone c.release.ensures.sound
+    c.args.base c.requires.object.0 c.requires.object.1 c.release.new.self c.release.ensures.gone
+    c.release.ensures.sound
     c.args.pages.now c.release.new.pages c.requires.fits c.release.ensures.page c.release.ensures.parked
 
 pub returns-clause-all_parked : goal.returns-clause-all_parked

@@ -36,7 +36,8 @@ invariant_of-self-else-now-wanted c =
       c.len-now.ensures,
       c.if-now-wanted.false,
       ap (λ (p : Piece). length p.words) c.shorten.ensures.piece,
-      length-take (length c.self.inside.memory.words - (c.len-now.result - 1024 * c.args.pages)) c.self.inside.memory.words,
+      length-take (length c.self.inside.memory.words - (c.len-now.result - 1024 * c.args.pages))
+          c.self.inside.memory.words,
     )) c.requires.two
     (subst (λ (v : Heap). c.args.pages ≤ v.pages) (sym c.self.view_is) c.requires.most) c.requires.clear
     (λ i before after. shorter-same c.self.inside.memory c.shorten.new.w
@@ -64,7 +65,8 @@ returns-else-now-wanted-clause-heap c =
       c.len-now.ensures,
       c.if-now-wanted.false,
       ap (λ (p : Piece). length p.words) c.shorten.ensures.piece,
-      length-take (length c.self.inside.memory.words - (c.len-now.result - 1024 * c.args.pages)) c.self.inside.memory.words,
+      length-take (length c.self.inside.memory.words - (c.len-now.result - 1024 * c.args.pages))
+          c.self.inside.memory.words,
     )) c.requires.two
     (subst (λ (v : Heap). c.args.pages ≤ v.pages) (sym c.self.view_is) c.requires.most) c.requires.clear
     (λ i before after. shorter-same c.self.inside.memory c.shorten.new.w

@@ -15,7 +15,8 @@ shown : (memory : Piece) (cells : Cells) → KeepsHeap memory cells → (h : Hea
     → (after : Cells) (word : ℕ) (found : Option ℕ)
     → MatchOption found (cells_looking.NoWhite cells word × (after ≡ cells))
     (λ base. cells_looking.Shades cells after word base)
-    → MatchOption found (NoWhite h word × (heap_of memory after ≡ h)) (λ base. Shades h (heap_of memory after) word base)
+    → MatchOption found (NoWhite h word × (heap_of memory after ≡ h))
+    (λ base. Shades h (heap_of memory after) word base)
 shown memory cells kept h is after word None told =
     (none-white memory cells kept h is word told.0, ap (heap_of memory) told.1 ∙ is)
 shown memory cells kept h is after word (Some base) told = shaded memory cells kept h is after word base told

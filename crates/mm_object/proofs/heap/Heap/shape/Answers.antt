@@ -10,7 +10,8 @@ shape_at-requires g c =
 
 pub returns-clause-shape : goal.returns-clause-shape
 returns-clause-shape g c = λ object begins.
-    c.shape_at.ensures ∙ read-shape c.self.inside.memory c.self.inside.cells c.self.invariant c.args.self.now c.self.view_is
+    c.shape_at.ensures ∙ read-shape c.self.inside.memory c.self.inside.cells c.self.invariant c.args.self.now
+    c.self.view_is
     c.args.base object begins
 
 pub returns-clause-sound : goal.returns-clause-sound

@@ -5,7 +5,8 @@ use Rattle.mm_pages.specs.Pages.{Pages}
 use Rattle.mm_object.specs.Object.{views_of}
 use Rattle.mm_count.specs.Table.{Table}
 use Rattle.mm_sweep.specs.Sweep.{IsWhiteAt}
-use Rattle.mm_sweep.proofs.Trials.{right-plain, tight-plain, counted-plain, listed-plain, unpinned-plain, objects-white, linked-white, plain-white, entries-white, plain-released, still, still-then}
+use Rattle.mm_sweep.proofs.Trials.{right-plain, tight-plain, counted-plain, listed-plain, unpinned-plain, objects-white}
+use Rattle.mm_sweep.proofs.Trials.{linked-white, plain-white, entries-white, plain-released, still, still-then}
 use Rattle.mm_sweep.proofs.tests.Trial.collect.Goals as goal
 
 pub sweep-k-requires-clause-right : goal.sweep-k-requires-clause-right

@@ -55,5 +55,6 @@ resize-requires-clause-clear c = λ base object begins.
 
 pub set_limit-requires-clause-clear : goal.set_limit-requires-clause-clear
 set_limit-requires-clause-clear c =
-    runs-end c.args.self.now.pages c.top-top.result (c.size-pages.result - 1) c.top-top.ensures.some c.top-top.ensures.highest
+    runs-end c.args.self.now.pages c.top-top.result (c.size-pages.result - 1) c.top-top.ensures.some
+    c.top-top.ensures.highest
     (omega (arith, c.if-pages-top.false))
