@@ -1,3 +1,6 @@
 pub mod Forms
+pub mod Fronts
+pub mod Numbers
 pub mod Sentences
+pub mod WordEnds
 pub mod Words

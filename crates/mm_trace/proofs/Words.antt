@@ -1,9 +1,14 @@
 -- How a scan over the bytes of a line finds its words.
-use Rattle.std.proofs.Common.{◌≡◌, ℕ, suc, ◌+◌, ◌<◌, ◌==◌, Bool, true, false, cond, not, ltb, List, [], ◌∷◌, length, take, drop, refl, sym, ap, ◌∙◌, arith}
+use Rattle.std.proofs.Common.{◌≡◌, ℕ, suc, ◌+◌, ◌-◌, ◌<◌, ◌==◌, Bool, true, false, cond, not, ltb, List, [], ◌∷◌, length, take, drop, length-drop, refl, sym, ap, ◌∙◌, arith}
 use Rattle.std.proofs.lemmas.Grind.{common_steps}
+use Rattle.std.proofs.lemmas.List.{take_all}
 use Rattle.std.specs.List.{prefix_len, slice_split}
 use Rattle.std.proofs.lemmas.List.Folds.{length-prefix_len}
 use Rattle.mm_model.specs.Trace.{words_of}
+
+-- what stands behind the first n bytes, as a slice without an end has it
+pub take-drop_rest : (line : List ℕ) (n : ℕ) → take (length line - n) (drop n line) ≡ drop n line
+take-drop_rest line n = take_all (length line - n) (drop n line) (omega (arith, length-drop n line))
 
 abbrev pub is_space : ℕ → Bool
 is_space b = b == 32

@@ -5,12 +5,22 @@ use Rattle.mm_model.specs.declared.command.Command.{Command}
 use Rattle.mm_model.specs.declared.command.Command.TheVariants as commands
 use Rattle.mm_trace.specs.declared.form.Form.{Form}
 use Rattle.mm_trace.specs.declared.form.Form.TheVariants as forms
+use Rattle.mm_trace.specs.declared.form.OfNone.{OfNone}
+use Rattle.mm_trace.specs.declared.form.OfNone.TheVariants as none
 use Rattle.mm_trace.specs.declared.form.OfOne.{OfOne}
 use Rattle.mm_trace.specs.declared.form.OfOne.TheVariants as one
 use Rattle.mm_trace.specs.declared.form.OfTwo.{OfTwo}
 use Rattle.mm_trace.specs.declared.form.OfTwo.TheVariants as two
 use Rattle.mm_trace.specs.declared.form.OfThree.{OfThree}
 use Rattle.mm_trace.specs.declared.form.OfThree.TheVariants as three
+
+-- the command without numbers that has this name
+abbrev pub with_none : OfNone → Command
+with_none none.Reap = commands.Reap
+with_none none.Collect = commands.Collect
+with_none none.Begin = commands.Begin
+with_none none.Finish = commands.Finish
+with_none none.Stat = commands.Stat
 
 -- the command of one number that has this name
 abbrev pub with_one : OfOne → ℕ → Command
@@ -39,7 +49,7 @@ with_three three.AreaPut = commands.AreaPut
 -- what stands behind the first word
 abbrev pub model_form : Form → trace.Form
 model_form forms.Shaped = trace.Shaped
-model_form (forms.Bare command) = trace.Bare command
+model_form (forms.None name) = trace.Bare (with_none name)
 model_form (forms.One name) = trace.OneNumber (with_one name)
 model_form (forms.Two name) = trace.TwoNumbers (with_two name)
 model_form (forms.Three name) = trace.ThreeNumbers (with_three name)

@@ -2,9 +2,9 @@
 ghost use Rattle.std.specs.Prelude.{◌≡◌};
 ghost use Rattle.mm_model.specs.Trace as trace;
 ghost use Rattle.mm_model.specs.Trace.{words_of};
-ghost use Rattle.mm_trace.specs.Form.{with_one, with_two, with_three, model_form};
+ghost use Rattle.mm_trace.specs.Form.{with_none, with_one, with_two, with_three, model_form};
 
-use crate::form::{Form, OfOne, OfThree, OfTwo};
+use crate::form::{Form, OfNone, OfOne, OfThree, OfTwo};
 use crate::number::number_of;
 use crate::word::{is, no_word, one_word, three_words, two_words};
 use mm_model::{Command, Kind, LineFault, Shape};
@@ -35,11 +35,11 @@ fn kind_of(word: &[u8]) -> Result<(Kind, bool), LineFault>
 }
 
 // A command that has no words.
-fn of_none(command: Command, rest: &[u8]) -> Result<Command, LineFault>
-    ensures { result ≡ trace.command_of (trace.Bare command) (words_of rest.now) }
+fn of_none(name: OfNone, rest: &[u8]) -> Result<Command, LineFault>
+    ensures { result ≡ trace.command_of (trace.Bare (with_none name)) (words_of rest.now) }
 {
     no_word(rest)?;
-    Ok(command)
+    Ok(name.command())
 }
 
 // A command of one number.
@@ -94,7 +94,7 @@ pub(crate) fn command_of(form: Form, rest: &[u8]) -> Result<Command, LineFault>
 {
     match form {
         Form::Shaped => shaped(rest),
-        Form::Bare(command) => of_none(command, rest),
+        Form::None(name) => of_none(name, rest),
         Form::One(name) => of_one(name, rest),
         Form::Two(name) => of_two(name, rest),
         Form::Three(name) => of_three(name, rest),

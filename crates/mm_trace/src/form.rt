@@ -1,11 +1,37 @@
 // What a command's first word says of the words after it.
 ghost use Rattle.std.specs.Prelude.{◌≡◌, if◌then◌else◌, bytes_eq, codes};
-ghost use Rattle.mm_trace.specs.Form.{with_one, with_two, with_three, model_form};
+ghost use Rattle.mm_trace.specs.Form.{with_none, with_one, with_two, with_three, model_form};
 ghost use Rattle.std.specs.Option.{option_map};
 ghost use Rattle.mm_model.specs.Trace.{forms, entry_at};
 
 use crate::word::is;
 use mm_model::Command;
+
+/// The commands without numbers.
+#[derive(Clone, Copy)]
+pub(crate) enum OfNone {
+    Reap,
+    Collect,
+    Begin,
+    Finish,
+    Stat,
+}
+
+impl OfNone {
+    /// The command of this name.
+    #[inline]
+    pub(crate) fn command(self) -> Command
+        ensures { result ≡ with_none self }
+    {
+        match self {
+            OfNone::Reap => Command::Reap,
+            OfNone::Collect => Command::Collect,
+            OfNone::Begin => Command::Begin,
+            OfNone::Finish => Command::Finish,
+            OfNone::Stat => Command::Stat,
+        }
+    }
+}
 
 /// The commands of one number.
 #[derive(Clone, Copy)]
@@ -23,6 +49,7 @@ pub(crate) enum OfOne {
 
 impl OfOne {
     /// The command of this name.
+    #[inline]
     pub(crate) fn command(self, a: u32) -> Command
         ensures { result ≡ with_one self a }
     {
@@ -51,6 +78,7 @@ pub(crate) enum OfTwo {
 
 impl OfTwo {
     /// The command of this name.
+    #[inline]
     pub(crate) fn command(self, a: u32, b: u32) -> Command
         ensures { result ≡ with_two self a b }
     {
@@ -72,6 +100,7 @@ pub(crate) enum OfThree {
 
 impl OfThree {
     /// The command of this name.
+    #[inline]
     pub(crate) fn command(self, a: u32, b: u32, c: u32) -> Command
         ensures { result ≡ with_three self a b c }
     {
@@ -87,8 +116,7 @@ impl OfThree {
 pub(crate) enum Form {
     /// A kind and two numbers.
     Shaped,
-    /// No word.
-    Bare(Command),
+    None(OfNone),
     One(OfOne),
     Two(OfTwo),
     Three(OfThree),
@@ -146,8 +174,8 @@ pub(crate) fn form_of(word: &[u8]) -> Option<Form>
             b"aput",
             Form::Three(OfThree::AreaPut),
         ),
-        b'b' => named(word, b"begin", Form::Bare(Command::Begin)),
-        b'c' => named(word, b"collect", Form::Bare(Command::Collect)),
+        b'b' => named(word, b"begin", Form::None(OfNone::Begin)),
+        b'c' => named(word, b"collect", Form::None(OfNone::Collect)),
         b'd' => either(
             word,
             b"dup",
@@ -160,7 +188,7 @@ pub(crate) fn form_of(word: &[u8]) -> Option<Form>
             b"fixed",
             Form::One(OfOne::Fixed),
             b"finish",
-            Form::Bare(Command::Finish),
+            Form::None(OfNone::Finish),
         ),
         b'g' => named(word, b"get", Form::Two(OfTwo::Get)),
         b'i' => named(word, b"inner", Form::Two(OfTwo::Inner)),
@@ -173,14 +201,14 @@ pub(crate) fn form_of(word: &[u8]) -> Option<Form>
             b"root",
             Form::Two(OfTwo::Root),
             b"reap",
-            Form::Bare(Command::Reap),
+            Form::None(OfNone::Reap),
         ),
         b's' => either(
             word,
             b"step",
             Form::One(OfOne::Step),
             b"stat",
-            Form::Bare(Command::Stat),
+            Form::None(OfNone::Stat),
         ),
         b'w' => named(word, b"weak", Form::One(OfOne::Weak)),
         _ => None,

@@ -4,8 +4,10 @@
 mod command;
 mod cutter;
 mod form;
+mod name;
 mod number;
 mod parse;
+mod plain;
 mod put;
 #[cfg(test)]
 mod tests;

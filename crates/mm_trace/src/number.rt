@@ -1,7 +1,11 @@
 // Numbers of a trace.
-ghost use Rattle.std.specs.Prelude.{◌≡◌};
+ghost use Rattle.std.specs.Prelude.{◌≡◌, ◌≤◌, ◌<◌, true, take, length, Ok, IfSome};
+ghost use Rattle.std.specs.List.{list_all};
 ghost use Rattle.mm_model.specs.Trace as trace;
+ghost use Rattle.mm_model.specs.Trace.{digits_value, is_digit};
+ghost use Rattle.mm_trace.specs.Plain.{BeginsWith};
 
+use crate::name::behind_word;
 use mm_model::LineFault;
 
 /// The greatest number of digits.
@@ -26,4 +30,53 @@ pub fn number_of(word: &[u8]) -> Result<u32, LineFault>
         return Err(LineFault::BadNumber);
     }
     Ok(value as u32)
+}
+
+// The digits at the front of a text, at most eleven: their value, and how many they are.
+#[inline]
+fn digits_at(text: &[u8]) -> (u64, usize)
+    ensures within { result.1 ≤ length text.now }
+    ensures digits { list_all is_digit (take result.1 text.now) ≡ true }
+    ensures value { result.0 ≡ digits_value (take result.1 text.now) }
+{
+    let front = &text[..text.len().min(DIGITS + 1)];
+    let mut value: u64 = 0;
+    for (i, byte) in front.iter().enumerate() {
+        let digit = u64::from(*byte).wrapping_sub(48);
+        if digit > 9 {
+            return (value, i);
+        }
+        value = 10 * value + digit;
+    }
+    (value, front.len())
+}
+
+// The number at the front of a text, and what stands behind it.
+#[inline]
+fn long_number_at(text: &[u8]) -> Option<(u32, &[u8])>
+    ensures { IfSome result
+        (λ read. BeginsWith (λ word. trace.number_of word ≡ Ok read.0) text.now read.1.now) }
+{
+    let (value, count) = digits_at(text);
+    if count == 0 || count > DIGITS || value > u64::from(u32::MAX) {
+        return None;
+    }
+    let rest = behind_word(&text[count..])?;
+    Some((value as u32, rest))
+}
+
+/// The number at the front of a text, and what stands behind it.
+#[inline]
+pub(crate) fn number_at(text: &[u8]) -> Option<(u32, &[u8])>
+    ensures { IfSome result
+        (λ read. BeginsWith (λ word. trace.number_of word ≡ Ok read.0) text.now read.1.now) }
+{
+    let (first, behind) = text.split_first()?;
+    let digit = first.wrapping_sub(b'0');
+    if digit <= 9 {
+        if let Some(rest) = behind_word(behind) {
+            return Some((u32::from(digit), rest));
+        }
+    }
+    long_number_at(text)
 }

@@ -1,10 +1,11 @@
 // A line of a trace.
-ghost use Rattle.std.specs.Prelude.{◌≡◌};
+ghost use Rattle.std.specs.Prelude.{◌≡◌, if◌then◌else◌};
 ghost use Rattle.mm_model.specs.Trace.{line_reading, words_reading, words_of, is_comment};
 
 use crate::command::command_of;
 use crate::cutter::LINE_LIMIT;
 use crate::form::form_of;
+use crate::plain::plain_command;
 use crate::word::next_word;
 use mm_model::{Command, LineFault};
 
@@ -33,10 +34,23 @@ pub fn parse_line(bytes: &[u8]) -> Result<Option<Command>, LineFault>
     if bytes.len() > LINE_LIMIT {
         return Err(LineFault::LineTooLong);
     }
-    if starts_comment(bytes) {
+    // What programs write is read in one pass, and the rest by words.
+    if let Some(command) = plain_command(bytes) {
+        return Ok(Some(command));
+    }
+    read_line(bytes)
+}
+
+// What a line that isn't too long says.
+#[cold]
+#[inline(never)]
+fn read_line(line: &[u8]) -> Result<Option<Command>, LineFault>
+    ensures { result ≡ (if is_comment line.now then Ok None else words_reading (words_of line.now)) }
+{
+    if starts_comment(line) {
         return Ok(None);
     }
-    read_words(bytes)
+    read_words(line)
 }
 
 // Whether the first byte is the number sign.
