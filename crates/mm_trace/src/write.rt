@@ -6,23 +6,54 @@ ghost use Rattle.mm_model.specs.Spelling as model;
 use crate::put::{Lines, put_number, put_sentence, put_text};
 use crate::refusal_text;
 use arrayvec::ArrayVec;
-use mm_model::{Kind, Line, Mapped, Phase, Refusal, Reply};
+use mm_model::{AreaAnswer, Kind, Line, Mapped, Phase, Refusal, Reply, Stat, Totals};
 
 /// Appends the spelling of a line, its newline with it. No line takes more than 50 bytes.
+#[inline]
 pub fn write_line(line: &Line, to: &mut ArrayVec<u8, 4096>)
     requires { array_vec_len to.old + 64 ≤ 4096 }
     ensures { to.new.items ≡ to.old.items ++ model.spelling line.now }
 {
-    match *line {
-        Line::Scan { base, slots } => put_sentence(b" scan", &[base, slots], to),
-        Line::Final { base, slots, sum } => put_sentence(b" final", &[base, slots, sum], to),
-        Line::Phase { what, freed } => put_phase(what, freed, to),
-        Line::Free(base) => put_sentence(b" free", &[base], to),
-        Line::Reply(reply) => put_reply(reply, to),
-        Line::Total(t) => put_sentence(b"total", &[t.commands, t.born, t.freed, t.live], to),
+    match line {
+        // Most lines.
+        Line::Reply(Reply::Done) => put_text(b"ok\n", to),
+        _ => put_line(line, to),
     }
 }
 
+// Each line with numbers is a function of its own, so that none pays for the registers of another.
+#[inline(never)]
+fn put_line(line: &Line, to: &mut Lines)
+    requires { array_vec_len to.old + 64 ≤ 4096 }
+    ensures { to.new.items ≡ to.old.items ++ model.spelling line.now }
+{
+    match line {
+        Line::Scan { base, slots } => put_scan(*base, *slots, to),
+        Line::Final { base, slots, sum } => put_final(*base, *slots, *sum, to),
+        Line::Phase { what, freed } => put_phase(*what, *freed, to),
+        Line::Free(base) => put_free(*base, to),
+        Line::Reply(reply) => put_reply(reply, to),
+        Line::Total(totals) => put_total(totals, to),
+    }
+}
+
+#[inline(never)]
+fn put_scan(base: u32, slots: u32, to: &mut Lines)
+    requires { array_vec_len to.old + 64 ≤ 4096 }
+    ensures { to.new.items ≡ to.old.items ++ model.spelling (Line.Scan base slots) }
+{
+    put_sentence(b" scan", &[base, slots], to);
+}
+
+#[inline(never)]
+fn put_final(base: u32, slots: u32, sum: u32, to: &mut Lines)
+    requires { array_vec_len to.old + 64 ≤ 4096 }
+    ensures { to.new.items ≡ to.old.items ++ model.spelling (Line.Final base slots sum) }
+{
+    put_sentence(b" final", &[base, slots, sum], to);
+}
+
+#[inline(never)]
 fn put_phase(what: Phase, freed: u32, to: &mut Lines)
     requires { array_vec_len to.old + 64 ≤ 4096 }
     ensures { to.new.items ≡ to.old.items ++ model.spelling (Line.Phase what freed) }
@@ -33,23 +64,66 @@ fn put_phase(what: Phase, freed: u32, to: &mut Lines)
     }
 }
 
-fn put_reply(reply: Reply, to: &mut Lines)
+#[inline(never)]
+fn put_free(base: u32, to: &mut Lines)
     requires { array_vec_len to.old + 64 ≤ 4096 }
-    ensures { to.new.items ≡ to.old.items ++ model.reply_spelling reply }
+    ensures { to.new.items ≡ to.old.items ++ model.spelling (Line.Free base) }
+{
+    put_sentence(b" free", &[base], to);
+}
+
+#[inline(never)]
+fn put_total(totals: &Totals, to: &mut Lines)
+    requires { array_vec_len to.old + 64 ≤ 4096 }
+    ensures { to.new.items ≡ to.old.items ++ model.spelling (Line.Total totals.now) }
+{
+    let t = *totals;
+    put_sentence(b"total", &[t.commands, t.born, t.freed, t.live], to);
+}
+
+#[inline]
+fn put_reply(reply: &Reply, to: &mut Lines)
+    requires { array_vec_len to.old + 64 ≤ 4096 }
+    ensures { to.new.items ≡ to.old.items ++ model.reply_spelling reply.now }
 {
     match reply {
         Reply::Done => put_text(b"ok\n", to),
         Reply::Loose => put_text(b"loose\n", to),
-        Reply::New(base) => put_sentence(b"new", &[base], to),
-        Reply::Word(word) => put_sentence(b"word", &[word], to),
-        Reply::Area(area) => put_sentence(b"area", &[area.number, area.base], to),
-        Reply::Object(found) => put_object(found, to),
         Reply::Nothing => put_text(b"nothing\n", to),
-        Reply::Stat(s) => put_sentence(b"stat", &[s.objects, s.zero, s.areas, s.free], to),
-        Reply::Refused(refusal) => put_refusal(refusal, to),
+        Reply::New(base) => put_new(*base, to),
+        Reply::Word(word) => put_word(*word, to),
+        Reply::Area(area) => put_area(*area, to),
+        Reply::Object(found) => put_object(*found, to),
+        Reply::Stat(stat) => put_stat(stat, to),
+        Reply::Refused(refusal) => put_refusal(*refusal, to),
     }
 }
 
+#[inline(never)]
+fn put_new(base: u32, to: &mut Lines)
+    requires { array_vec_len to.old + 64 ≤ 4096 }
+    ensures { to.new.items ≡ to.old.items ++ model.reply_spelling (Reply.New base) }
+{
+    put_sentence(b"new", &[base], to);
+}
+
+#[inline(never)]
+fn put_word(word: u32, to: &mut Lines)
+    requires { array_vec_len to.old + 64 ≤ 4096 }
+    ensures { to.new.items ≡ to.old.items ++ model.reply_spelling (Reply.Word word) }
+{
+    put_sentence(b"word", &[word], to);
+}
+
+#[inline(never)]
+fn put_area(area: AreaAnswer, to: &mut Lines)
+    requires { array_vec_len to.old + 64 ≤ 4096 }
+    ensures { to.new.items ≡ to.old.items ++ model.reply_spelling (Reply.Area area) }
+{
+    put_sentence(b"area", &[area.number, area.base], to);
+}
+
+#[inline(never)]
 fn put_object(found: Mapped, to: &mut Lines)
     requires { array_vec_len to.old + 64 ≤ 4096 }
     ensures { to.new.items ≡ to.old.items ++ model.reply_spelling (Reply.Object found) }
@@ -62,6 +136,16 @@ fn put_object(found: Mapped, to: &mut Lines)
     to.push(b'\n');
 }
 
+#[inline(never)]
+fn put_stat(stat: &Stat, to: &mut Lines)
+    requires { array_vec_len to.old + 64 ≤ 4096 }
+    ensures { to.new.items ≡ to.old.items ++ model.reply_spelling (Reply.Stat stat.now) }
+{
+    let s = *stat;
+    put_sentence(b"stat", &[s.objects, s.zero, s.areas, s.free], to);
+}
+
+#[inline(never)]
 fn put_refusal(refusal: Refusal, to: &mut Lines)
     requires { array_vec_len to.old + 64 ≤ 4096 }
     ensures { to.new.items ≡ to.old.items ++ model.reply_spelling (Reply.Refused refusal) }
