@@ -1,9 +1,11 @@
 // What lines are made of, appended to a buffer. All is inlined, so that a literal is copied as bytes of a known number.
 ghost use Rattle.std.specs.Prelude.{◌≡◌, ◌+◌, ◌/◌, ◌%◌, ◌<◌, ◌≤◌, [], ◌∷◌, ◌++◌, length, decimal, map};
 ghost use Rattle.arrayvec.specs.ArrayVec.{array_vec_len};
-ghost use Rattle.mm_model.specs.Spelling.{sentence};
+ghost use Rattle.mm_model.specs.Spelling as model;
+ghost use Rattle.mm_model.specs.Spelling.{sentence, kind_word};
 
 use arrayvec::ArrayVec;
+use mm_model::Kind;
 
 /// The buffer that lines are written to.
 pub(crate) type Lines = ArrayVec<u8, 4096>;
@@ -15,7 +17,35 @@ pub(crate) fn put_text(text: &[u8], to: &mut Lines)
     ensures items { to.new.items ≡ to.old.items ++ text.now }
     ensures len { array_vec_len to.new ≡ array_vec_len to.old + length text.now }
 {
-    to.try_extend_from_slice(text).unwrap();
+    // Of a literal these become a few stores, with no test of room.
+    for byte in text {
+        to.push(*byte);
+    }
+}
+
+/// Appends the letter of a kind, and an `f` where there is a finalizer.
+#[inline(always)]
+pub(crate) fn put_kind(kind: Kind, finalize: bool, to: &mut Lines)
+    requires { array_vec_len to.old + 2 ≤ 4096 }
+    ensures items { to.new.items ≡ to.old.items ++ kind_word kind finalize }
+    ensures len { array_vec_len to.new ≤ array_vec_len to.old + 2 }
+{
+    to.push(kind_letter(kind));
+    if finalize {
+        to.push(b'f');
+    }
+}
+
+#[inline(always)]
+fn kind_letter(kind: Kind) -> u8
+    ensures { result ∷ [] ≡ model.kind_letter kind }
+{
+    match kind {
+        Kind::Traced => b't',
+        Kind::Leaf => b'l',
+        Kind::Counted => b'r',
+        Kind::Weak => b'w',
+    }
 }
 
 // Appends the two digits of a number below 100.

@@ -3,10 +3,10 @@ ghost use Rattle.std.specs.Prelude.{◌≡◌, ◌+◌, ◌≤◌, ◌++◌};
 ghost use Rattle.arrayvec.specs.ArrayVec.{array_vec_len};
 ghost use Rattle.mm_model.specs.Spelling as model;
 
-use crate::put::{Lines, put_number, put_sentence, put_text};
+use crate::put::{Lines, put_kind, put_number, put_sentence, put_text};
 use crate::refusal_text;
 use arrayvec::ArrayVec;
-use mm_model::{AreaAnswer, Kind, Line, Mapped, Phase, Refusal, Reply, Stat, Totals};
+use mm_model::{AreaAnswer, Line, Mapped, Phase, Refusal, Reply, Stat, Totals};
 
 /// Appends the spelling of a line, its newline with it. No line takes more than 50 bytes.
 #[inline]
@@ -131,7 +131,7 @@ fn put_object(found: Mapped, to: &mut Lines)
     put_text(b"object", to);
     put_number(found.base, to);
     to.push(b' ');
-    put_text(kind_word(found.kind, found.finalize), to);
+    put_kind(found.kind, found.finalize, to);
     put_number(found.extent, to);
     to.push(b'\n');
 }
@@ -152,20 +152,4 @@ fn put_refusal(refusal: Refusal, to: &mut Lines)
 {
     put_text(refusal_text(refusal).as_bytes(), to);
     to.push(b'\n');
-}
-
-// The letter of a kind, and an `f` where there is a finalizer.
-fn kind_word(kind: Kind, finalize: bool) -> &'static [u8]
-    ensures { result.now ≡ model.kind_word kind finalize }
-{
-    match (kind, finalize) {
-        (Kind::Traced, false) => b"t",
-        (Kind::Leaf, false) => b"l",
-        (Kind::Counted, false) => b"r",
-        (Kind::Weak, false) => b"w",
-        (Kind::Traced, true) => b"tf",
-        (Kind::Leaf, true) => b"lf",
-        (Kind::Counted, true) => b"rf",
-        (Kind::Weak, true) => b"wf",
-    }
 }
