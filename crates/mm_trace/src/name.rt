@@ -2,7 +2,7 @@
 ghost use Rattle.std.specs.Prelude.{◌≡◌, ◌++◌, true, false, Some, IfSome, OnSome};
 ghost use Rattle.mm_model.specs.Trace.{forms, entry_at, is_comment};
 ghost use Rattle.mm_trace.specs.Form.{model_form};
-ghost use Rattle.mm_trace.specs.Plain.{has_no_space, is_name, EndsWord, BeginsWith};
+ghost use Rattle.mm_trace.specs.Plain.{is_name, EndsWord, BeginsWithName};
 
 use crate::form::{Form, OfNone, OfOne, OfThree, OfTwo};
 use crate::word::is;
@@ -48,8 +48,7 @@ pub(crate) fn behind_word(text: &[u8]) -> Option<&[u8]>
 fn four<'a>(line: &'a [u8], name: &[u8; 4], form: Form) -> Option<(Form, &'a [u8])>
     requires name { is_name name.now ≡ true }
     requires form { entry_at forms name.now ≡ Some (model_form form) }
-    ensures form { IfSome result
-        (λ found. BeginsWith (λ word. entry_at forms word ≡ Some (model_form found.0)) line.now found.1.now) }
+    ensures form { IfSome result (λ found. BeginsWithName line.now found.0 found.1.now) }
     ensures plain { OnSome result (is_comment line.now ≡ false) }
 {
     let text = behind_four(line, name)?;
@@ -62,8 +61,7 @@ fn four<'a>(line: &'a [u8], name: &[u8; 4], form: Form) -> Option<(Form, &'a [u8
 fn three<'a>(line: &'a [u8], name: &[u8; 3], form: Form) -> Option<(Form, &'a [u8])>
     requires name { is_name name.now ≡ true }
     requires form { entry_at forms name.now ≡ Some (model_form form) }
-    ensures form { IfSome result
-        (λ found. BeginsWith (λ word. entry_at forms word ≡ Some (model_form found.0)) line.now found.1.now) }
+    ensures form { IfSome result (λ found. BeginsWithName line.now found.0 found.1.now) }
     ensures plain { OnSome result (is_comment line.now ≡ false) }
 {
     let rest = behind_four(line, &[name[0], name[1], name[2], b' '])?;
@@ -75,8 +73,7 @@ fn three<'a>(line: &'a [u8], name: &[u8; 3], form: Form) -> Option<(Form, &'a [u
 fn long<'a>(line: &'a [u8], front: &[u8; 4], back: &[u8], form: Form) -> Option<(Form, &'a [u8])>
     requires name { is_name (front.now ++ back.now) ≡ true }
     requires form { entry_at forms (front.now ++ back.now) ≡ Some (model_form form) }
-    ensures form { IfSome result
-        (λ found. BeginsWith (λ word. entry_at forms word ≡ Some (model_form found.0)) line.now found.1.now) }
+    ensures form { IfSome result (λ found. BeginsWithName line.now found.0 found.1.now) }
     ensures plain { OnSome result (is_comment line.now ≡ false) }
 {
     let text = behind_four(line, front)?;
@@ -88,8 +85,7 @@ fn long<'a>(line: &'a [u8], front: &[u8; 4], back: &[u8], form: Form) -> Option<
 // A name that begins with `p`.
 #[inline]
 fn with_p(line: &[u8]) -> Option<(Form, &[u8])>
-    ensures form { IfSome result
-        (λ found. BeginsWith (λ word. entry_at forms word ≡ Some (model_form found.0)) line.now found.1.now) }
+    ensures form { IfSome result (λ found. BeginsWithName line.now found.0 found.1.now) }
     ensures plain { OnSome result (is_comment line.now ≡ false) }
 {
     if let Some(found) = four(line, b"push", Form::One(OfOne::Push)) {
@@ -104,8 +100,7 @@ fn with_p(line: &[u8]) -> Option<(Form, &[u8])>
 // A name that begins with `a`.
 #[inline]
 fn with_a(line: &[u8]) -> Option<(Form, &[u8])>
-    ensures form { IfSome result
-        (λ found. BeginsWith (λ word. entry_at forms word ≡ Some (model_form found.0)) line.now found.1.now) }
+    ensures form { IfSome result (λ found. BeginsWithName line.now found.0 found.1.now) }
     ensures plain { OnSome result (is_comment line.now ≡ false) }
 {
     if let Some(found) = four(line, b"aget", Form::Two(OfTwo::AreaGet)) {
@@ -117,8 +112,7 @@ fn with_a(line: &[u8]) -> Option<(Form, &[u8])>
 // A name that begins with `d`.
 #[inline]
 fn with_d(line: &[u8]) -> Option<(Form, &[u8])>
-    ensures form { IfSome result
-        (λ found. BeginsWith (λ word. entry_at forms word ≡ Some (model_form found.0)) line.now found.1.now) }
+    ensures form { IfSome result (λ found. BeginsWithName line.now found.0 found.1.now) }
     ensures plain { OnSome result (is_comment line.now ≡ false) }
 {
     if let Some(found) = three(line, b"dup", Form::One(OfOne::Dup)) {
@@ -130,8 +124,7 @@ fn with_d(line: &[u8]) -> Option<(Form, &[u8])>
 // A name that begins with `f`.
 #[inline]
 fn with_f(line: &[u8]) -> Option<(Form, &[u8])>
-    ensures form { IfSome result
-        (λ found. BeginsWith (λ word. entry_at forms word ≡ Some (model_form found.0)) line.now found.1.now) }
+    ensures form { IfSome result (λ found. BeginsWithName line.now found.0 found.1.now) }
     ensures plain { OnSome result (is_comment line.now ≡ false) }
 {
     if let Some(found) = long(line, b"fixe", b"d", Form::One(OfOne::Fixed)) {
@@ -143,8 +136,7 @@ fn with_f(line: &[u8]) -> Option<(Form, &[u8])>
 // A name that begins with `r`.
 #[inline]
 fn with_r(line: &[u8]) -> Option<(Form, &[u8])>
-    ensures form { IfSome result
-        (λ found. BeginsWith (λ word. entry_at forms word ≡ Some (model_form found.0)) line.now found.1.now) }
+    ensures form { IfSome result (λ found. BeginsWithName line.now found.0 found.1.now) }
     ensures plain { OnSome result (is_comment line.now ≡ false) }
 {
     if let Some(found) = four(line, b"root", Form::Two(OfTwo::Root)) {
@@ -156,8 +148,7 @@ fn with_r(line: &[u8]) -> Option<(Form, &[u8])>
 // A name that begins with `s`.
 #[inline]
 fn with_s(line: &[u8]) -> Option<(Form, &[u8])>
-    ensures form { IfSome result
-        (λ found. BeginsWith (λ word. entry_at forms word ≡ Some (model_form found.0)) line.now found.1.now) }
+    ensures form { IfSome result (λ found. BeginsWithName line.now found.0 found.1.now) }
     ensures plain { OnSome result (is_comment line.now ≡ false) }
 {
     if let Some(found) = four(line, b"step", Form::One(OfOne::Step)) {
@@ -170,8 +161,7 @@ fn with_s(line: &[u8]) -> Option<(Form, &[u8])>
 /// that isn't plain.
 #[inline]
 pub(crate) fn name_at(line: &[u8]) -> Option<(Form, &[u8])>
-    ensures form { IfSome result
-        (λ found. BeginsWith (λ word. entry_at forms word ≡ Some (model_form found.0)) line.now found.1.now) }
+    ensures form { IfSome result (λ found. BeginsWithName line.now found.0 found.1.now) }
     ensures plain { OnSome result (is_comment line.now ≡ false) }
 {
     match line.first()? {

@@ -3,13 +3,16 @@ ghost use Rattle.std.specs.Prelude.{◌≡◌, ◌≤◌, ◌<◌, true, take, l
 ghost use Rattle.std.specs.List.{list_all};
 ghost use Rattle.mm_model.specs.Trace as trace;
 ghost use Rattle.mm_model.specs.Trace.{digits_value, is_digit};
-ghost use Rattle.mm_trace.specs.Plain.{BeginsWith};
+ghost use Rattle.mm_trace.specs.Plain.{BeginsWithNumber};
 
 use crate::name::behind_word;
 use mm_model::LineFault;
 
 /// The greatest number of digits.
 const DIGITS: usize = 10;
+
+/// The byte of the digit 0.
+const ZERO: u64 = b'0' as u64;
 
 /// The number that a word spells: one to ten digits, and a value of 32 bits.
 pub fn number_of(word: &[u8]) -> Result<u32, LineFault>
@@ -42,7 +45,7 @@ fn digits_at(text: &[u8]) -> (u64, usize)
     let front = &text[..text.len().min(DIGITS + 1)];
     let mut value: u64 = 0;
     for (i, byte) in front.iter().enumerate() {
-        let digit = u64::from(*byte).wrapping_sub(48);
+        let digit = u64::from(*byte).wrapping_sub(ZERO);
         if digit > 9 {
             return (value, i);
         }
@@ -54,8 +57,7 @@ fn digits_at(text: &[u8]) -> (u64, usize)
 // The number at the front of a text, and what stands behind it.
 #[inline]
 fn long_number_at(text: &[u8]) -> Option<(u32, &[u8])>
-    ensures { IfSome result
-        (λ read. BeginsWith (λ word. trace.number_of word ≡ Ok read.0) text.now read.1.now) }
+    ensures { IfSome result (λ read. BeginsWithNumber text.now read.0 read.1.now) }
 {
     let (value, count) = digits_at(text);
     if count == 0 || count > DIGITS || value > u64::from(u32::MAX) {
@@ -68,8 +70,7 @@ fn long_number_at(text: &[u8]) -> Option<(u32, &[u8])>
 /// The number at the front of a text, and what stands behind it.
 #[inline]
 pub(crate) fn number_at(text: &[u8]) -> Option<(u32, &[u8])>
-    ensures { IfSome result
-        (λ read. BeginsWith (λ word. trace.number_of word ≡ Ok read.0) text.now read.1.now) }
+    ensures { IfSome result (λ read. BeginsWithNumber text.now read.0 read.1.now) }
 {
     let (first, behind) = text.split_first()?;
     let digit = first.wrapping_sub(b'0');

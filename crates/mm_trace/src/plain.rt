@@ -3,7 +3,7 @@ ghost use Rattle.std.specs.Prelude.{◌≡◌, [], true, false, Some, Ok, IfSome
 ghost use Rattle.mm_model.specs.Trace as trace;
 ghost use Rattle.mm_model.specs.Trace.{words_of, words_reading, is_comment};
 ghost use Rattle.mm_trace.specs.Form.{model_form};
-ghost use Rattle.mm_trace.specs.Plain.{has_no_space, BeginsWith};
+ghost use Rattle.mm_trace.specs.Plain.{has_no_space, BeginsWithKind, BeginsWithNumber};
 
 use crate::form::{Form, OfNone, OfOne, OfThree, OfTwo};
 use crate::name::{behind, behind_word, name_at};
@@ -20,7 +20,7 @@ fn kind_named<'a>(
 ) -> Option<((Kind, bool), &'a [u8])>
     requires word { has_no_space word.now ≡ true }
     requires kind { trace.kind_of word.now ≡ Ok (kind, finalize) }
-    ensures { IfSome result (λ read. BeginsWith (λ word. trace.kind_of word ≡ Ok read.0) text.now read.1.now) }
+    ensures { IfSome result (λ read. BeginsWithKind text.now read.0 read.1.now) }
 {
     let text = behind(text, word)?;
     let rest = behind_word(text)?;
@@ -29,7 +29,7 @@ fn kind_named<'a>(
 
 // The kind word at the front of a text, and what stands behind it.
 fn kind_at(text: &[u8]) -> Option<((Kind, bool), &[u8])>
-    ensures { IfSome result (λ read. BeginsWith (λ word. trace.kind_of word ≡ Ok read.0) text.now read.1.now) }
+    ensures { IfSome result (λ read. BeginsWithKind text.now read.0 read.1.now) }
 {
     if let Some(found) = kind_named(text, b"t", Kind::Traced, false) {
         return Some(found);
@@ -52,7 +52,7 @@ fn kind_at(text: &[u8]) -> Option<((Kind, bool), &[u8])>
 // The last number of a line.
 #[inline]
 fn last_number(text: &[u8]) -> Option<u32>
-    ensures { IfSome result (λ number. BeginsWith (λ word. trace.number_of word ≡ Ok number) text.now []) }
+    ensures { IfSome result (λ number. BeginsWithNumber text.now number []) }
 {
     let (number, rest) = number_at(text)?;
     if rest.is_empty() { Some(number) } else { None }

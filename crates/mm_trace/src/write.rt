@@ -17,6 +17,7 @@ pub fn write_line(line: &Line, to: &mut ArrayVec<u8, 4096>)
     match line {
         // Most lines.
         Line::Reply(Reply::Done) => put_text(b"ok\n", to),
+        Line::Reply(reply) => put_reply(reply, to),
         _ => put_line(line, to),
     }
 }
@@ -81,7 +82,7 @@ fn put_total(totals: &Totals, to: &mut Lines)
     put_sentence(b"total", &[t.commands, t.born, t.freed, t.live], to);
 }
 
-#[inline]
+#[inline(never)]
 fn put_reply(reply: &Reply, to: &mut Lines)
     requires { array_vec_len to.old + 64 ≤ 4096 }
     ensures { to.new.items ≡ to.old.items ++ model.reply_spelling reply.now }
