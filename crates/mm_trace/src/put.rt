@@ -1,4 +1,4 @@
-// What lines are made of, appended to a buffer. All is inlined, so that a literal is copied as bytes of a known number.
+// What lines are made of, appended to a buffer. What takes a literal is inlined: its bytes become stores.
 ghost use Rattle.std.specs.Prelude.{◌≡◌, ◌+◌, ◌/◌, ◌%◌, ◌<◌, ◌≤◌, [], ◌∷◌, ◌++◌, length, decimal, map};
 ghost use Rattle.arrayvec.specs.ArrayVec.{array_vec_len};
 ghost use Rattle.mm_model.specs.Spelling as model;
