@@ -27,7 +27,8 @@ returns-in-100 c =
 pub returns-in-102 : goal.returns-in-102
 returns-in-102 c =
     let item = c.in_ok-first.ensures.item in
-    entry_at-either c.args.word.now 102 _ (codes "fixed") (codes "finish") (forms.One one.Fixed) (forms.None none.Finish)
+    entry_at-either c.args.word.now 102 _ (codes "fixed") (codes "finish")
+    (forms.One one.Fixed) (forms.None none.Finish)
     item.3.0 (sym (item.3.1 0) ∙ c.in-102.is) c.either-in-102.ensures (λ rest. refl)
 
 pub returns-in-108 : goal.returns-in-108
