@@ -1,5 +1,6 @@
 pub mod Forms
 pub mod Fronts
+pub mod Newlines
 pub mod Numbers
 pub mod Sentences
 pub mod WordEnds

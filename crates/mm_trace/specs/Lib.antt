@@ -1,3 +1,3 @@
 pub mod Form
-pub mod Held
+pub mod Lines
 pub mod Plain

@@ -1,89 +1,121 @@
-// Bytes cut into lines, one byte at a time.
-ghost use Rattle.std.specs.Prelude.{◌≡◌, ◌≤◌, false, length};
+// Bytes cut into lines.
+ghost use Rattle.std.specs.Prelude.{◌≡◌, ◌↔◌, ◌+◌, ◌<◌, ◌≤◌, ◌++◌, ◌==◌, [], length, take, drop, map, IsErr, IfErr, OnOk, OnErr};
+ghost use Rattle.mm_model.specs.declared.refusal.LineFault.TheVariants.{LineTooLong};
+ghost use Rattle.std.specs.Simd.Lanes.{mask_l};
+ghost use Rattle.mm_trace.specs.Lines.{IsLineEnd, IsWithinLine, is_newline};
 
+use arrayvec::ArrayVec;
+use mm_model::LineFault;
 use std::marker::Model;
+use std::simd::prelude::*;
 
 /// The greatest number of bytes of a line, without its newline.
 pub(crate) const LINE_LIMIT: usize = 1024;
 
-/// What one more byte made of the line.
-#[derive(Clone, Copy, Debug, PartialEq, Eq)]
-pub enum Cut {
-    /// The line goes on.
-    More,
-    /// The byte was a newline: the line is whole.
-    Line,
-    /// The line has more bytes than a line may have. The byte wasn't kept.
-    TooLong,
+/// How many bytes are searched at once.
+const LANES: usize = 16;
+
+/// Where the first newline stands.
+#[inline]
+pub fn line_end(bytes: &[u8]) -> Option<usize>
+    ensures { IsLineEnd bytes.now result }
+{
+    let mut at = 0;
+    while LANES <= bytes.len() - at {
+        let found = newlines(bytes, at);
+        if found != 0 {
+            return Some(at + found.trailing_zeros() as usize);
+        }
+        at += LANES;
+    }
+    line_end_behind(bytes, at)
 }
 
-/// The line that is being read, byte by byte. It takes no memory but its own.
+// Which of the next 16 bytes are newlines, the first at the lowest bit.
+#[inline]
+fn newlines(bytes: &[u8], at: usize) -> u64
+    requires { at + 16 ≤ length bytes.now }
+    ensures { result ≡ mask_l (map is_newline (take 16 (drop at bytes.now))) }
+{
+    u8x16::from_slice(&bytes[at..])
+        .simd_eq(u8x16::splat(b'\n'))
+        .to_bitmask()
+}
+
+// The same as `line_end`, one byte at a time from a place on.
+#[inline]
+fn line_end_behind(bytes: &[u8], from: usize) -> Option<usize>
+    requires from { from ≤ length bytes.now }
+    requires front { IsWithinLine (take from bytes.now) }
+    ensures { IsLineEnd bytes.now result }
+{
+    for end in from..bytes.len() {
+        if bytes[end] == b'\n' {
+            return Some(end);
+        }
+    }
+    None
+}
+
+/// The front of a line whose newline is still to come. It takes no memory but its own.
 #[derive(Drop)]
 pub struct Cutter {
-    bytes: [u8; LINE_LIMIT],
-    len: usize,
-    ended: bool,
+    bytes: ArrayVec<u8, LINE_LIMIT>,
 }
 
 impl Model for Cutter {
-    ghost use Rattle.std.specs.Prelude.{◌≤◌, take};
-    ghost use Rattle.mm_trace.specs.Held.{Held};
+    ghost use Rattle.std.specs.Prelude.{ℕ, List};
 
-    ghost Value = { Held };
+    ghost Value = { List ℕ };
 
-    ghost view = { λ c. record { bytes = take c.len c.bytes; ended = c.ended } };
-
-    ghost invariant = { λ c. c.len ≤ 1024 };
+    ghost view = { λ c. c.bytes.items };
 }
 
 impl Cutter {
-    ghost use Rattle.mm_trace.specs.Held.{AfterPush, nothing_held};
-
     /// A cutter that holds nothing.
     pub fn make() -> Cutter
-        ensures { result ≡ nothing_held }
+        ensures { result ≡ [] }
     {
         Cutter {
-            bytes: [0; LINE_LIMIT],
-            len: 0,
-            ended: false,
+            bytes: ArrayVec::new(),
         }
     }
 
-    /// Takes the next byte. After the end of a line, `clear` comes first.
-    #[inline]
-    pub fn push(&mut self, byte: u8) -> Cut
-        requires { self.old.ended ≡ false }
-        ensures { AfterPush self.old byte result self.new }
+    /// Takes the next bytes of the line, or none of them where the line would be too long.
+    pub fn extend(&mut self, bytes: &[u8]) -> Result<(), LineFault>
+        ensures too_long { IsErr result ↔ 1024 < length self.old + length bytes.now }
+        ensures fault { IfErr result (λ fault. fault ≡ LineTooLong) }
+        ensures held { OnOk result (self.new ≡ self.old ++ bytes.now) }
+        ensures unchanged { OnErr result (self.new ≡ self.old) }
     {
-        if byte == b'\n' {
-            self.ended = true;
-            return Cut::Line;
+        match self.bytes.try_extend_from_slice(bytes) {
+            Ok(()) => Ok(()),
+            Err(_) => Err(LineFault::LineTooLong),
         }
-        if self.len == LINE_LIMIT {
-            self.ended = true;
-            return Cut::TooLong;
-        }
-        self.bytes[self.len] = byte;
-        self.len += 1;
-        Cut::More
     }
 
-    /// The bytes of the line, without its newline.
+    /// Whether it holds nothing.
     #[inline]
-    pub fn line(&self) -> &[u8]
-        ensures value { result.now ≡ self.now.bytes }
+    pub fn is_empty(&self) -> bool
+        ensures { result ≡ (length self.now == 0) }
+    {
+        self.bytes.is_empty()
+    }
+
+    /// The bytes that it holds.
+    #[inline]
+    pub fn bytes(&self) -> &[u8]
+        ensures value { result.now ≡ self.now }
         ensures fits { length result.now ≤ 1024 }
     {
-        &self.bytes[..self.len]
+        self.bytes.as_slice()
     }
 
-    /// Forgets the line.
+    /// Forgets what it holds.
     #[inline]
     pub fn clear(&mut self)
-        ensures { self.new ≡ nothing_held }
+        ensures { self.new ≡ [] }
     {
-        self.len = 0;
-        self.ended = false;
+        self.bytes.clear();
     }
 }

@@ -15,7 +15,7 @@ mod text;
 mod word;
 mod write;
 
-pub use cutter::{Cut, Cutter};
+pub use cutter::{Cutter, line_end};
 pub use mm_model::LineFault;
 pub use number::number_of;
 pub use parse::parse_line;

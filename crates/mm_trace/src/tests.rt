@@ -1,6 +1,4 @@
-ghost use Rattle.std.specs.Prelude.{◌≡◌, false};
-
-use crate::{Cut, Cutter, fault_text, parse_line, write_line};
+use crate::{Cutter, fault_text, line_end, parse_line, write_line};
 use arrayvec::ArrayVec;
 use mm_model::{
     AreaAnswer, Command, Kind, Line, LineFault, Mapped, Phase, Refusal, Reply, Shape, Stat, Totals,
@@ -107,42 +105,40 @@ fn each_fault_comes_at_its_place(rt: HostRuntime) {
     assert_eq!(rt; parse_line(b"push\x001"), Err(LineFault::UnknownCommand));
 }
 
-// Hands over this many bytes, a newline in one place, up to the first byte that ends the line. Tells how many were
-// taken and what the last one made of the line.
-fn cut_first(cutter: &mut Cutter, newline: usize, len: usize) -> (usize, Cut)
-    requires { cutter.old.ended ≡ false }
-{
-    for i in 0..len {
-        let cut = cutter.push(if i == newline { b'\n' } else { b'x' });
-        if cut != Cut::More {
-            return (i + 1, cut);
-        }
+#[test]
+fn a_line_ends_at_its_first_newline(rt: HostRuntime) {
+    for (bytes, end) in [
+        ("", None),
+        ("\n", Some(0)),
+        ("pop 1", None),
+        ("pop 1\n", Some(5)),
+        ("pop 1\npop 2\n", Some(5)),
+        ("pop 1\r\n\n", Some(6)),
+        ("#               ", None),
+        ("#                \n", Some(17)),
+    ] {
+        assert_eq!(rt; line_end(bytes.as_bytes()), end, "at {bytes}");
     }
-    (len, Cut::More)
 }
 
 #[test]
-fn a_line_ends_at_its_newline_or_past_1024_bytes(rt: HostRuntime) {
+fn a_cutter_holds_1024_bytes(rt: HostRuntime) {
     let mut cutter = Cutter::make();
-    for (newline, len, taken, cut, held) in [
-        (1024, 1025, 1025, Cut::Line, 1024),
-        (1025, 1026, 1025, Cut::TooLong, 1024),
-        (2000, 1024, 1024, Cut::More, 1024),
-        (2000, 1025, 1025, Cut::TooLong, 1024),
-        (1023, 1030, 1024, Cut::Line, 1023),
-        (0, 3, 1, Cut::Line, 0),
-        (2, 3, 3, Cut::Line, 2),
-    ] {
-        cutter.clear();
-        let got = cut_first(&mut cutter, newline, len);
-        assert_eq!(rt; got, (taken, cut), "a newline at {newline} of {len}");
-        assert_eq!(rt;
-            cutter.line().len(),
-            held,
-            "a newline at {newline} of {len}"
-        );
-        assert!(rt; cutter.line().iter().all(|byte| *byte == b'x'));
-    }
+    assert!(rt; cutter.is_empty());
+    assert_eq!(rt; cutter.extend(b"push"), Ok(()));
+    assert_eq!(rt; cutter.extend(&[b'x'; 1021]), Err(LineFault::LineTooLong));
+    assert_eq!(rt; cutter.bytes(), b"push".as_slice());
+    assert_eq!(rt; cutter.extend(&[b'1'; 1020]), Ok(()));
+    assert_eq!(rt; cutter.bytes().len(), 1024);
+    assert!(rt; cutter.bytes().starts_with(b"push111"));
+    assert_eq!(rt; cutter.extend(b"1"), Err(LineFault::LineTooLong));
+    assert_eq!(rt; cutter.extend(b""), Ok(()));
+    cutter.clear();
+    assert!(rt; cutter.is_empty());
+}
+
+#[test]
+fn a_line_has_at_most_1024_bytes(rt: HostRuntime) {
     assert_eq!(rt; parse_line(&[b'#'; 1024]), Ok(None));
     assert_eq!(rt; parse_line(&[b'#'; 1025]), Err(LineFault::LineTooLong));
     assert_eq!(rt; parse_line(&[b' '; 1024]), Ok(None));

@@ -1,9 +1,12 @@
 -- Bytes and lines that are carried out, one after another.
-use Rattle.std.proofs.Common.{◌≡◌, ◌≢◌, ℕ, ◌+◌, ◌<◌, ◌≤◌, true, false, cond, List, [], ◌∷◌, ◌++◌, length, take, drop, get_or, length-append, Option, Some, None, Result, Ok, Err, refl, sym, ap, ◌∙◌, subst, append-nil, append_assoc, arith}
+use Rattle.std.proofs.Common.{◌≡◌, ◌≢◌, ℕ, ◌+◌, ◌<◌, ◌≤◌, true, false, cond, List, [], ◌∷◌, ◌++◌, length, take, drop, length-append, lt-ltb, Option, Some, None, Result, Ok, Err, refl, sym, ap, ◌∙◌, subst, append-nil, append_assoc, arith}
 use mathlib.Core.Path.{subst₃}
 use Rattle.std.proofs.lemmas.Bool.Decides.{nat_tests}
-use Rattle.std.proofs.lemmas.List.{length_push, length-take-le, drop_more, take_more, take-append-drop}
+use Rattle.std.proofs.lemmas.List.{length_push, length-take-le, take-append-drop, take_rest}
 use Rattle.std.proofs.lemmas.List.Concat.{flat_map-append}
+use Rattle.std.proofs.lemmas.List.Elements.{All-append}
+use Rattle.std.specs.List.{flat_map}
+use Rattle.std.specs.Prelude.{◌-◌, OnOk, IfErr}
 use Rattle.std.specs.Prelude.{nat_lt}
 use Rattle.mm_model.specs.declared.command.Command.{Command}
 use Rattle.mm_model.specs.declared.refusal.LineFault.{LineFault}
@@ -19,12 +22,12 @@ use Rattle.mm_model.specs.View.{Shows}
 use Rattle.mm_model.specs.Step.{IsStep}
 use Rattle.mm_model.specs.After.{after}
 use Rattle.mm_model.specs.Spelling.{spelling, spelling_of}
-use Rattle.mm_model.specs.Trace.{line_reading, words_reading, words_of, is_comment, complete_lines, lines_of, Reading, FaultAt}
+use Rattle.mm_model.specs.Trace.{line_reading, words_reading, words_of, is_comment, complete_lines, lines_of, line_if, Reading, FaultAt}
 use Rattle.mm_model.proofs.Good.Starting.{empty_is_good}
 use Rattle.mm_model.proofs.Text.Journals.{writes-none, writes-append}
-use Rattle.mm_model.proofs.Text.Traces.{Cuts, Cuts-none, Cuts-byte, Cuts-newline}
-use Rattle.mm_model.proofs.Text.Faults.{fault_at_end, reading-end-none, reading-end-nothing, reading-end-command, complete_lines-held, fault_at_newline, fault_too_long, reading-next-nothing, reading-next-command, lines-fewer, commands-fewer}
-use Rattle.mm_trace.specs.Held.{Held, nothing_held, at_end, with_byte}
+use Rattle.mm_model.proofs.Text.Traces.{Cuts, Cuts-none, Cuts-newline, with_newline, complete_lines-cuts, reading_from-stops}
+use Rattle.mm_model.proofs.Text.Faults.{fault_at_end, reading-end-none, reading-end-nothing, reading-end-command, complete_lines-held, fault_at_newline, reading-next-nothing, reading-next-command, lines-fewer, commands-fewer}
+use Rattle.mm_trace.specs.Lines.{IsWithinLine}
 use Rattle.mm_gc.specs.Gc.{Gc, view_of_gc, totals_in}
 use Rattle.mm_gc.specs.Rows.{IsStepOf, Executes, Kept}
 use Rattle.mm_model.specs.declared.settings.Settings.{Settings}
@@ -108,7 +111,7 @@ counted {commands = commands} c =
 
 -- the bytes so far are cut into the lines that were carried out and what is held
 pub cuts : {start : Start} {bytes : List ℕ} {now : Moment} (p : Progress start bytes now) →
-    Cuts bytes p.done now.held.bytes
+    Cuts bytes p.done now.held
 cuts p = record { whole = p.whole; lines_clean = p.done_clean; held_clean = p.held_clean }
 
 -- the numbers that a replay counts have room for what may still come
@@ -120,7 +123,7 @@ pub record HasRoom (now : Moment) (more : ℕ) : Type 0 where
 pub has_room : {now : Moment} {more : ℕ} → IsUnderWay now more → HasRoom now more
 has_room {now} {more} way =
     let p = way.progress in
-    let few = lines-fewer way.bytes p.done now.held.bytes (cuts p) in
+    let few = lines-fewer way.bytes p.done now.held (cuts p) in
     let fewer = commands-fewer line_reading 1 p.done in
     let c = counted p.stopped.carried in
     record {
@@ -154,20 +157,28 @@ fault_next : {start : Start} {bytes : List ℕ} {now : Moment} (fault : LineFaul
     ≡ faulty (reading_of p.done).commands (now.lines + 1) fault
 fault_next fault p = ap (λ n. faulty (reading_of p.done).commands (n + 1) fault) (sym p.lines_are)
 
--- one more byte of the line that is held
-pub progress-byte : {start : Start} {bytes : List ℕ} {now : Moment} (byte : ℕ) →
-    Progress start bytes now → byte ≢ 10 → length now.held.bytes < 1024 →
-    Progress start (bytes ++ byte ∷ []) (record now { held = with_byte now.held byte })
-progress-byte {bytes = bytes} {now = now} byte p other room =
-    let more = length_push now.held.bytes byte in
-    let cut = Cuts-byte bytes p.done now.held.bytes byte (cuts p) other in
+-- more bytes of the line that is held
+Cuts-more : (bytes : List ℕ) (lines : List (List ℕ)) (held more : List ℕ) → Cuts bytes lines held →
+    IsWithinLine more → Cuts (bytes ++ more) lines (held ++ more)
+Cuts-more bytes lines held more c clean =
+    record {
+      whole = ap (λ xs. xs ++ more) c.whole ∙ append_assoc (flat_map with_newline lines) held more;
+      lines_clean = c.lines_clean;
+      held_clean = All-append (λ (byte : ℕ). byte ≢ 10) held more c.held_clean clean;
+    }
+
+progress-more : {start : Start} {bytes : List ℕ} {now : Moment} (more : List ℕ) →
+    Progress start bytes now → IsWithinLine more → length now.held + length more ≤ 1024 →
+    Progress start (bytes ++ more) (record now { held = now.held ++ more })
+progress-more {bytes = bytes} {now = now} more p clean room =
+    let longer = length-append now.held more in
+    let cut = Cuts-more bytes p.done now.held more (cuts p) clean in
     record {
       done = p.done;
       whole = cut.whole;
       done_clean = cut.lines_clean;
       held_clean = cut.held_clean;
-      going_on = refl;
-      fits = omega (arith, more, room);
+      fits = omega (arith, longer, room);
       lines_are = p.lines_are;
       stopped = p.stopped;
     }
@@ -179,41 +190,54 @@ too_long line long =
     let passes : nat_lt 1024 (length line) ≡ true = grind (arith, nat_tests) in
     ap (λ b. cond b (Err LineTooLong) (cond (is_comment line) (Ok None) (words_reading (words_of line)))) passes
 
-pub stopped-too_long : {start : Start} {bytes : List ℕ} {now : Moment} (byte : ℕ) (rest : List ℕ) →
-    Progress start bytes now → byte ≢ 10 → length now.held.bytes ≡ 1024 →
-    Stopped start (complete_lines (bytes ++ byte ∷ rest))
+-- nothing was done with a line that is too long
+pub does-too_long : {Unchanged : Type 0} (carried : Command → Type 0) (line : List ℕ) → 1024 < length line →
+    Unchanged → DoesLine (line_reading line) (Err LineTooLong) Unchanged carried
+does-too_long {Unchanged} carried line long unchanged =
+    subst (λ r. DoesLine r (Err LineTooLong) Unchanged carried) (sym (too_long line long)) (refl, unchanged)
+
+stopped-too_long : {start : Start} {bytes : List ℕ} {now : Moment} (more : List ℕ) →
+    Progress start bytes now → IsWithinLine more → 1024 < length now.held + length more →
+    Stopped start (complete_lines (bytes ++ more))
     (Some (record { line = now.lines + 1; fault = LineTooLong })) now.heap now.kept
-stopped-too_long {bytes = bytes} {now = now} byte rest p other full =
-    stopped-reading p.stopped (fault_too_long line_reading bytes p.done now.held.bytes byte rest (cuts p)
-    p.stopped.fault_is full other too_long
+stopped-too_long {bytes = bytes} {now = now} more p clean long =
+    let line = now.held ++ more in
+    let longer : 1024 < length line = omega (arith, length-append now.held more, long) in
+    let turned : 1 + length p.done ≡ length p.done + 1 = omega arith in
+    stopped-reading p.stopped (ap reading_of
+    (complete_lines-cuts (bytes ++ more) p.done line (Cuts-more bytes p.done now.held more (cuts p) clean)
+    ∙ ap (λ b. p.done ++ line_if b line) (lt-ltb 1024 (length line) longer))
+    ∙ reading_from-stops line_reading 1 p.done line [] LineTooLong p.stopped.fault_is (too_long line longer)
+    ∙ ap (λ n. faulty (reading_of p.done).commands n LineTooLong) turned
     ∙ fault_next LineTooLong p)
 
 -- a whole line with a fault
-pub stopped-line : {start : Start} {bytes : List ℕ} {now : Moment} (fault : LineFault) (rest : List ℕ) →
-    Progress start bytes now → line_reading now.held.bytes ≡ Err fault →
-    Stopped start (complete_lines (bytes ++ 10 ∷ rest))
+stopped-line : {start : Start} {bytes : List ℕ} {now : Moment} (more : List ℕ) (fault : LineFault) (rest : List ℕ) →
+    Progress start bytes now → IsWithinLine more → line_reading (now.held ++ more) ≡ Err fault →
+    Stopped start (complete_lines ((bytes ++ more) ++ 10 ∷ rest))
     (Some (record { line = now.lines + 1; fault = fault })) now.heap now.kept
-stopped-line {bytes = bytes} {now = now} fault rest p e =
-    stopped-reading p.stopped (fault_at_newline line_reading bytes p.done now.held.bytes rest fault (cuts p)
-    p.stopped.fault_is e
+stopped-line {bytes = bytes} {now = now} more fault rest p clean e =
+    stopped-reading p.stopped (fault_at_newline line_reading (bytes ++ more) p.done (now.held ++ more) rest fault
+    (Cuts-more bytes p.done now.held more (cuts p) clean) p.stopped.fault_is e
     ∙ fault_next fault p)
 
 -- one more line that went well
-next_line : {start : Start} {bytes : List ℕ} {now : Moment} {heap : Gc} {kept : Kept}
-    (p : Progress start bytes now) → Stopped start (p.done ++ now.held.bytes ∷ []) None heap kept →
-    Progress start (bytes ++ 10 ∷ [])
-    (record { heap = heap; held = nothing_held; lines = now.lines + 1; kept = kept })
-next_line {bytes = bytes} {now = now} p s =
-    let more = length_push p.done now.held.bytes in
-    let cut = Cuts-newline bytes p.done now.held.bytes (cuts p) in
+next_line : {start : Start} {bytes : List ℕ} {now : Moment} {heap : Gc} {kept : Kept} (more : List ℕ)
+    (p : Progress start bytes now) → IsWithinLine more →
+    Stopped start (p.done ++ (now.held ++ more) ∷ []) None heap kept →
+    Progress start ((bytes ++ more) ++ 10 ∷ [])
+    (record { heap = heap; held = []; lines = now.lines + 1; kept = kept })
+next_line {bytes = bytes} {now = now} more p clean s =
+    let line = now.held ++ more in
+    let one_more = length_push p.done line in
+    let cut = Cuts-newline (bytes ++ more) p.done line (Cuts-more bytes p.done now.held more (cuts p) clean) in
     record {
-      done = p.done ++ now.held.bytes ∷ [];
+      done = p.done ++ line ∷ [];
       whole = cut.whole;
       done_clean = cut.lines_clean;
       held_clean = cut.held_clean;
-      going_on = refl;
       fits = omega arith;
-      lines_are = omega (arith, more, p.lines_are);
+      lines_are = omega (arith, one_more, p.lines_are);
       stopped = s;
     }
 
@@ -233,6 +257,11 @@ stopped-command {start} {new = new} {after = after} s c e =
           (writes-append (spelling_of s.log) (spelling_of c.group) s.written c.written);
     }
 
+-- what holds in any case holds at Ok
+pub on_ok_always : {T E P : Type 0} (result : Result T E) → P → OnOk result P
+on_ok_always (Ok x) p = p
+on_ok_always (Err e) p = tt
+
 -- What a whole line, or the rest of the input as a line, came to.
 module _ {start : Start} {bytes : List ℕ} {now : Moment} {heap : Gc} {kept : Kept}
     {Unchanged : Type 0} (same : Unchanged → (heap ≡ now.heap) × (kept ≡ now.kept))
@@ -248,35 +277,42 @@ module _ {start : Start} {bytes : List ℕ} {now : Moment} {heap : Gc} {kept : K
       subst (λ v. Stopped start lines fault v kept) (sym e.0)
       (subst (Stopped start lines fault now.heap) (sym e.1) s)
 
-  abbrev More : ℕ → Held → ℕ → Type 0
-  More byte held lines = Progress start (bytes ++ byte ∷ [])
+  abbrev More : List ℕ → List ℕ → ℕ → Type 0
+  More line held lines = Progress start ((bytes ++ line) ++ 10 ∷ [])
       (record { heap = heap; held = held; lines = lines; kept = kept })
 
-  abbrev Fault : ℕ → ℕ → LineFault → Type 0
-  Fault byte lines fault = (rest : List ℕ) →
-      Stopped start (complete_lines (bytes ++ byte ∷ rest)) (Some (record { line = lines; fault = fault })) heap kept
+  abbrev Fault : List ℕ → ℕ → LineFault → Type 0
+  Fault line lines fault = (rest : List ℕ) →
+      Stopped start (complete_lines ((bytes ++ line) ++ 10 ∷ rest))
+      (Some (record { line = lines; fault = fault })) heap kept
 
-  line_read : (reading : Result (Option Command) LineFault) → line_reading now.held.bytes ≡ reading → Did reading →
-      GoesOn result (More 10 nothing_held (now.lines + 1)) (Fault 10 (now.lines + 1))
-  line_read (Err fault) is d =
-      subst (λ r. GoesOn r (More 10 nothing_held (now.lines + 1)) (Fault 10 (now.lines + 1))) (sym d.0)
-      (λ rest. unchanged d.1 (stopped-line fault rest p is))
-  line_read (Ok None) is d =
-      subst (λ r. GoesOn r (More 10 nothing_held (now.lines + 1)) (Fault 10 (now.lines + 1))) (sym d.0)
-      (next_line p (unchanged d.1 (stopped-reading p.stopped
-      (reading-next-nothing line_reading p.done now.held.bytes p.stopped.fault_is is))))
-  line_read (Ok (Some command)) is d =
-      subst (λ r. GoesOn r (More 10 nothing_held (now.lines + 1)) (Fault 10 (now.lines + 1))) (sym d.0)
-      (next_line p (stopped-command p.stopped d.1
-      (reading-next-command line_reading p.done now.held.bytes command p.stopped.fault_is is)))
+  went_well : (line held : List ℕ) → OnOk result (held ≡ []) → result ≡ Ok tt → More line [] (now.lines + 1) →
+      GoesOn result (More line held (now.lines + 1)) (Fault line (now.lines + 1))
+  went_well line held none ok more =
+      let none : held ≡ [] = subst (λ r. OnOk r (held ≡ [])) ok none in
+      subst (λ r. GoesOn r (More line held (now.lines + 1)) (Fault line (now.lines + 1))) (sym ok)
+      (subst (λ h. More line h (now.lines + 1)) (sym none) more)
 
-  pub goes-on-line : (byte lines : ℕ) (pushed next : Held) → byte ≡ 10 → pushed ≡ at_end now.held →
-      next ≡ nothing_held → lines ≡ now.lines + 1 → Did (line_reading pushed.bytes) →
-      GoesOn result (More byte next lines) (Fault byte lines)
-  goes-on-line byte lines pushed next b e n l d =
-      let read = subst (λ (h : Held). Did (line_reading h.bytes)) e d in
-      subst₃ (λ b n l. GoesOn result (More b n l) (Fault b l)) (sym b) (sym n) (sym l)
-      (line_read (line_reading now.held.bytes) refl read)
+  line_read : (line held : List ℕ) → IsWithinLine line → OnOk result (held ≡ []) →
+      (reading : Result (Option Command) LineFault) → line_reading (now.held ++ line) ≡ reading → Did reading →
+      GoesOn result (More line held (now.lines + 1)) (Fault line (now.lines + 1))
+  line_read line held clean none (Err fault) is d =
+      subst (λ r. GoesOn r (More line held (now.lines + 1)) (Fault line (now.lines + 1))) (sym d.0)
+      (λ rest. unchanged d.1 (stopped-line line fault rest p clean is))
+  line_read line held clean none (Ok None) is d =
+      went_well line held none d.0 (next_line line p clean (unchanged d.1 (stopped-reading p.stopped
+      (reading-next-nothing line_reading p.done (now.held ++ line) p.stopped.fault_is is))))
+  line_read line held clean none (Ok (Some command)) is d =
+      went_well line held none d.0 (next_line line p clean (stopped-command p.stopped d.1
+      (reading-next-command line_reading p.done (now.held ++ line) command p.stopped.fault_is is)))
+
+  -- These bytes and a newline came, and nothing is held then.
+  pub goes-on-line : (line held : List ℕ) (lines : ℕ) → IsWithinLine line → OnOk result (held ≡ []) →
+      lines ≡ now.lines + 1 → Did (line_reading (now.held ++ line)) →
+      GoesOn result (More line held lines) (Fault line lines)
+  goes-on-line line held lines clean none l d =
+      subst (λ n. GoesOn result (More line held n) (Fault line n)) (sym l)
+      (line_read line held clean none (line_reading (now.held ++ line)) refl d)
 
   abbrev AtEnd : Type 0
   AtEnd = Stopped start (lines_of bytes) None heap kept
@@ -284,60 +320,104 @@ module _ {start : Start} {bytes : List ℕ} {now : Moment} {heap : Gc} {kept : K
   abbrev FaultAtEnd : ℕ → LineFault → Type 0
   FaultAtEnd lines fault = Stopped start (lines_of bytes) (Some (record { line = lines; fault = fault })) heap kept
 
-  rest_read : 0 < length now.held.bytes → (reading : Result (Option Command) LineFault) →
-      line_reading now.held.bytes ≡ reading → Did reading → GoesOn result AtEnd (FaultAtEnd (now.lines + 1))
+  rest_read : 0 < length now.held → (reading : Result (Option Command) LineFault) →
+      line_reading now.held ≡ reading → Did reading → GoesOn result AtEnd (FaultAtEnd (now.lines + 1))
   rest_read some (Err fault) is d =
       subst (λ r. GoesOn r AtEnd (FaultAtEnd (now.lines + 1))) (sym d.0)
-      (unchanged d.1 (stopped-reading p.stopped (fault_at_end line_reading bytes p.done now.held.bytes fault (cuts p)
+      (unchanged d.1 (stopped-reading p.stopped (fault_at_end line_reading bytes p.done now.held fault (cuts p)
       p.stopped.fault_is some is
       ∙ fault_next fault p)))
   rest_read some (Ok None) is d =
       subst (λ r. GoesOn r AtEnd (FaultAtEnd (now.lines + 1))) (sym d.0)
-      (unchanged d.1 (stopped-reading p.stopped (reading-end-nothing line_reading bytes p.done now.held.bytes (cuts p)
+      (unchanged d.1 (stopped-reading p.stopped (reading-end-nothing line_reading bytes p.done now.held (cuts p)
       p.stopped.fault_is some is)))
   rest_read some (Ok (Some command)) is d =
       subst (λ r. GoesOn r AtEnd (FaultAtEnd (now.lines + 1))) (sym d.0)
-      (stopped-command p.stopped d.1 (reading-end-command line_reading bytes p.done now.held.bytes command (cuts p)
+      (stopped-command p.stopped d.1 (reading-end-command line_reading bytes p.done now.held command (cuts p)
       p.stopped.fault_is some is))
 
-  pub goes-to-end : 0 < length now.held.bytes → (lines : ℕ) → lines ≡ now.lines + 1 →
-      Did (line_reading now.held.bytes) → GoesOn result AtEnd (FaultAtEnd lines)
+  pub goes-to-end : 0 < length now.held → (lines : ℕ) → lines ≡ now.lines + 1 →
+      Did (line_reading now.held) → GoesOn result AtEnd (FaultAtEnd lines)
   goes-to-end some lines l d = subst (λ n. GoesOn result AtEnd (FaultAtEnd n)) (sym l)
-      (rest_read some (line_reading now.held.bytes) refl d)
+      (rest_read some (line_reading now.held) refl d)
 
--- a piece that is taken byte by byte, behind the bytes before it
-pub piece_room : (bytes piece : List ℕ) (i : ℕ) → i < length piece → length bytes + length piece ≤ most_bytes →
-    length (bytes ++ take i piece) + 1 ≤ most_bytes
-piece_room bytes piece i below room =
-    let front = length-append bytes (take i piece) in
-    let short = length-take-le i piece (omega arith) in
-    omega (arith, front, short, room)
+-- A piece of which a front was taken: its next line is what stands before the newline in the rest.
+module _ (bytes front rest piece : List ℕ) (here : front ++ rest ≡ piece) where
+  behind : (bytes ++ front) ++ rest ≡ bytes ++ piece
+  behind = append_assoc bytes front rest ∙ ap (λ xs. bytes ++ xs) here
 
-pub piece_here : (bytes piece : List ℕ) (i : ℕ) → i < length piece →
-    (bytes ++ take i piece) ++ get_or piece i 0 ∷ drop (i + 1) piece ≡ bytes ++ piece
-piece_here bytes piece i below =
-    append_assoc bytes (take i piece) (get_or piece i 0 ∷ drop (i + 1) piece)
-    ∙ ap (λ rest. bytes ++ (take i piece ++ rest)) (sym (drop_more piece i 0 below))
-    ∙ ap (λ xs. bytes ++ xs) (take-append-drop i piece)
+  whole_length : length (bytes ++ front) + length rest ≡ length bytes + length piece
+  whole_length = sym (length-append (bytes ++ front) rest) ∙ ap length behind ∙ length-append bytes piece
 
-pub piece_more : (bytes piece : List ℕ) (i : ℕ) → i < length piece →
-    (bytes ++ take i piece) ++ get_or piece i 0 ∷ [] ≡ bytes ++ take (i + 1) piece
-piece_more bytes piece i below =
-    append_assoc bytes (take i piece) (get_or piece i 0 ∷ [])
-    ∙ ap (λ xs. bytes ++ xs) (sym (take_more piece i 0 below))
+  pub line_room : (n : ℕ) → n < length rest → length bytes + length piece ≤ most_bytes →
+      length (bytes ++ front) + (length (take n rest) + 1) ≤ most_bytes
+  line_room n below room =
+      let line = length-take-le n rest (omega arith) in
+      omega (arith, whole_length, line, room)
+
+  pub held_room : {start : Start} {now : Moment} → Progress start (bytes ++ front) now →
+      length bytes + length piece ≤ most_bytes → now.lines + (length now.held + length rest) ≤ most_bytes
+  held_room {now = now} p room =
+      let few = lines-fewer (bytes ++ front) p.done now.held (cuts p) in
+      omega (arith, few, p.lines_are, whole_length, room)
+
+  module _ (n : ℕ) (newline : drop n rest ≡ 10 ∷ drop (n + 1) rest) where
+    line_cut : (xs : List ℕ) → (xs ++ take n rest) ++ 10 ∷ drop (n + 1) rest ≡ xs ++ rest
+    line_cut xs =
+        append_assoc xs (take n rest) (10 ∷ drop (n + 1) rest)
+        ∙ ap (λ ys. xs ++ (take n rest ++ ys)) (sym newline)
+        ∙ ap (λ ys. xs ++ ys) (take-append-drop n rest)
+
+    pub piece_here : ((bytes ++ front) ++ take n rest) ++ 10 ∷ drop (n + 1) rest ≡ bytes ++ piece
+    piece_here = line_cut (bytes ++ front) ∙ behind
+
+    pub piece_next : ((front ++ take n rest) ++ 10 ∷ []) ++ take (length rest - (n + 1)) (drop (n + 1) rest) ≡ piece
+    piece_next =
+        ap (λ xs. ((front ++ take n rest) ++ 10 ∷ []) ++ xs) (take_rest rest (n + 1))
+        ∙ append_assoc (front ++ take n rest) (10 ∷ []) (drop (n + 1) rest)
+        ∙ line_cut front
+        ∙ here
+
+  pub front_next : (line : List ℕ) →
+      ((bytes ++ front) ++ line) ++ 10 ∷ [] ≡ bytes ++ ((front ++ line) ++ 10 ∷ [])
+  front_next line = simp append_assoc
+
+  -- what the rest of the piece came to, where no newline is in it
+  pub goes-on-held : {start : Start} {now : Moment} (held : List ℕ) (lines : ℕ)
+      (result : Result (Unit {0}) LineFault) → Progress start (bytes ++ front) now → IsWithinLine rest →
+      OnOk result ((held ≡ now.held ++ rest) × (lines ≡ now.lines)) →
+      OnOk result (length now.held + length rest ≤ 1024) →
+      IfErr result (λ fault.
+      (fault ≡ LineTooLong) × (1024 < length now.held + length rest) × (lines ≡ now.lines + 1)) →
+      GoesOn result (Progress start (bytes ++ piece) (record now { held = held; lines = lines }))
+      (λ fault. Stopped start (complete_lines (bytes ++ piece)) (Some (record { line = lines; fault = fault }))
+      now.heap now.kept)
+  goes-on-held {start} {now} held lines (Ok done) p clean is fits long =
+      subst (λ xs. Progress start xs (record now { held = held; lines = lines })) behind
+      (subst (λ h. Progress start ((bytes ++ front) ++ rest) (record now { held = h; lines = lines })) (sym is.0)
+      (subst (λ n. Progress start ((bytes ++ front) ++ rest) (record now { held = now.held ++ rest; lines = n }))
+      (sym is.1) (progress-more rest p clean fits)))
+  goes-on-held {start} {now} held lines (Err fault) p clean is fits long =
+      subst (λ xs. Stopped start (complete_lines xs) (Some (record { line = lines; fault = fault })) now.heap now.kept)
+      behind
+      (subst (λ f. Stopped start (complete_lines ((bytes ++ front) ++ rest)) (Some (record { line = lines; fault = f }))
+      now.heap now.kept) (sym long.0)
+      (subst (λ n. Stopped start (complete_lines ((bytes ++ front) ++ rest))
+      (Some (record { line = n; fault = LineTooLong })) now.heap now.kept) (sym long.2)
+      (stopped-too_long rest p clean long.1)))
 
 -- nothing is held at the end
 pub stopped-none : {start : Start} {bytes : List ℕ} {now : Moment} →
-    Progress start bytes now → now.held.bytes ≡ [] → Stopped start (lines_of bytes) None now.heap now.kept
+    Progress start bytes now → now.held ≡ [] → Stopped start (lines_of bytes) None now.heap now.kept
 stopped-none {bytes = bytes} p none =
     stopped-reading p.stopped (reading-end-none line_reading bytes p.done (subst (Cuts bytes p.done) none (cuts p))
     ∙ ap (λ f. record { commands = (reading_of p.done).commands; fault = f }) p.stopped.fault_is)
 
 -- there is room for one more line where some of it is held
-pub has_room-held : {now : Moment} → IsUnderWay now 0 → 0 < length now.held.bytes → HasRoom now 1
+pub has_room-held : {now : Moment} → IsUnderWay now 0 → 0 < length now.held → HasRoom now 1
 has_room-held {now} way some =
     let p = way.progress in
-    let few = lines-fewer way.bytes p.done now.held.bytes (cuts p) in
+    let few = lines-fewer way.bytes p.done now.held (cuts p) in
     let fewer = commands-fewer line_reading 1 p.done in
     let c = counted p.stopped.carried in
     record {
@@ -351,7 +431,7 @@ pub progress-stopped : {start : Start} {bytes : List ℕ} {now : Moment} →
     Progress start bytes now → Stopped start (complete_lines bytes) None now.heap now.kept
 progress-stopped {start} {bytes} {now} p =
     subst (λ lines. Stopped start lines None now.heap now.kept)
-    (sym (complete_lines-held bytes p.done now.held.bytes (cuts p) p.fits)) p.stopped
+    (sym (complete_lines-held bytes p.done now.held (cuts p) p.fits)) p.stopped
 
 -- a journal that writes nothing more
 pub stopped-settled : {start : Start} {lines : List (List ℕ)} {fault : Option FaultAt} {heap : Gc}
@@ -374,7 +454,6 @@ progress-settled p w =
       whole = p.whole;
       done_clean = p.done_clean;
       held_clean = p.held_clean;
-      going_on = p.going_on;
       fits = p.fits;
       lines_are = p.lines_are;
       stopped = stopped-settled p.stopped w;
@@ -384,14 +463,13 @@ progress-settled p w =
 pub progress-none : (settings : Settings) (heap : Gc) (kept : Option (List ℕ)) →
     IsNew settings heap →
     Progress (record { settings = settings; kept = kept }) []
-    (record { heap = heap; held = nothing_held; lines = 0; kept = record { bytes = kept; broken = false } })
+    (record { heap = heap; held = []; lines = 0; kept = record { bytes = kept; broken = false } })
 progress-none settings heap kept shows =
     record {
       done = [];
       whole = refl;
       done_clean = Cuts-none.lines_clean;
       held_clean = Cuts-none.held_clean;
-      going_on = refl;
       fits = omega arith;
       lines_are = refl;
       stopped = record {
@@ -410,8 +488,8 @@ progress-none settings heap kept shows =
     }
 
 -- the same, in the words of what was made
-pub progress-began : (settings : Settings) (heap : Gc) (held : Held) (lines : ℕ) (kept : Kept) →
-    held ≡ nothing_held → lines ≡ 0 → kept.broken ≡ false → IsNew settings heap →
+pub progress-began : (settings : Settings) (heap : Gc) (held : List ℕ) (lines : ℕ) (kept : Kept) →
+    held ≡ [] → lines ≡ 0 → kept.broken ≡ false → IsNew settings heap →
     Progress (record { settings = settings; kept = kept.bytes }) []
     (record { heap = heap; held = held; lines = lines; kept = kept })
 progress-began settings heap held lines kept h n whole shows =

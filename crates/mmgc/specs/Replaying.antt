@@ -1,5 +1,5 @@
 -- How the bytes of a trace are carried out, line by line.
-use Rattle.std.specs.Prelude.{◌≡◌, ◌≢◌, ℕ, ◌+◌, ◌-◌, ◌^◌, ◌≤◌, false, List, ◌++◌, ◌∷◌, [], length, flat_map, Option, Some, None, Result, Ok, Err}
+use Rattle.std.specs.Prelude.{◌≡◌, ℕ, ◌+◌, ◌-◌, ◌^◌, ◌≤◌, false, List, ◌++◌, ◌∷◌, [], length, flat_map, Option, Some, None, Result, Ok, Err}
 use Rattle.std.specs.List.{All}
 use Rattle.mm_model.specs.Limits.{IsWithinLimits}
 use Rattle.mm_model.specs.declared.command.Command.{Command}
@@ -14,7 +14,7 @@ use Rattle.mm_model.specs.View.{Shows}
 use Rattle.mm_model.specs.Journal.{Writes}
 use Rattle.mm_model.specs.Spelling.{spelling_of}
 use Rattle.mm_model.specs.Trace.{line_reading, reading_from, Reading, FaultAt}
-use Rattle.mm_trace.specs.Held.{Held}
+use Rattle.mm_trace.specs.Lines.{IsWithinLine}
 use Rattle.mm_gc.specs.Gc.{Gc, view_of_gc}
 use Rattle.mm_gc.specs.Rows.{IsStepOf, Kept}
 
@@ -42,7 +42,7 @@ GrewSince start kept bytes = Writes start.kept false kept.bytes kept.broken byte
 -- a replay at one moment: its heap, the piece of a line that it holds, the lines that it read, and its journal
 pub record Moment : Type 0 where
   pub heap : Gc
-  pub held : Held
+  pub held : List ℕ
   pub lines : ℕ
   pub kept : Kept
 
@@ -68,18 +68,13 @@ pub record Stopped (start : Start) (lines : List (List ℕ)) (fault : Option Fau
   pub carried : CarriedOut start.settings (reading_of lines).commands log heap
   pub written : GrewSince start kept (spelling_of log)
 
--- bytes within a line
-abbrev pub IsWithinLine : List ℕ → Type 0
-IsWithinLine bytes = All (λ (byte : ℕ). byte ≢ 10) bytes
-
 -- The bytes so far were cut into lines, which were carried out without a fault, and a piece of the next line is held.
 pub record Progress (start : Start) (bytes : List ℕ) (now : Moment) : Type 0 where
   pub done : List (List ℕ)
-  pub whole : bytes ≡ flat_map (λ line. line ++ 10 ∷ []) done ++ now.held.bytes
+  pub whole : bytes ≡ flat_map (λ line. line ++ 10 ∷ []) done ++ now.held
   pub done_clean : All IsWithinLine done
-  pub held_clean : IsWithinLine now.held.bytes
-  pub going_on : now.held.ended ≡ false
-  pub fits : length now.held.bytes ≤ 1024
+  pub held_clean : IsWithinLine now.held
+  pub fits : length now.held ≤ 1024
   pub lines_are : now.lines ≡ length done
   pub stopped : Stopped start done None now.heap now.kept
 
@@ -96,7 +91,7 @@ pub record CarriesOut (old new : Gc) (command : Command) (before after : Kept) :
   pub step : (a : State) → IsGood a → Shows (view_of_gc old) a → IsStepOf (view_of_gc new) command group a
   pub written : Grew before after (spelling_of group)
 
--- What one more byte, or several, made of the progress: more of it, or a fault at this line.
+-- What more bytes made of the progress: more of it, or a fault at this line.
 abbrev pub GoesOn : Result (Unit {0}) LineFault → Type 0 → (LineFault → Type 0) → Type 0
 GoesOn (Ok done) more stopped = more
 GoesOn (Err fault) more stopped = stopped fault

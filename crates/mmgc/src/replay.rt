@@ -1,8 +1,9 @@
 // A trace that is being carried out.
-ghost use Rattle.std.specs.Prelude.{◌≡◌, ℕ, ◌+◌, ◌-◌, ◌<◌, ◌≤◌, ◌++◌, ◌∷◌, [], ◌^◌, false, true, Some, None, Ok, Err, Option, List, length, IfOk, IfSome, OnOk, IsTrue, cond};
+ghost use Rattle.std.specs.Prelude.{◌≡◌, ℕ, ◌+◌, ◌-◌, ◌<◌, ◌≤◌, ◌++◌, ◌∷◌, [], ◌^◌, false, true, Some, None, Ok, Err, Option, List, length, IfErr, IfOk, IfSome, OnOk, IsTrue, cond};
 ghost use Rattle.mm_gc.specs.Gc.{view_of_gc};
 ghost use Rattle.mm_io.specs.Told.{Gives};
-ghost use Rattle.mm_trace.specs.Held.{nothing_held};
+ghost use Rattle.mm_trace.specs.Lines.{IsWithinLine};
+ghost use Rattle.mm_model.specs.declared.refusal.LineFault.TheVariants.{LineTooLong};
 ghost use Rattle.mm_model.specs.declared.settings.Settings.{Settings};
 ghost use Rattle.mm_model.specs.Trace.{complete_lines, line_reading, lines_of, FaultAt};
 ghost use Rattle.mmgc.specs.Logging.{kept_by, moment_of, KeepsOn};
@@ -14,7 +15,7 @@ use mm_gc::Gc;
 use mm_io::{Sink, Source};
 use mm_model::{Command, Line, LineFault};
 use mm_steps::Steps;
-use mm_trace::{Cut, Cutter, parse_line};
+use mm_trace::{Cutter, line_end, parse_line};
 use std::marker::Brand;
 use std::sync::ledger::{Blank, Ledger};
 
@@ -62,58 +63,91 @@ fn execute<K: Sink, L: Ledger>(
     log.line(&Line::Reply(reply));
 }
 
+/// Carries out what a line says.
+fn take_line<K: Sink>(
+    heap: &mut Gc,
+    log: &mut LogWriter<'_, K>,
+    line: &[u8],
+) -> Result<(), LineFault>
+    requires commands { (view_of_gc heap.old).totals.commands < 2 ^ 32 - 1 }
+    requires births { (view_of_gc heap.old).totals.born < 2 ^ 32 - 1 }
+    ensures done { DoesLine (line_reading line.now) result
+        ((heap.new ≡ heap.old) × (log.new ≡ log.old))
+        (λ command. CarriesOut heap.old heap.new command
+        (kept_by K.taken log.old) (kept_by K.taken log.new)) }
+    ensures kept { KeepsOn K.faults K.taken log.old log.new }
+{
+    match parse_line(line)? {
+        None => Ok(()),
+        Some(command) => {
+            execute::<K, Brand>(heap, log, &command, Blank::new(1));
+            Ok(())
+        }
+    }
+}
+
 impl Replay {
-    /// Carries out what the held line says.
-    fn take_line<K: Sink>(
+    /// Carries out what the line says that is held and goes on with these bytes.
+    fn take_joined<K: Sink>(
         &mut self,
         heap: &mut Gc,
         log: &mut LogWriter<'_, K>,
+        rest: &[u8],
     ) -> Result<(), LineFault>
         requires commands { (view_of_gc heap.old).totals.commands < 2 ^ 32 - 1 }
         requires births { (view_of_gc heap.old).totals.born < 2 ^ 32 - 1 }
-        ensures done { DoesLine (line_reading self.old.cutter.bytes) result
+        ensures done { DoesLine (line_reading (self.old.cutter ++ rest.now)) result
             ((heap.new ≡ heap.old) × (log.new ≡ log.old))
             (λ command. CarriesOut heap.old heap.new command
             (kept_by K.taken log.old) (kept_by K.taken log.new)) }
         ensures kept { KeepsOn K.faults K.taken log.old log.new }
-        ensures cutter { self.new.cutter ≡ self.old.cutter }
+        ensures cutter { OnOk result (self.new.cutter ≡ []) }
         ensures lines { self.new.lines ≡ self.old.lines }
     {
-        match parse_line(self.cutter.line())? {
-            None => Ok(()),
-            Some(command) => {
-                execute::<K, Brand>(heap, log, &command, Blank::new(1));
-                Ok(())
-            }
-        }
+        self.cutter.extend(rest)?;
+        let taken = take_line(heap, log, self.cutter.bytes());
+        self.cutter.clear();
+        taken
     }
 
-    /// Takes the next byte of the trace.
-    fn take_byte<K: Sink>(
+    /// Takes the bytes up to the next newline, and the newline.
+    fn take_ended<K: Sink>(
         &mut self,
         heap: &mut Gc,
         log: &mut LogWriter<'_, K>,
-        byte: u8,
+        line: &[u8],
     ) -> Result<(), LineFault>
-        requires { IsUnderWay (moment_of K.taken heap.old self.old log.old) 1 }
-        ensures progress { (start : Start) (bytes : List ℕ) → length bytes + 1 ≤ most_bytes →
+        requires within { IsWithinLine line.now }
+        requires room { IsUnderWay (moment_of K.taken heap.old self.old log.old) (length line.now + 1) }
+        ensures progress { (start : Start) (bytes : List ℕ) → length bytes + (length line.now + 1) ≤ most_bytes →
             Progress start bytes (moment_of K.taken heap.old self.old log.old) →
-            GoesOn result (Progress start (bytes ++ byte ∷ []) (moment_of K.taken heap.new self.new log.new))
-            (λ fault. (rest : List ℕ) → Stopped start (complete_lines (bytes ++ byte ∷ rest))
+            GoesOn result
+            (Progress start ((bytes ++ line.now) ++ 10 ∷ []) (moment_of K.taken heap.new self.new log.new))
+            (λ fault. (rest : List ℕ) → Stopped start (complete_lines ((bytes ++ line.now) ++ 10 ∷ rest))
             (Some (record { line = self.new.lines; fault = fault })) heap.new (kept_by K.taken log.new)) }
         ensures kept { KeepsOn K.faults K.taken log.old log.new }
     {
-        match self.cutter.push(byte) {
-            Cut::More => Ok(()),
-            Cut::TooLong => {
+        self.lines += 1;
+        if self.cutter.is_empty() {
+            return take_line(heap, log, line);
+        }
+        self.take_joined(heap, log, line)
+    }
+
+    /// Holds bytes of a line whose newline is still to come.
+    fn hold(&mut self, bytes: &[u8]) -> Result<(), LineFault>
+        requires { self.old.lines + (length self.old.cutter + length bytes.now) ≤ most_bytes }
+        ensures held { OnOk result ((self.new.cutter ≡ self.old.cutter ++ bytes.now)
+            × (self.new.lines ≡ self.old.lines)) }
+        ensures fits { OnOk result (length self.old.cutter + length bytes.now ≤ 1024) }
+        ensures too_long { IfErr result (λ fault. (fault ≡ LineTooLong)
+            × (1024 < length self.old.cutter + length bytes.now) × (self.new.lines ≡ self.old.lines + 1)) }
+    {
+        match self.cutter.extend(bytes) {
+            Ok(()) => Ok(()),
+            Err(fault) => {
                 self.lines += 1;
-                Err(LineFault::LineTooLong)
-            }
-            Cut::Line => {
-                self.lines += 1;
-                let taken = self.take_line(heap, log);
-                self.cutter.clear();
-                taken
+                Err(fault)
             }
         }
     }
@@ -133,12 +167,12 @@ impl Replay {
             (Some (record { line = self.new.lines; fault = fault })) heap.new (kept_by K.taken log.new)) }
         ensures kept { KeepsOn K.faults K.taken log.old log.new }
     {
-        for byte in piece {
-            if let Err(fault) = self.take_byte(heap, log, *byte) {
-                return Err(fault);
-            }
+        let mut rest = piece;
+        while let Some(end) = line_end(rest) {
+            self.take_ended(heap, log, &rest[..end])?;
+            rest = &rest[end + 1..];
         }
-        Ok(())
+        self.hold(rest)
     }
 
     /// Takes what is held as the last line of the input, unless nothing is held.
@@ -155,11 +189,11 @@ impl Replay {
             heap.new (kept_by K.taken log.new)) }
         ensures kept { KeepsOn K.faults K.taken log.old log.new }
     {
-        if self.cutter.line().is_empty() {
+        if self.cutter.is_empty() {
             return Ok(());
         }
         self.lines += 1;
-        self.take_line(heap, log)
+        take_line(heap, log, self.cutter.bytes())
     }
 
     /// Writes what is pending, and then reads once and takes what was read; `room` is how many bytes a trace may still
@@ -304,7 +338,7 @@ impl Replay {
 
     /// A replay of which nothing was read yet.
     fn make() -> Replay
-        ensures cutter { result.cutter ≡ nothing_held }
+        ensures cutter { result.cutter ≡ [] }
         ensures lines { result.lines ≡ 0 }
     {
         Replay {
@@ -321,7 +355,7 @@ impl Replay {
         source: &mut S,
     ) -> End
         requires heap { (settings : Settings) × IsNew settings heap.old }
-        requires cutter { self.old.cutter ≡ nothing_held }
+        requires cutter { self.old.cutter ≡ [] }
         requires lines { self.old.lines ≡ 0 }
         requires whole { log.old.broken ≡ false }
         requires pending { log.old.pending.items ≡ [] }

@@ -3,6 +3,7 @@ ghost use Rattle.std.specs.Prelude.{◌≤◌};
 mod failures;
 mod faults;
 mod large;
+mod pieces;
 mod rows;
 mod text;
 mod words;

@@ -1,49 +1,85 @@
-use Rattle.std.proofs.Common.{◌+◌, ◌++◌, Some, take, drop, subst}
+use Rattle.std.proofs.Common.{[], ◌∷◌, ◌++◌, ◌+◌, Some, take, drop, refl, append-nil, sym, subst}
+use Rattle.std.proofs.lemmas.Result.{err_from_is_err_and}
 use Rattle.mm_model.specs.Trace.{complete_lines}
+use Rattle.mmgc.specs.Keeping.{keeps-same, keeps-trans}
 use Rattle.mmgc.specs.Logging.{kept_by, moment_of}
 use Rattle.mmgc.specs.Replaying.{Progress, Stopped}
-use Rattle.mmgc.proofs.Replays.{piece_room, piece_here, piece_more}
-use Rattle.mmgc.specs.Keeping.{keeps-trans}
+use Rattle.mmgc.proofs.Replays.{line_room, held_room, piece_here, piece_next, front_next, goes-on-held}
 use Rattle.mmgc.proofs.replay.Replay.take_piece.Goals as goal
 
-pub take_byte-requires : goal.take_byte-requires
-take_byte-requires g c =
+-- nothing was taken yet
+pub loop-end-init : goal.loop-end-init
+loop-end-init g c =
     record {
-      start = c.requires.start;
-      bytes = c.requires.bytes ++ take c.loop-byte.byte-index c.args.piece.now;
-      progress = c.loop-byte.invariant.progress c.requires.start c.requires.bytes c.requires.room
-          c.requires.progress;
-      room = piece_room c.requires.bytes c.args.piece.now c.loop-byte.byte-index c.loop-byte-test.true
-          c.requires.room;
+      front = [];
+      here = refl;
+      progress = λ start bytes room p. subst (λ all. Progress start all
+          (moment_of g.K.Sink.taken c.args.heap.now c.args.self.now c.args.log.now)) (sym (append-nil bytes)) p;
+      kept = keeps-same;
+    }
+
+pub take_ended-requires-clause-room : goal.take_ended-requires-clause-room
+take_ended-requires-clause-room g c =
+    let way = c.requires in
+    let before = c.loop-end.invariant in
+    record {
+      start = way.start;
+      bytes = way.bytes ++ before.front;
+      progress = before.progress way.start way.bytes way.room way.progress;
+      room = line_room way.bytes before.front c.loop-end.rest.now c.args.piece.now before.here c.in-Some.end
+          c.in-Some.ensures.0 way.room;
     }
 
 -- whatever follows in the piece
-pub returns-in-Err-clause-progress : goal.returns-in-Err-clause-progress
-returns-in-Err-clause-progress g c start bytes room p =
-    let i = c.loop-byte.byte-index in
+pub returns-in_err-take_ended-clause-progress : goal.returns-in_err-take_ended-clause-progress
+returns-in_err-take_ended-clause-progress g c start bytes room p =
+    let before = c.loop-end.invariant in
+    let rest = c.loop-end.rest.now in
     let piece = c.args.piece.now in
-    let front = c.loop-byte.invariant.progress start bytes room p in
-    let stopped = c.in-Err.ensures.progress start (bytes ++ take i piece)
-    (piece_room bytes piece i c.loop-byte-test.true room) front (drop (i + 1) piece) in
-    subst (λ all. Stopped start (complete_lines all) (Some
-    (record { line = c.take_byte.new.self.lines; fault = c.in-Err.fault }))
-    c.take_byte.new.heap (kept_by g.K.Sink.taken c.take_byte.new.log))
-    (piece_here bytes piece i c.loop-byte-test.true) stopped
+    let end = c.in-Some.end in
+    let stopped = c.in_err-take_ended.ensures.progress start (bytes ++ before.front)
+    (line_room bytes before.front rest piece before.here end c.in-Some.ensures.0 room)
+    (before.progress start bytes room p) (drop (end + 1) rest) in
+    let failed = err_from_is_err_and c.from_residual.result c.from_residual.ensures.1 in
+    rw (failed.1, failed.2) (subst (λ all. Stopped start (complete_lines all) (Some
+    (record { line = c.take_ended.new.self.lines; fault = c.in_err-take_ended.field-0.0 }))
+    c.take_ended.new.heap (kept_by g.K.Sink.taken c.take_ended.new.log))
+    (piece_here bytes before.front rest piece before.here end c.in-Some.ensures.2) stopped)
 
-pub returns-in-Err-clause-kept : goal.returns-in-Err-clause-kept
-returns-in-Err-clause-kept g c = keeps-trans c.loop-byte.invariant.kept c.take_byte.ensures.kept
+pub returns-in_err-take_ended-clause-kept : goal.returns-in_err-take_ended-clause-kept
+returns-in_err-take_ended-clause-kept g c = keeps-trans c.loop-end.invariant.kept c.take_ended.ensures.kept
 
-pub loop-byte-preserved : goal.loop-byte-preserved
-loop-byte-preserved g c =
-    let i = c.loop-byte.byte-index in
+pub loop-end-preserved : goal.loop-end-preserved
+loop-end-preserved g c =
+    let before = c.loop-end.invariant in
+    let rest = c.loop-end.rest.now in
     let piece = c.args.piece.now in
+    let end = c.in-Some.end in
     record {
+      front = (before.front ++ take end rest) ++ 10 ∷ [];
+      here = piece_next [] before.front rest piece before.here end c.in-Some.ensures.2;
       progress = λ start bytes room p.
-          let front = c.loop-byte.invariant.progress start bytes room p in
-          let next = c.in_default.ensures.progress start (bytes ++ take i piece)
-          (piece_room bytes piece i c.loop-byte-test.true room) front in
+          let next = c.in_ok-take_ended.ensures.progress start (bytes ++ before.front)
+          (line_room bytes before.front rest piece before.here end c.in-Some.ensures.0 room)
+          (before.progress start bytes room p) in
           subst (λ all. Progress start all
-          (moment_of g.K.Sink.taken c.take_byte.new.heap c.take_byte.new.self c.take_byte.new.log))
-          (piece_more bytes piece i c.loop-byte-test.true) next;
-      kept = keeps-trans c.loop-byte.invariant.kept c.take_byte.ensures.kept;
+          (moment_of g.K.Sink.taken c.take_ended.new.heap c.take_ended.new.self c.take_ended.new.log))
+          (front_next bytes before.front rest piece before.here (take end rest)) next;
+      kept = keeps-trans before.kept c.take_ended.ensures.kept;
     }
+
+pub hold-requires : goal.hold-requires
+hold-requires g c =
+    let way = c.requires in
+    let before = c.loop-end.invariant in
+    held_room way.bytes before.front c.loop-end.rest.now c.args.piece.now before.here
+    (before.progress way.start way.bytes way.room way.progress) way.room
+
+-- no newline is in the rest
+pub returns-clause-progress : goal.returns-clause-progress
+returns-clause-progress g c start bytes room p =
+    let before = c.loop-end.invariant in
+    let did = c.hold.ensures in
+    goes-on-held bytes before.front c.loop-end.rest.now c.args.piece.now before.here
+    c.hold.new.self.cutter c.hold.new.self.lines c.hold.result (before.progress start bytes room p)
+    c.in_default.ensures did.held did.fits did.too_long
