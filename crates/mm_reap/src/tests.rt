@@ -1,6 +1,8 @@
 // A heap without objects. A reap of it finds none, whatever the stack holds.
 ghost use Rattle.std.specs.Prelude.{◌≡◌, ◌<◌};
 
+mod heap;
+
 use crate::reap;
 use mm_cells::{Cells, cells_words};
 use mm_count::ZeroTable;

@@ -1,13 +1,12 @@
-use Rattle.std.proofs.Common.{◌≡◌, ◌*◌, ℕ, zero, suc, List, [], ◌∷◌, replicate}
+use Rattle.std.proofs.Common.{◌≡◌, ◌*◌, ℕ, zero, suc, List, [], replicate}
 use Rattle.std.proofs.Common.{Option, Some, None, sym, ap, ◌∙◌, subst, arith}
 use Rattle.std.specs.Prelude.{slice_get}
-use Rattle.std.specs.Option.{option_map}
 use Rattle.mm_model.specs.ByBase.{Begins}
 use Rattle.mm_model.specs.ObjectView.{ObjectView}
 use Rattle.mm_model.proofs.View.MappedEntries.{mapped_begins}
 use Rattle.mm_cells.specs.Cells.{Cells, Taken}
-use Rattle.mm_object.specs.Object.{StoredObject, StoredObjects, views_of}
-use Rattle.mm_object.specs.Heap.{Heap, cell_of, cells_in}
+use Rattle.mm_object.specs.Object.{views_of}
+use Rattle.mm_object.specs.Heap.{Heap, cell_of}
 use Rattle.mm_count.specs.Table.{Table}
 use Rattle.mm_reap.proofs.Recounted.{seen}
 use Rattle.mm_reap.proofs.tests.work_empty.Goals as goal
