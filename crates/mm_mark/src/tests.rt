@@ -147,6 +147,37 @@ impl Trial {
         can
     }
 
+    // In a cycle in which no object is scanned in part, scans to the end.
+    fn drain<L: Ledger>(&mut self, steps: &mut Steps<L>) -> bool {
+        let can = self.marker.running() && self.marker.partly.is_none();
+        if can {
+            self.marker.drain(&mut self.heap, steps);
+        }
+        can
+    }
+
+    fn rescan<L: Ledger>(&mut self, steps: &mut Steps<L>) -> bool {
+        let runs = self.marker.running();
+        if runs {
+            self.marker
+                .rescan(&mut self.heap, &self.stack, &self.areas, steps);
+        }
+        runs
+    }
+
+    // In a cycle, the object that begins at the base goes, if one does.
+    fn free<L: Ledger>(&mut self, base: u32, steps: &mut Steps<L>) -> bool {
+        if !self.marker.running() {
+            return false;
+        }
+        let can = is_object(&self.heap, base, steps);
+        if can {
+            self.heap.erase(&mut self.pages, base, steps);
+            self.marker.forget_freed(&self.heap, steps);
+        }
+        can
+    }
+
     fn abandon<L: Ledger>(&mut self, steps: &mut Steps<L>) -> bool {
         let runs = self.marker.running();
         if runs {
@@ -385,4 +416,88 @@ fn an_abandoned_cycle_leaves_all_white_and_the_next_one_starts_over(
     rt: HostRuntime,
 ) -> Result<(), Fail> {
     work_abandoned::<Brand, HostRuntime>(&rt, rt.alloc(), Blank::new(1))
+}
+
+fn work_drained<L: Ledger, R: Abort>(rt: &R, alloc: Global, blank: Blank) -> Result<(), Fail>
+    requires name { blank.name ≡ L.name }
+    requires parts { blank.parts ≡ L.parts }
+    requires shared { 0 < L.parts }
+{
+    let mut steps: Steps<L> = Steps::open(blank);
+    let mut trial = Trial::open(alloc, 4)?;
+    for base in [4096, 4128, 4160, 4192, 4224] {
+        assert_eq!(rt; trial.create(4, &mut steps), Some(base));
+    }
+    // Two rings: one of 4096 and 4128, and one of 4160 and 4192, which names the first.
+    assert!(rt; trial.store(4096, 0, 4128, &mut steps));
+    assert!(rt; trial.store(4128, 3, 4127, &mut steps));
+    assert!(rt; trial.store(4160, 0, 4192, &mut steps));
+    assert!(rt; trial.store(4192, 0, 4160, &mut steps));
+    assert!(rt; trial.store(4192, 1, 4096, &mut steps));
+    assert!(rt; trial.push(4096));
+    assert!(rt; trial.begin(&mut steps));
+    assert!(rt; trial.drain(&mut steps));
+    for (base, colour) in [
+        (4096, Colour::Black),
+        (4128, Colour::Black),
+        (4160, Colour::White),
+        (4192, Colour::White),
+        (4224, Colour::White),
+    ] {
+        assert_eq!(rt; trial.colour(base, &mut steps), Some(colour), "at {base}");
+    }
+    // What the stack names by now isn't seen until it is looked at again.
+    assert!(rt; trial.push(4192));
+    assert!(rt; trial.drain(&mut steps));
+    assert_eq!(rt; trial.colour(4192, &mut steps), Some(Colour::White));
+    assert!(rt; trial.rescan(&mut steps));
+    assert_eq!(rt; trial.colour(4192, &mut steps), Some(Colour::Gray));
+    assert_eq!(rt; trial.colour(4160, &mut steps), Some(Colour::White));
+    assert_eq!(rt; trial.colour(4096, &mut steps), Some(Colour::Black));
+    assert!(rt; trial.drain(&mut steps));
+    assert_eq!(rt; trial.colour(4192, &mut steps), Some(Colour::Black));
+    assert_eq!(rt; trial.colour(4160, &mut steps), Some(Colour::Black));
+    assert_eq!(rt; trial.colour(4224, &mut steps), Some(Colour::White));
+    assert!(rt; trial.end(&mut steps));
+    for base in [4096, 4128, 4160, 4192, 4224] {
+        assert!(rt; trial.erase(base, &mut steps));
+    }
+    trial.close(rt, &mut steps);
+    Ok(())
+}
+
+#[test]
+fn draining_makes_all_black_that_the_stack_was_seen_to_reach(rt: HostRuntime) -> Result<(), Fail> {
+    work_drained::<Brand, HostRuntime>(&rt, rt.alloc(), Blank::new(1))
+}
+
+fn work_freed<L: Ledger, R: Abort>(rt: &R, alloc: Global, blank: Blank) -> Result<(), Fail>
+    requires name { blank.name ≡ L.name }
+    requires parts { blank.parts ≡ L.parts }
+    requires shared { 0 < L.parts }
+{
+    let mut steps: Steps<L> = Steps::open(blank);
+    let mut trial = Trial::open(alloc, 4)?;
+    assert_eq!(rt; trial.create(4, &mut steps), Some(4096));
+    assert_eq!(rt; trial.create(4, &mut steps), Some(4128));
+    assert_eq!(rt; trial.create(100, &mut steps), Some(8192));
+    assert!(rt; trial.push(4128));
+    assert!(rt; trial.push(8192));
+    assert!(rt; trial.push(4096));
+    assert!(rt; trial.begin(&mut steps));
+    // What the top of the stack names is the newest entry, which is taken first.
+    assert!(rt; trial.free(4096, &mut steps));
+    assert_eq!(rt; trial.scan(&mut steps), part(8192, 64));
+    assert!(rt; trial.free(8192, &mut steps));
+    assert_eq!(rt; trial.scan(&mut steps), part(4128, 4));
+    assert_eq!(rt; trial.scan(&mut steps), None);
+    assert!(rt; trial.end(&mut steps));
+    assert!(rt; trial.erase(4128, &mut steps));
+    trial.close(rt, &mut steps);
+    Ok(())
+}
+
+#[test]
+fn an_object_that_was_freed_in_a_cycle_is_scanned_no_further(rt: HostRuntime) -> Result<(), Fail> {
+    work_freed::<Brand, HostRuntime>(&rt, rt.alloc(), Blank::new(1))
 }
