@@ -1,10 +1,11 @@
 // What lines are made of, appended to a buffer. What takes a literal is inlined: its bytes become stores.
-ghost use Rattle.std.specs.Prelude.{◌≡◌, ◌+◌, ◌/◌, ◌%◌, ◌<◌, ◌≤◌, [], ◌∷◌, ◌++◌, length, decimal, map};
+ghost use Rattle.std.specs.Prelude.{◌≡◌, ◌+◌, ◌≤◌, [], ◌∷◌, ◌++◌, length, decimal, map};
 ghost use Rattle.arrayvec.specs.ArrayVec.{array_vec_len};
 ghost use Rattle.mm_model.specs.Spelling as model;
 ghost use Rattle.mm_model.specs.Spelling.{sentence, kind_word};
 
 use arrayvec::ArrayVec;
+use itoa::Buffer;
 use mm_model::Kind;
 
 /// The buffer that lines are written to.
@@ -48,44 +49,6 @@ fn kind_letter(kind: Kind) -> u8
     }
 }
 
-// Appends the two digits of a number below 100.
-#[inline(always)]
-fn put_pair(pair: u32, to: &mut Lines)
-    requires pair { pair < 100 }
-    requires room { array_vec_len to.old + 2 ≤ 4096 }
-    ensures { to.new.items ≡ to.old.items ++ (48 + pair / 10) ∷ (48 + pair % 10) ∷ [] }
-{
-    to.push(b'0' + (pair / 10) as u8);
-    to.push(b'0' + (pair % 10) as u8);
-}
-
-// Appends a number below 100.
-#[inline(always)]
-fn put_short(number: u32, to: &mut Lines)
-    requires short { number < 100 }
-    requires room { array_vec_len to.old + length (decimal number) ≤ 4096 }
-    ensures { to.new.items ≡ to.old.items ++ decimal number }
-{
-    if number < 10 {
-        to.push(b'0' + number as u8);
-    } else {
-        put_pair(number, to);
-    }
-}
-
-// Appends a number, two digits at a time.
-fn put_digits(number: u32, to: &mut Lines)
-    requires { array_vec_len to.old + length (decimal number) ≤ 4096 }
-    ensures { to.new.items ≡ to.old.items ++ decimal number }
-{
-    if number < 100 {
-        put_short(number, to);
-    } else {
-        put_digits(number / 100, to);
-        put_pair(number % 100, to);
-    }
-}
-
 /// Appends a space and a number.
 #[inline(always)]
 pub(crate) fn put_number(number: u32, to: &mut Lines)
@@ -93,8 +56,9 @@ pub(crate) fn put_number(number: u32, to: &mut Lines)
     ensures items { to.new.items ≡ to.old.items ++ 32 ∷ decimal number }
     ensures len { array_vec_len to.new ≤ array_vec_len to.old + 11 }
 {
+    let mut digits = Buffer::new();
     to.push(b' ');
-    put_digits(number, to);
+    put_text(digits.format(number).as_bytes(), to);
 }
 
 /// Appends a line: a name and then numbers.
