@@ -2,3 +2,4 @@ pub mod Codes
 pub mod Free
 pub mod Pages
 pub mod Taken
+pub mod Whitened

@@ -9,3 +9,4 @@ pub mod Spans
 pub mod TakenBlocks
 pub mod Untaken
 pub mod Untouched
+pub mod Whitened

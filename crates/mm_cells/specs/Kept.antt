@@ -1,5 +1,5 @@
 -- Which cells a table says are taken, and what holds of it between calls.
-use Rattle.std.specs.Prelude.{◌≡◌, ◌≢◌, ◌+◌, ◌-◌, ◌*◌, ◌/◌, ◌%◌, ◌<◌, ◌≤◌, ◌↔◌, ◌==◌, ◌&&◌, ℕ, true, if◌then◌else◌, nat_lt, map, List, Option, Some, None}
+use Rattle.std.specs.Prelude.{◌≡◌, ◌≢◌, ◌+◌, ◌-◌, ◌*◌, ◌/◌, ◌%◌, ◌<◌, ◌≤◌, ◌↔◌, ◌==◌, ◌&&◌, ℕ, true, if◌then◌else◌, nat_lt, map, List, Option, Some, None, ⊤}
 use Rattle.std.specs.List.{range_with_len}
 use Rattle.mm_model.specs.declared.object.Size.TheVariants.{Small}
 use Rattle.mm_model.specs.SizeClass.{extent_of_size}
@@ -16,6 +16,13 @@ class_size class = extent_of_size (Small class)
 
 abbrev pub cells_in : ℕ → ℕ
 cells_in class = 4096 / class_size class
+
+-- so many words have all marks that are read of a page of this use
+abbrev pub HaveMarks : PageUse → ℕ → Type 0
+HaveMarks Unused words = ⊤
+HaveMarks (Class class) words = cells_in class ≤ 8 * words
+HaveMarks (First count) words = 1 ≤ words
+HaveMarks (Later distance) words = ⊤
 
 -- what a mark tells of a cell of so many bytes
 abbrev pub taken_as : ℕ → Mark → Option Taken

@@ -7,7 +7,7 @@ use Rattle.mm_cells.specs.declared.page_use.PageUse.{PageUse}
 use Rattle.mm_cells.specs.declared.page_use.PageUse.TheVariants.{Unused}
 use Rattle.mm_cells.specs.declared.marks.Mark.{Mark}
 use Rattle.mm_cells.specs.declared.marks.Mark.TheVariants.{Free}
-use Rattle.mm_cells.specs.Marks.{mark_of_cell}
+use Rattle.mm_cells.specs.Marks.{mark_of_cell, whitened_mark}
 use Rattle.mm_cells.specs.Uses.{use_of}
 
 -- where the table lies, how many pages it is for, the words of the pages' uses, those of their cells' marks, and those
@@ -90,6 +90,15 @@ pub record SetsMark (a b : Map) (page cell : ℕ) (mark : Mark) : Type 0 where
 pub record FreesPage (a b : Map) (page : ℕ) : Type 0 where
   pub same : IsSame a b
   pub here : (cell : ℕ) → cell < 256 → mark_at b page cell ≡ Free
+  pub other_pages : (other any : ℕ) → other ≢ page → any < 256 → mark_at b other any ≡ mark_at a other any
+  pub uses : b.uses ≡ a.uses
+  pub rooms : b.rooms ≡ a.rooms
+
+-- the taken ones of the first cells of a page, whose marks stand in so many words, are white
+pub record WhitensPage (a b : Map) (page words : ℕ) : Type 0 where
+  pub same : IsSame a b
+  pub here : (cell : ℕ) → cell < 8 * words → mark_at b page cell ≡ whitened_mark (mark_at a page cell)
+  pub behind : (cell : ℕ) → 8 * words ≤ cell → cell < 256 → mark_at b page cell ≡ mark_at a page cell
   pub other_pages : (other any : ℕ) → other ≢ page → any < 256 → mark_at b other any ≡ mark_at a other any
   pub uses : b.uses ≡ a.uses
   pub rooms : b.rooms ≡ a.rooms

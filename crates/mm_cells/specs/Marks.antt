@@ -39,6 +39,11 @@ code_of (Taken colour flags) = colour_code colour + 4 * flags.0
 abbrev pub mark_of : ℕ → Mark
 mark_of code = if code % 4 == 3 then Free else Taken (colour_of (code % 4)) (flags_of code)
 
+-- the mark of a taken cell that is white from now on
+abbrev pub whitened_mark : Mark → Mark
+whitened_mark Free = Free
+whitened_mark (Taken colour flags) = Taken White flags
+
 -- the four bits at one of the eight places of a word
 abbrev pub code_in : ℕ → ℕ → ℕ
 code_in word place = word / 16 ^ place % 16

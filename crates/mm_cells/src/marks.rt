@@ -1,6 +1,6 @@
 // The marks of cells in a table of words: four bits for each cell, and those of eight cells in each word.
 ghost use Rattle.std.specs.Prelude.{◌≡◌, ◌≢◌, ℕ, ◌+◌, ◌*◌, ◌/◌, ◌%◌, ◌<◌, ◌≤◌, ◌⊎◌, length, MatchOption};
-ghost use Rattle.mm_cells.specs.Marks.{code_in, code_of, colour_code, no_flags, IsMark, mark_of, mark_in};
+ghost use Rattle.mm_cells.specs.Marks.{code_in, code_of, colour_code, no_flags, IsMark, mark_of, mark_in, whitened_mark};
 ghost use Rattle.mm_cells.specs.Marks.{code_of_cell, mark_of_cell, page_marks};
 ghost use Rattle.mm_cells.specs.Marks.{NoneFree, IsLowestFree, AllFreeFrom, IsLowestTaken};
 
@@ -61,6 +61,9 @@ const FREE: u32 = 3;
 
 /// The lowest bit of each of a word's eight marks.
 const LOWEST_BITS: u32 = 0x1111_1111;
+
+/// The two bits of each mark that stand for flags.
+const FLAG_BITS: u32 = 0xCCCC_CCCC;
 
 /// A word whose eight cells are free.
 const ALL_FREE: u32 = 0x3333_3333;
@@ -156,6 +159,14 @@ fn lowest_taken_place(word: u32, from: u32) -> Option<u32>
     }
 }
 
+/// A word whose taken cells are white, with the flags that they had.
+fn whitened_word(word: u32) -> u32
+    ensures { (place : ℕ) → place < 8 → mark_in result place ≡ whitened_mark (mark_in word place) }
+{
+    let free = word & (word >> 1) & LOWEST_BITS;
+    (word & FLAG_BITS) | free | (free << 1)
+}
+
 /// The mark of a cell.
 pub(crate) fn mark_at(table: &[u32], cell: u32) -> Mark
     requires { cell / 8 < length table.now }
@@ -222,5 +233,19 @@ pub(crate) fn fill_free(table: &mut [u32], first_word: u32)
     let first = first_word as usize;
     for word in first..first + 32 {
         table[word] = ALL_FREE;
+    }
+}
+
+/// Makes the taken ones of the first cells of a page white, whose marks stand in so many words.
+pub(crate) fn whiten(table: &mut [u32], first_word: u32, words: u32)
+    requires { first_word + words ≤ length table.old }
+    ensures white { (c : ℕ) → c < 8 * words →
+        page_marks table.new first_word c ≡ whitened_mark (page_marks table.old first_word c) }
+    ensures others { (c : ℕ) → (c < 8 * first_word) ⊎ (8 * first_word + 8 * words ≤ c) →
+        mark_of_cell table.new c ≡ mark_of_cell table.old c }
+{
+    let first = first_word as usize;
+    for word in first..first + words as usize {
+        table[word] = whitened_word(table[word]);
     }
 }

@@ -3,7 +3,7 @@ ghost use Rattle.std.specs.Prelude.{◌≡◌, ◌≢◌, ℕ, ◌+◌, ◌*◌,
 ghost use Rattle.mm_sets.specs.Set.{members, IsSet, Admits};
 ghost use Rattle.mm_cells.specs.Marks.{IsMark, NoneFree, IsLowestFree, AllFreeFrom, IsLowestTaken};
 ghost use Rattle.mm_cells.specs.Uses.{IsUse};
-ghost use Rattle.mm_cells.specs.Map.{use_at, mark_at, room_at, SetsUse, SetsMark, FreesPage, SetsRoom};
+ghost use Rattle.mm_cells.specs.Map.{use_at, mark_at, room_at, SetsUse, SetsMark, FreesPage, WhitensPage, SetsRoom};
 ghost use Rattle.mm_cells.specs.Map.{NoPageWithRoom, IsLowestRoom};
 
 use crate::marks;
@@ -132,6 +132,19 @@ impl Table {
         marks::fill_free(
             self.words.part_mut(self.pages, MARK_WORDS * self.pages),
             MARK_WORDS * page,
+        );
+    }
+
+    /// Makes the taken ones of the first cells of a page white, whose marks stand in so many words.
+    pub fn whiten(&mut self, page: u32, words: u32)
+        requires page { page < self.old.pages }
+        requires words { words ≤ 32 }
+        ensures { WhitensPage self.old self.new page words }
+    {
+        marks::whiten(
+            self.words.part_mut(self.pages, MARK_WORDS * self.pages),
+            MARK_WORDS * page,
+            words,
         );
     }
 

@@ -1,7 +1,7 @@
 // Sizes at the edges of the classes, and marks in literal words.
 mod cells;
 
-use crate::marks::{Mark, fill_free, lowest_free, mark_at, new_mark, set_mark};
+use crate::marks::{Mark, fill_free, lowest_free, mark_at, new_mark, set_mark, whiten};
 use crate::{CellBits, PAGE_BYTES, cells_per_page, class_of, extent_of};
 use mm_model::{Colour, Size};
 use std::test::Fail;
@@ -45,6 +45,14 @@ fn a_mark_takes_four_bits(rt: HostRuntime) -> Result<(), Fail> {
     assert_eq!(rt; mark_at(&table, 0), gray);
     assert_eq!(rt; mark_at(&table, 7), Mark::Free);
     assert_eq!(rt; mark_at(&table, 9), black);
+    Ok(())
+}
+
+#[test]
+fn the_taken_cells_of_a_word_become_white_with_their_flags(rt: HostRuntime) -> Result<(), Fail> {
+    let mut table: [u32; 3] = [0x2222_2222, 0x37A6_5321, 0x1111_1111];
+    whiten(&mut table, 1, 1);
+    assert_eq!(rt; table, [0x2222_2222, 0x3784_4300, 0x1111_1111]);
     Ok(())
 }
 

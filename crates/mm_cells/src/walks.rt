@@ -1,10 +1,13 @@
 // Walks over the cells of one colour, and over all.
-ghost use Rattle.std.specs.Prelude.{◌≡◌, ◌≢◌, ◌+◌, ◌*◌, ◌<◌, ◌≤◌, MatchOption, true, false};
+ghost use Rattle.std.specs.Prelude.{◌≡◌, ◌≢◌, ◌+◌, ◌*◌, ◌<◌, ◌≤◌, ℕ, MatchOption, true, false};
+ghost use Rattle.mm_cells.specs.declared.page_use.PageUse.TheVariants.{Class};
 ghost use Rattle.mm_cells.specs.Cells.{IsSoundCells, IsWalk};
+ghost use Rattle.mm_cells.specs.Kept.{HaveMarks};
 ghost use Rattle.mm_cells.specs.Looking.{IsNextOf, NoneOfFrom, IsLowestOfInPage, NoneOfInPage, all_white, Whitens};
 
 use crate::cells::{Cells, lowest_in_page};
-use crate::class::PAGE_BYTES;
+use crate::class::{PAGE_BYTES, cells_per_page};
+use crate::page_use::PageUse;
 use mm_model::Colour;
 use mm_steps::Steps;
 use std::sync::ledger::Ledger;
@@ -34,22 +37,18 @@ impl Cells {
     {
         for page in 0..self.table.pages() {
             steps.tick();
-            self.whiten_page(page, PAGE_BYTES * page);
+            self.whiten_page(page);
         }
     }
 
-    /// Makes those white that begin in a page, from `from` on.
-    fn whiten_page(&mut self, page: u32, from: u32)
-        requires within { page < self.old.pages }
-        requires from { 4096 * page ≤ from }
-        ensures white { Whitens self.old self.new from (4096 * page + 4096) }
+    /// Makes the taken cells white that begin in a page.
+    fn whiten_page(&mut self, page: u32)
+        requires { page < self.old.pages }
+        ensures white { Whitens self.old self.new (4096 * page) (4096 * page + 4096) }
         ensures sound { IsSoundCells self.new }
     {
-        if let Some(base) = lowest_in_page(&self.table, page, from) {
-            let flags = self.told(base).flags;
-            self.mark_as(base, Colour::White, flags);
-            self.whiten_page(page, base + 1);
-        }
+        let words = words_of_marks(self.table.use_at(page));
+        self.table.whiten(page, words);
     }
 
     /// The lowest cell of this colour that begins in a page, from `from` on.
@@ -69,6 +68,19 @@ impl Cells {
             }
             None => None,
         }
+    }
+}
+
+/// In how many words the marks stand that are read of a page of this use.
+fn words_of_marks(page_use: PageUse) -> u32
+    requires { (class : ℕ) → page_use ≡ Class class → class < 19 }
+    ensures all { HaveMarks page_use result }
+    ensures most { result ≤ 32 }
+{
+    match page_use {
+        PageUse::Class(class) => cells_per_page(class).div_ceil(8),
+        PageUse::First(_) => 1,
+        PageUse::Unused | PageUse::Later(_) => 0,
     }
 }
 

@@ -16,7 +16,7 @@ use Rattle.mm_cells.proofs.Bits.Free.{low_bits-free, free-low_bits, low_bit, nex
 taken_bits : ℕ → ℕ
 taken_bits word = bit_and (bit_not w32 (bit_and word (word / 2))) LOWEST_BITS
 
-bit_at-shifted : (n k i : ℕ) → bit_at (n / 2 ^ k) i ≡ bit_at n (k + i)
+pub bit_at-shifted : (n k i : ℕ) → bit_at (n / 2 ^ k) i ≡ bit_at n (k + i)
 bit_at-shifted n k i =
     ap (λ x. x % 2) (div-div-eq-div-mul n (2 ^ k) (2 ^ i) ∙ ap (λ x. n / x) (sym (pow-add 2 k i)))
 

@@ -8,8 +8,8 @@ use Rattle.mm_words.proofs.Writes.{length-written, take-written, drop-written, d
 use Rattle.mm_pages.proofs.Tables.{length-part}
 use Rattle.mm_cells.specs.declared.marks.Mark.{Mark}
 use Rattle.mm_cells.specs.declared.marks.Mark.TheVariants.{Free}
-use Rattle.mm_cells.specs.Map.{Map, map_of, mark_at, FitsTable, SetsMark, FreesPage}
-use Rattle.mm_cells.specs.Marks.{mark_of_cell, page_marks}
+use Rattle.mm_cells.specs.Map.{Map, map_of, mark_at, FitsTable, SetsMark, FreesPage, WhitensPage}
+use Rattle.mm_cells.specs.Marks.{mark_of_cell, page_marks, whitened_mark}
 
 -- the words of the marks, as the program lends them
 pub record IsMarks (p : Piece) (pages : ℕ) (table : List ℕ) : Type 0 where
@@ -95,6 +95,36 @@ FreesPage-with_marks p pages page table ws room lent size freed others =
           ap (λ (s : List ℕ). mark_of_cell s (256 * other + any)) marks
           ∙ others (256 * other + any) (apart_pages page other any apart below)
           ∙ ap (λ (s : List ℕ). mark_of_cell s (256 * other + any)) lent.is;
+      uses = ap (λ (m : Map). m.uses) after;
+      rooms = ap (λ (m : Map). m.rooms) after;
+    }
+
+pub WhitensPage-with_marks : (p : Piece) (pages page words : ℕ) (table ws : List ℕ) → FitsTable p pages →
+    IsMarks p pages table → length ws ≡ length table → words ≤ 32 →
+    ((c : ℕ) → c < 8 * words → page_marks ws (32 * page) c ≡ whitened_mark (page_marks table (32 * page) c)) →
+    ((c : ℕ) → (c < 8 * (32 * page)) ⊎ (8 * (32 * page) + 8 * words ≤ c) → mark_of_cell ws c ≡ mark_of_cell table c) →
+    WhitensPage (map_of p pages) (map_of (with_marks p pages ws) pages) page words
+WhitensPage-with_marks p pages page words table ws room lent size few white others =
+    let after = map_of-with_marks p pages ws room (size ∙ lent.sized) in
+    let marks : (map_of (with_marks p pages ws) pages).marks ≡ ws = ap (λ (m : Map). m.marks) after in
+    let same : (c : ℕ) → (c < 8 * (32 * page)) ⊎ (8 * (32 * page) + 8 * words ≤ c) →
+    mark_of_cell (map_of (with_marks p pages ws) pages).marks c ≡ mark_of_cell (map_of p pages).marks c =
+    λ c apart.
+    ap (λ (s : List ℕ). mark_of_cell s c) marks ∙ others c apart ∙ ap (λ (s : List ℕ). mark_of_cell s c) lent.is in
+    let start : 256 * page ≡ 8 * (32 * page) = omega arith in
+    record {
+      same = record { location = ap (λ (m : Map). m.location) after; pages = refl };
+      here = λ cell below.
+          ap (λ (s : List ℕ). mark_of_cell s (256 * page + cell)) marks
+          ∙ ap (λ first. mark_of_cell ws (first + cell)) start
+          ∙ white cell below
+          ∙ ap (λ first. whitened_mark (mark_of_cell table (first + cell))) (sym start)
+          ∙ ap (λ (s : List ℕ). whitened_mark (mark_of_cell s (256 * page + cell))) lent.is;
+      behind = λ cell past below. same (256 * page + cell) (inr (omega arith));
+      other_pages = λ other any apart below. elim (apart_pages page other any apart below) [
+        | inl before ↦ same (256 * other + any) (inl before)
+        | inr later ↦ same (256 * other + any) (inr (omega arith))
+      ];
       uses = ap (λ (m : Map). m.uses) after;
       rooms = ap (λ (m : Map). m.rooms) after;
     }

@@ -11,8 +11,8 @@ loop-page-init g c = record {
   ticked = omega arith;
 }
 
-pub whiten_page-requires-clause-within : goal.whiten_page-requires-clause-within
-whiten_page-requires-clause-within g c =
+pub whiten_page-requires : goal.whiten_page-requires
+whiten_page-requires g c =
     omega (
       arith,
       ap (λ (v : Cells). v.pages) c.loop-page.invariant.white.same,
