@@ -1,5 +1,5 @@
 pub mod Codes
 pub mod Free
 pub mod Pages
-pub mod Taken
+pub mod Sought
 pub mod Whitened

@@ -1,5 +1,4 @@
 pub mod Begins
-pub mod Coloured
 pub mod Covering
 pub mod Empty
 pub mod Found

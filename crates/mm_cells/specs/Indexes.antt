@@ -1,7 +1,10 @@
 -- Where the mark of a cell stands in a table, and which cells begin in a page.
-use Rattle.std.specs.Prelude.{◌≡◌, ◌≢◌, ◌+◌, ◌*◌, ◌/◌, ◌<◌, ◌≤◌, ℕ}
+use Rattle.std.specs.Prelude.{◌≡◌, ◌≢◌, ◌+◌, ◌*◌, ◌/◌, ◌<◌, ◌≤◌, ℕ, ⊤}
 use Rattle.mm_cells.specs.declared.page_use.PageUse.TheVariants.{Class, First}
 use Rattle.mm_cells.specs.declared.marks.Mark.TheVariants as marks
+use Rattle.mm_cells.specs.declared.marks.Sought.{Sought}
+use Rattle.mm_cells.specs.declared.marks.Sought.TheVariants as sought
+use Rattle.mm_cells.specs.Marks.{IsSought}
 use Rattle.mm_cells.specs.Map.{Map, use_at, mark_at}
 use Rattle.mm_cells.specs.Cells.{Taken, Cells, Begins}
 use Rattle.mm_cells.specs.Kept.{class_size, cells_in, cells_of}
@@ -24,17 +27,25 @@ pub record IsMarkIndex (m : Map) (page number base : ℕ) : Type 0 where
   pub seat : MarksCell m page number base cell.extent
   pub mark : mark_at m page number ≡ marks.Taken cell.colour cell.flags
 
--- no taken cell that begins in the page does so at `from` or above
-abbrev pub NoneInPage : Cells → ℕ → ℕ → Type 0
-NoneInPage v page from = (base : ℕ) (cell : Taken) → Begins v base cell → base / 4096 ≡ page → base < from
+-- a taken cell is one that is sought
+abbrev pub IsSuch : Sought → Taken → Type 0
+IsSuch sought.Taken cell = ⊤
+IsSuch (sought.Of colour) cell = cell.colour ≡ colour
+
+-- no such cell that begins in the page does so at `from` or above
+abbrev pub NoneInPage : Cells → ℕ → Sought → ℕ → Type 0
+NoneInPage v page what from =
+    (base : ℕ) (cell : Taken) → Begins v base cell → IsSuch what cell → base / 4096 ≡ page → base < from
 
 -- the lowest one that does
-pub record IsLowestInPage (v : Cells) (page from base : ℕ) : Type 0 where
+pub record IsLowestInPage (v : Cells) (page : ℕ) (what : Sought) (from base : ℕ) : Type 0 where
   pub cell : Taken
   pub begins : Begins v base cell
+  pub is : IsSuch what cell
   pub here : base / 4096 ≡ page
   pub reached : from ≤ base
-  pub least : (lower : ℕ) (other : Taken) → Begins v lower other → lower / 4096 ≡ page → from ≤ lower → base ≤ lower
+  pub least : (lower : ℕ) (other : Taken) → Begins v lower other → IsSuch what other → lower / 4096 ≡ page
+      → from ≤ lower → base ≤ lower
 
 -- a taken cell of a page of this class, with its number in the page and its base
 pub record IsTakenIn (m : Map) (page class number base : ℕ) : Type 0 where
@@ -42,14 +53,18 @@ pub record IsTakenIn (m : Map) (page class number base : ℕ) : Type 0 where
   pub taken : mark_at m page number ≢ marks.Free
   pub begins : base ≡ 4096 * page + number * class_size class
 
--- none of them begins at so many bytes into the page or above
-abbrev pub NoneIn : Map → ℕ → ℕ → ℕ → Type 0
-NoneIn m page class offset =
-    (number : ℕ) → number < cells_in class → offset ≤ number * class_size class → mark_at m page number ≡ marks.Free
+-- no cell with such a mark begins at so many bytes into the page or above
+abbrev pub NoneIn : Map → ℕ → ℕ → Sought → ℕ → Type 0
+NoneIn m page class what offset =
+    (number : ℕ) → number < cells_in class → offset ≤ number * class_size class
+    → IsSought what (mark_at m page number) → ⊥
 
 -- the lowest one that does
-pub record IsLowestIn (m : Map) (page class offset base : ℕ) : Type 0 where
+pub record IsLowestIn (m : Map) (page class : ℕ) (what : Sought) (offset base : ℕ) : Type 0 where
   pub number : ℕ
-  pub cell : IsTakenIn m page class number base
+  pub within : number < cells_in class
+  pub is : IsSought what (mark_at m page number)
+  pub begins : base ≡ 4096 * page + number * class_size class
   pub reached : offset ≤ number * class_size class
-  pub lowest : (other : ℕ) → other < number → offset ≤ other * class_size class → mark_at m page other ≡ marks.Free
+  pub lowest : (other : ℕ) → other < number → offset ≤ other * class_size class
+      → IsSought what (mark_at m page other) → ⊥

@@ -27,20 +27,6 @@ pub record IsNextOf (v : Cells) (colour : Colour) (from base : ℕ) : Type 0 whe
 abbrev pub NoneOfFrom : Cells → Colour → ℕ → Type 0
 NoneOfFrom v colour from = (base : ℕ) (cell : Taken) → Begins v base cell → cell.colour ≡ colour → base < from
 
--- the same among the cells that begin in a page
-pub record IsLowestOfInPage (v : Cells) (page : ℕ) (colour : Colour) (from base : ℕ) : Type 0 where
-  pub cell : Taken
-  pub begins : Begins v base cell
-  pub is : cell.colour ≡ colour
-  pub here : base / 4096 ≡ page
-  pub reached : from ≤ base
-  pub least : (lower : ℕ) (other : Taken) → Begins v lower other → other.colour ≡ colour → lower / 4096 ≡ page
-      → from ≤ lower → base ≤ lower
-
-abbrev pub NoneOfInPage : Cells → ℕ → Colour → ℕ → Type 0
-NoneOfInPage v page colour from =
-    (base : ℕ) (cell : Taken) → Begins v base cell → cell.colour ≡ colour → base / 4096 ≡ page → base < from
-
 -- a taken cell is white from now on
 abbrev pub whitened : Option Taken → Option Taken
 whitened None = None

@@ -1,10 +1,13 @@
 -- What a table of marks says: each word has the marks of eight cells, each of them in four bits.
 use Rattle.std.specs.Prelude.{◌≡◌, ◌≢◌, ℕ, ◌+◌, ◌*◌, ◌/◌, ◌%◌, ◌^◌, ◌<◌, ◌≤◌, ◌==◌, if◌then◌else◌, List, slice_index, ⊤}
+use Rattle.std.specs.Int.{bit_at}
 use Rattle.mm_model.specs.declared.object.Colour.{Colour}
 use Rattle.mm_model.specs.declared.object.Colour.TheVariants.{White, Gray, Black}
 use Rattle.mm_cells.specs.declared.marks.CellBits.{CellBits}
 use Rattle.mm_cells.specs.declared.marks.Mark.{Mark}
 use Rattle.mm_cells.specs.declared.marks.Mark.TheVariants.{Free, Taken}
+use Rattle.mm_cells.specs.declared.marks.Sought.{Sought}
+use Rattle.mm_cells.specs.declared.marks.Sought.TheVariants as sought
 
 -- the colour of a taken cell, by the low two of its bits
 abbrev pub colour_of : ℕ → Colour
@@ -74,13 +77,25 @@ pub record IsLowestFree (marks : ℕ → Mark) (cells cell : ℕ) : Type 0 where
 abbrev pub page_marks : List ℕ → ℕ → ℕ → Mark
 page_marks table first_word cell = mark_of_cell table (8 * first_word + cell)
 
--- the lowest cell of those from a number on that has a mark that isn't free
-pub record IsLowestTaken (marks : ℕ → Mark) (from cells cell : ℕ) : Type 0 where
+-- a mark is one that is sought
+abbrev pub IsSought : Sought → Mark → Type 0
+IsSought sought.Taken mark = mark ≢ Free
+IsSought (sought.Of colour) Free = ⊥
+IsSought (sought.Of colour) (Taken its flags) = its ≡ colour
+
+-- no cell of those from a number on has such a mark
+abbrev pub NoneSought : Sought → (ℕ → Mark) → ℕ → ℕ → Type 0
+NoneSought what marks from cells = (cell : ℕ) → from ≤ cell → cell < cells → IsSought what (marks cell) → ⊥
+
+-- the lowest one of them that has
+pub record IsLowestSought (what : Sought) (marks : ℕ → Mark) (from cells cell : ℕ) : Type 0 where
   pub reached : from ≤ cell
   pub within : cell < cells
-  pub taken : marks cell ≢ Free
-  pub lowest : (other : ℕ) → from ≤ other → other < cell → marks other ≡ Free
+  pub is : IsSought what (marks cell)
+  pub lowest : NoneSought what marks from cell
 
--- all those are free
-abbrev pub AllFreeFrom : (ℕ → Mark) → ℕ → ℕ → Type 0
-AllFreeFrom marks from cells = (cell : ℕ) → from ≤ cell → cell < cells → marks cell ≡ Free
+-- the bits of a mask are the lowest ones of those marks of a word that are sought
+pub record IsMaskOf (what : Sought) (word mask : ℕ) : Type 0 where
+  pub places : (i : ℕ) → i < 32 → bit_at mask i ≡ 1 → i % 4 ≡ 0
+  pub set : (place : ℕ) → place < 8 → bit_at mask (4 * place) ≡ 1 → IsSought what (mark_in word place)
+  pub unset : (place : ℕ) → place < 8 → IsSought what (mark_in word place) → bit_at mask (4 * place) ≡ 1

@@ -4,14 +4,14 @@ ghost use Rattle.mm_words.specs.Location.{location_of};
 ghost use Rattle.mm_pages.specs.Pages.{Pages};
 ghost use Rattle.mm_pages.specs.Parked.{AreParked};
 ghost use Rattle.mm_cells.specs.Map.{table_size, use_at, mark_at};
-ghost use Rattle.mm_cells.specs.Marks.{IsFlags};
+ghost use Rattle.mm_cells.specs.Marks.{IsFlags, IsSought};
 ghost use Rattle.mm_cells.specs.Cells.{Taken, fresh, with_cell, Begins, IsTaken, Covers, HasNoCell, IsSoundCells};
 ghost use Rattle.mm_cells.specs.Cells.{IsNextTaken, NoneTakenFrom, IsWalk};
 ghost use Rattle.mm_cells.specs.Kept.{class_size, cells_in, cells_of, KeepsCells};
 ghost use Rattle.mm_cells.specs.Indexes.{IsMarkIndex, NoneInPage, IsLowestInPage, IsTakenIn, NoneIn, IsLowestIn};
 
 use crate::class::{PAGE_BYTES, cells_per_page, extent_of};
-use crate::marks::{CellBits, Mark};
+use crate::marks::{CellBits, Mark, Sought};
 use crate::page_use::PageUse;
 use crate::table::{CLASSES, PAGE_WORDS, Table};
 use mm_model::{Colour, Size};
@@ -170,7 +170,7 @@ impl Cells {
     {
         for page in from / PAGE_BYTES..self.table.pages() {
             steps.tick();
-            if let Some(base) = lowest_in_page(&self.table, page, from) {
+            if let Some(base) = lowest_in_page(&self.table, page, from, Sought::Taken) {
                 return Some(base);
             }
         }
@@ -268,30 +268,47 @@ pub(crate) fn object_mark_at(table: &Table, index: MarkIndex) -> ObjectMark
     }
 }
 
-/// The least base at `from` or above of the taken cells that begin in a page.
-pub(crate) fn lowest_in_page(table: &Table, page: u32, from: u32) -> Option<u32>
+/// The least base at `from` or above of the cells that are sought and begin in a page.
+pub(crate) fn lowest_in_page(table: &Table, page: u32, from: u32, sought: Sought) -> Option<u32>
     requires kept { KeepsCells table.now }
     requires page { page < table.now.pages }
     ensures { let v = cells_of table.now in
-        MatchOption result (NoneInPage v page from) (λ base. IsLowestInPage v page from base) }
+        MatchOption result (NoneInPage v page sought from) (λ base. IsLowestInPage v page sought from base) }
 {
     let start = page * PAGE_BYTES;
     match table.use_at(page) {
-        PageUse::Class(class) => lowest_small(table, page, class, from.saturating_sub(start)),
-        PageUse::First(_) => (from <= start).then_some(start),
+        PageUse::Class(class) => {
+            lowest_small(table, page, class, from.saturating_sub(start), sought)
+        }
+        PageUse::First(_) => lowest_whole(table, page, from, sought),
         PageUse::Unused | PageUse::Later(_) => None,
     }
 }
 
-/// The base of the lowest taken cell of a page of a class that begins at least so many bytes into the page.
-fn lowest_small(table: &Table, page: u32, class: u32, offset: u32) -> Option<u32>
+/// The base of the lowest cell of a page of a class that is sought and begins at least so many bytes into the page.
+fn lowest_small(table: &Table, page: u32, class: u32, offset: u32, sought: Sought) -> Option<u32>
     requires page { page < table.now.pages }
     requires most { table.now.pages ≤ 4096 }
     requires class { class < 19 }
-    ensures { MatchOption result (NoneIn table.now page class offset)
-        (λ base. IsLowestIn table.now page class offset base) }
+    ensures { MatchOption result (NoneIn table.now page class sought offset)
+        (λ base. IsLowestIn table.now page class sought offset base) }
 {
     let size = extent_of(Size::Small(class));
-    let number = table.lowest_taken(page, offset.div_ceil(size), cells_per_page(class))?;
+    let number = table.lowest_sought(page, offset.div_ceil(size), cells_per_page(class), sought)?;
     Some(page * PAGE_BYTES + number * size)
+}
+
+/// The base of the first page of a cell of whole pages, if the cell is sought and begins at `from` or above.
+fn lowest_whole(table: &Table, page: u32, from: u32, sought: Sought) -> Option<u32>
+    requires page { page < table.now.pages }
+    requires most { table.now.pages ≤ 4096 }
+    ensures { MatchOption result (IsSought sought (mark_at table.now page 0) → 4096 * page < from)
+        (λ base. IsSought sought (mark_at table.now page 0) × (base ≡ 4096 * page) × (from ≤ base)) }
+{
+    let start = page * PAGE_BYTES;
+    if start < from {
+        return None;
+    }
+    table.lowest_sought(page, 0, 1, sought)?;
+    Some(start)
 }

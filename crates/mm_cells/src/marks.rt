@@ -2,7 +2,7 @@
 ghost use Rattle.std.specs.Prelude.{◌≡◌, ◌≢◌, ℕ, ◌+◌, ◌*◌, ◌/◌, ◌%◌, ◌<◌, ◌≤◌, ◌⊎◌, length, MatchOption};
 ghost use Rattle.mm_cells.specs.Marks.{code_in, code_of, colour_code, no_flags, IsMark, mark_of, mark_in, whitened_mark};
 ghost use Rattle.mm_cells.specs.Marks.{code_of_cell, mark_of_cell, page_marks};
-ghost use Rattle.mm_cells.specs.Marks.{NoneFree, IsLowestFree, AllFreeFrom, IsLowestTaken};
+ghost use Rattle.mm_cells.specs.Marks.{NoneFree, IsLowestFree, NoneSought, IsLowestSought, IsMaskOf};
 
 use bitflags::{Flag, Flags, bitflag_items};
 use mm_model::Colour;
@@ -49,6 +49,13 @@ impl Flags for CellBits {
 pub(crate) enum Mark {
     Free,
     Taken(Colour, CellBits),
+}
+
+/// Which taken cells are looked for.
+#[derive(Clone, Copy)]
+pub(crate) enum Sought {
+    Taken,
+    Of(Colour),
 }
 
 const WHITE: u32 = 0;
@@ -146,16 +153,30 @@ fn lowest_free_place(word: u32) -> Option<u32>
     }
 }
 
-/// The lowest place of a word, from `from` on, whose mark says that a cell is taken.
-fn lowest_taken_place(word: u32, from: u32) -> Option<u32>
-    requires { from < 8 }
-    ensures { MatchOption result (AllFreeFrom (mark_in word) from 8) (λ p. IsLowestTaken (mark_in word) from 8 p) }
+/// The lowest bits of those marks of a word that are sought.
+fn sought_mask(word: u32, sought: Sought) -> u32
+    ensures { IsMaskOf sought word result }
 {
-    let taken = (!(word & (word >> 1)) & LOWEST_BITS) >> (4 * from);
-    if taken == 0 {
+    let next = word >> 1;
+    match sought {
+        Sought::Taken => !(word & next) & LOWEST_BITS,
+        Sought::Of(Colour::White) => !(word | next) & LOWEST_BITS,
+        Sought::Of(Colour::Gray) => !word & next & LOWEST_BITS,
+        Sought::Of(Colour::Black) => word & !next & LOWEST_BITS,
+    }
+}
+
+/// The lowest place of a word, from `from` on, whose mark is sought.
+fn lowest_sought_place(word: u32, from: u32, sought: Sought) -> Option<u32>
+    requires { from < 8 }
+    ensures { MatchOption result (NoneSought sought (mark_in word) from 8)
+        (λ p. IsLowestSought sought (mark_in word) from 8 p) }
+{
+    let mask = sought_mask(word, sought) >> (4 * from);
+    if mask == 0 {
         None
     } else {
-        Some(from + taken.trailing_zeros() / 4)
+        Some(from + mask.trailing_zeros() / 4)
     }
 }
 
@@ -203,18 +224,25 @@ pub(crate) fn lowest_free(table: &[u32], first_word: u32, cells: u32) -> Option<
     None
 }
 
-/// The lowest taken one of the cells of a page from `from` to before `cells`.
-pub(crate) fn lowest_taken(table: &[u32], first_word: u32, from: u32, cells: u32) -> Option<u32>
+/// The lowest one of the cells of a page from `from` to before `cells` whose mark is sought.
+pub(crate) fn lowest_sought(
+    table: &[u32],
+    first_word: u32,
+    from: u32,
+    cells: u32,
+    sought: Sought,
+) -> Option<u32>
     requires cells { cells ≤ 256 }
     requires within { 8 * first_word + cells ≤ 8 * length table.now }
     ensures { let marks = page_marks table.now first_word in
-        MatchOption result (AllFreeFrom marks from cells) (λ cell. IsLowestTaken marks from cells cell) }
+        MatchOption result (NoneSought sought marks from cells) (λ cell. IsLowestSought sought marks from cells cell) }
 {
     for word in from / 8..cells.div_ceil(8) {
         let skipped = from.saturating_sub(8 * word);
-        if let Some(place) = lowest_taken_place(
+        if let Some(place) = lowest_sought_place(
             table[first_word as usize + word as usize],
             skipped,
+            sought,
         ) {
             let cell = 8 * word + place;
             return if cell < cells { Some(cell) } else { None };

@@ -1,13 +1,13 @@
 // The words of the cells' table, and what stands where in them.
 ghost use Rattle.std.specs.Prelude.{◌≡◌, ◌≢◌, ℕ, ◌+◌, ◌*◌, ◌<◌, ◌≤◌, length, MatchOption};
 ghost use Rattle.mm_sets.specs.Set.{members, IsSet, Admits};
-ghost use Rattle.mm_cells.specs.Marks.{IsMark, NoneFree, IsLowestFree, AllFreeFrom, IsLowestTaken};
+ghost use Rattle.mm_cells.specs.Marks.{IsMark, NoneFree, IsLowestFree, NoneSought, IsLowestSought};
 ghost use Rattle.mm_cells.specs.Uses.{IsUse};
 ghost use Rattle.mm_cells.specs.Map.{use_at, mark_at, room_at, SetsUse, SetsMark, FreesPage, WhitensPage, SetsRoom};
 ghost use Rattle.mm_cells.specs.Map.{NoPageWithRoom, IsLowestRoom};
 
 use crate::marks;
-use crate::marks::Mark;
+use crate::marks::{Mark, Sought};
 use crate::page_use::{PageUse, decode, encode};
 use mm_sets::{insert, lowest, remove, set_words};
 use mm_words::Words;
@@ -159,15 +159,15 @@ impl Table {
         marks::lowest_free(marks, MARK_WORDS * page, cells)
     }
 
-    /// The lowest taken one of the cells of a page from `from` to before `cells`.
-    pub fn lowest_taken(&self, page: u32, from: u32, cells: u32) -> Option<u32>
+    /// The lowest one of the cells of a page from `from` to before `cells` whose mark is sought.
+    pub fn lowest_sought(&self, page: u32, from: u32, cells: u32, sought: Sought) -> Option<u32>
         requires page { page < self.now.pages }
         requires cells { cells ≤ 256 }
         ensures { let marks = mark_at self.now page in
-            MatchOption result (AllFreeFrom marks from cells) (λ cell. IsLowestTaken marks from cells cell) }
+            MatchOption result (NoneSought sought marks from cells) (λ cell. IsLowestSought sought marks from cells cell) }
     {
         let marks = self.marks();
-        marks::lowest_taken(marks, MARK_WORDS * page, from, cells)
+        marks::lowest_sought(marks, MARK_WORDS * page, from, cells, sought)
     }
 
     /// The lowest page of a class that has room.

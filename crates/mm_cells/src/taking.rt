@@ -10,7 +10,7 @@ ghost use Rattle.mm_cells.specs.Spans.{use_in_whole, SetsUses, AreUnused};
 ghost use Rattle.mm_cells.specs.Uses.{IsUse};
 
 use crate::class::{PAGE_BYTES, cells_per_page, extent_of};
-use crate::marks::{Mark, new_mark};
+use crate::marks::{Mark, Sought, new_mark};
 use crate::page_use::PageUse;
 use crate::table::Table;
 use mm_model::{Colour, Size};
@@ -135,7 +135,7 @@ pub(crate) fn release_cell(table: &mut Table, page: u32, class: u32, offset: u32
         → base / 4096 ≢ page }
 {
     table.set_mark(page, offset / extent_of(Size::Small(class)), Mark::Free);
-    match table.lowest_taken(page, 0, cells_per_page(class)) {
+    match table.lowest_sought(page, 0, cells_per_page(class), Sought::Taken) {
         Some(_) => {
             table.set_room(class, page, true);
             false

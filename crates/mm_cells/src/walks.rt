@@ -1,12 +1,13 @@
 // Walks over the cells of one colour, and over all.
-ghost use Rattle.std.specs.Prelude.{◌≡◌, ◌≢◌, ◌+◌, ◌*◌, ◌<◌, ◌≤◌, ℕ, MatchOption, true, false};
+ghost use Rattle.std.specs.Prelude.{◌≡◌, ◌+◌, ◌*◌, ◌<◌, ◌≤◌, ℕ, MatchOption};
 ghost use Rattle.mm_cells.specs.declared.page_use.PageUse.TheVariants.{Class};
 ghost use Rattle.mm_cells.specs.Cells.{IsSoundCells, IsWalk};
 ghost use Rattle.mm_cells.specs.Kept.{HaveMarks};
-ghost use Rattle.mm_cells.specs.Looking.{IsNextOf, NoneOfFrom, IsLowestOfInPage, NoneOfInPage, all_white, Whitens};
+ghost use Rattle.mm_cells.specs.Looking.{IsNextOf, NoneOfFrom, all_white, Whitens};
 
 use crate::cells::{Cells, lowest_in_page};
 use crate::class::{PAGE_BYTES, cells_per_page};
+use crate::marks::Sought;
 use crate::page_use::PageUse;
 use mm_model::Colour;
 use mm_steps::Steps;
@@ -22,7 +23,7 @@ impl Cells {
     {
         for page in from / PAGE_BYTES..self.table.pages() {
             steps.tick();
-            if let Some(base) = self.lowest_of(page, from, colour) {
+            if let Some(base) = lowest_in_page(&self.table, page, from, Sought::Of(colour)) {
                 return Some(base);
             }
         }
@@ -50,25 +51,6 @@ impl Cells {
         let words = words_of_marks(self.table.use_at(page));
         self.table.whiten(page, words);
     }
-
-    /// The lowest cell of this colour that begins in a page, from `from` on.
-    fn lowest_of(&self, page: u32, from: u32, colour: Colour) -> Option<u32>
-        requires { page < self.now.pages }
-        ensures base { MatchOption result (NoneOfInPage self.now page colour from)
-            (λ base. IsLowestOfInPage self.now page colour from base) }
-        ensures sound { IsSoundCells self.now }
-    {
-        match lowest_in_page(&self.table, page, from) {
-            Some(base) => {
-                if are_same(self.told(base).colour, colour) {
-                    Some(base)
-                } else {
-                    self.lowest_of(page, base + 1, colour)
-                }
-            }
-            None => None,
-        }
-    }
 }
 
 /// In how many words the marks stand that are read of a page of this use.
@@ -82,11 +64,4 @@ fn words_of_marks(page_use: PageUse) -> u32
         PageUse::First(_) => 1,
         PageUse::Unused | PageUse::Later(_) => 0,
     }
-}
-
-fn are_same(one: Colour, other: Colour) -> bool
-    ensures same { result ≡ true → one ≡ other }
-    ensures apart { result ≡ false → one ≢ other }
-{
-    one == other
 }

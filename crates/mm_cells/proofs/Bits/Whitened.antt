@@ -11,7 +11,7 @@ use Rattle.mm_cells.specs.declared.marks.TheConstants.{FLAG_BITS, LOWEST_BITS}
 use Rattle.mm_cells.specs.Marks.{mark_of, colour_of, flags_of, code_in, mark_in, whitened_mark}
 use Rattle.mm_cells.proofs.Bits.Codes.{pow-sixteen}
 use Rattle.mm_cells.proofs.Bits.Free.{free-low_bits, low_bit, next_bit}
-use Rattle.mm_cells.proofs.Bits.Taken.{bit_at-shifted}
+use Rattle.mm_cells.proofs.Bits.Sought.{bit_at-shifted}
 
 -- the masks, bit by bit
 lowest_bits : (i : ℕ) → i < 32 → bit_at LOWEST_BITS i ≡ 1 - i % 4

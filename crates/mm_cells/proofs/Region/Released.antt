@@ -1,10 +1,12 @@
 -- A table in which a cell was given back.
-use Rattle.std.proofs.Common.{◌≡◌, ℕ, ◌+◌, ◌-◌, ◌*◌, ◌/◌, ◌<◌, ◌≤◌, ◌⊎◌, inl, inr, true, false, refl, arith, sym, ◌∙◌, ap, subst}
+use Rattle.std.proofs.Common.{◌≡◌, ◌≢◌, ℕ, ◌+◌, ◌-◌, ◌*◌, ◌/◌, ◌<◌, ◌≤◌, ◌⊎◌, inl, inr, true, false, refl, arith, sym, ◌∙◌, ap, subst}
 use Rattle.std.specs.Prelude.{None}
 use Rattle.std.proofs.lemmas.Bool.{cases_lt, cases_eq}
 use Rattle.mm_cells.specs.declared.page_use.PageUse.TheVariants.{Unused, Class, First, Later}
 use Rattle.mm_cells.specs.declared.marks.Mark.TheVariants as marks
-use Rattle.mm_cells.specs.Marks.{AllFreeFrom, IsLowestTaken}
+use Rattle.mm_cells.specs.declared.marks.Mark.{Mark}
+use Rattle.mm_cells.specs.declared.marks.Sought.TheVariants as sought
+use Rattle.mm_cells.specs.Marks.{NoneSought, IsLowestSought}
 use Rattle.mm_cells.specs.Map.{Map, use_at, mark_at, room_at, SetsUse, SetsMark, SetsRoom}
 use Rattle.mm_cells.specs.Cells.{Taken, IsTaken, with_cell, with_run}
 use Rattle.mm_cells.specs.Kept.{class_size, cells_in, cells_of, KeepsCells}
@@ -77,12 +79,12 @@ IsTaken-number m page class offset kept used inside taken =
 -- the page has another taken cell
 pub KeepsCells-stays : (a b c : Map) (page class number lowest : ℕ) → KeepsCells a → use_at a page ≡ Class class →
     number < cells_in class → SetsMark a b page number marks.Free →
-    IsLowestTaken (mark_at b page) 0 (cells_in class) lowest → SetsRoom b c class page true → KeepsCells c
+    IsLowestSought sought.Taken (mark_at b page) 0 (cells_in class) lowest → SetsRoom b c class page true → KeepsCells c
 KeepsCells-stays a b c page class number lowest kept used fits marked taken room =
     let known : class < 19 = (kept.classes page class used).0 in
     let place = class-within a page class kept used in
     KeepsCells-cell a b c page class number marks.Free true kept known used place.1 place.0 marked
-    (record { cell = lowest; within = taken.within; taken = taken.taken }) room (
+    (record { cell = lowest; within = taken.within; taken = taken.is }) room (
       (λ has. record { cell = number; within = fits; free = marked.here }),
       (λ has. refl),
     )
@@ -117,18 +119,24 @@ KeepsCells-goes a b c d page class number kept used marked unused room =
           ∙ no_room-other a k page kept low place.1 (λ is. apart (cc))
     ]))
 
+-- a mark that isn't of a taken cell says free
+mark-free : (mark : Mark) → (mark ≢ marks.Free → ⊥) → mark ≡ marks.Free
+mark-free marks.Free none = refl
+mark-free (marks.Taken colour flags) none = absurd (none (λ e. absurd (cc)))
+
 pub cells_of-goes : (a b c d : Map) (page class number base : ℕ) → KeepsCells a → use_at a page ≡ Class class →
     number < cells_in class → base ≡ 4096 * page + number * class_size class →
-    SetsMark a b page number marks.Free → AllFreeFrom (mark_at b page) 0 (cells_in class) →
+    SetsMark a b page number marks.Free → NoneSought sought.Taken (mark_at b page) 0 (cells_in class) →
     SetsUse b c page Unused → SetsRoom c d class page false → cells_of d ≡ with_run (with_cell (cells_of a) base None) page 0
-cells_of-goes a b c d page class number base kept used fits begins marked free unused room =
+cells_of-goes a b c d page class number base kept used fits begins marked none unused room =
     let known : class < 19 = (kept.classes page class used).0 in
     let most : cells_in class ≤ 256 = cells_in-most class known in
     let place = class-within a page class kept used in
     cells_of-emptied a d page class number base (KeepsCells-classes a kept)
     (AgreesOff-goes a b c d page class number marked unused room) place.1 known fits begins used
     (use_at-goes b c d page class unused room)
-    (λ cell low apart. sym (marked.other_cells cell (omega arith) apart) ∙ free cell (omega arith) low)
+    (λ cell low apart. sym (marked.other_cells cell (omega arith) apart)
+    ∙ mark-free (mark_at b page cell) (none cell (omega arith) low))
 
 -- the pages of one cell
 pub AreUnused-cleared : (a b : Map) (first count : ℕ) → SetsUses a b first count (λ distance. Unused) →

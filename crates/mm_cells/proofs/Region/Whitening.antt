@@ -1,4 +1,4 @@
--- Cells that become white, one after another.
+-- Cells that become white, page by page.
 use Rattle.std.proofs.Common.{◌≡◌, ℕ, ◌+◌, ◌*◌, ◌≤◌, length, map, inl, inr, refl, arith}
 use Rattle.std.proofs.Common.{sym, ◌∙◌, ap, subst}
 use Rattle.std.specs.Prelude.{None}
@@ -8,7 +8,6 @@ use Rattle.std.proofs.lemmas.List.{ext_get_or, length-map}
 use Rattle.mm_cells.specs.Cells.{Cells, IsSoundCells}
 use Rattle.mm_cells.specs.Looking.{whitened, all_white, Whitens}
 
--- over pages
 pub Whitens-refl : (v : Cells) → Whitens v v 0 0
 Whitens-refl v = record {
   same = refl;

@@ -1,6 +1,7 @@
 use Rattle.std.proofs.Common.{◌≡◌, ℕ, ◌+◌, ◌*◌, ◌/◌, true, arith, ◌∙◌, ap, subst}
 use Rattle.mm_cells.specs.declared.marks.Mark.TheVariants as marks
-use Rattle.mm_cells.specs.Marks.{AllFreeFrom, IsLowestTaken}
+use Rattle.mm_cells.specs.declared.marks.Sought.TheVariants as sought
+use Rattle.mm_cells.specs.Marks.{NoneSought, IsLowestSought}
 use Rattle.mm_cells.specs.Map.{Map, mark_at, SetsMark}
 use Rattle.mm_cells.specs.Kept.{class_size, cells_in}
 use Rattle.mm_cells.proofs.Sizes.ClassSizes.{cells_in-most}
@@ -32,8 +33,8 @@ set_mark-requires-clause-cell c =
     ap (λ (n : ℕ). c.args.offset / n) c.extent_of.ensures.value in
     omega (arith, number.within, cells_in-most c.args.class known)
 
-pub lowest_taken-requires-clause-cells : goal.lowest_taken-requires-clause-cells
-lowest_taken-requires-clause-cells c =
+pub lowest_sought-requires-clause-cells : goal.lowest_sought-requires-clause-cells
+lowest_sought-requires-clause-cells c =
     let known = (c.requires.kept.classes c.args.page c.args.class c.requires.used).0 in
     omega (arith, c.cells_per_page.ensures, cells_in-most c.args.class known)
 
@@ -63,8 +64,8 @@ returns-in-Some-clause-kept c =
     let marked : SetsMark a b c.args.page (c.args.offset / class_size c.args.class) marks.Free =
     subst (λ (n : ℕ). SetsMark a b c.args.page (c.args.offset / n) marks.Free) c.extent_of.ensures.value
     c.set_mark.ensures in
-    let taken : IsLowestTaken (mark_at b c.args.page) 0 (cells_in c.args.class) c.in-Some.field-0 =
-    subst (λ (n : ℕ). IsLowestTaken (mark_at b c.args.page) 0 n c.in-Some.field-0) c.cells_per_page.ensures
+    let taken : IsLowestSought sought.Taken (mark_at b c.args.page) 0 (cells_in c.args.class) c.in-Some.field-0 =
+    subst (λ (n : ℕ). IsLowestSought sought.Taken (mark_at b c.args.page) 0 n c.in-Some.field-0) c.cells_per_page.ensures
     c.in-Some.ensures in
     KeepsCells-stays a b c.set_room.new.self c.args.page c.args.class (c.args.offset / class_size c.args.class)
     c.in-Some.field-0 c.requires.kept c.requires.used number.within marked taken c.set_room.ensures
@@ -86,11 +87,11 @@ returns-in-None-clause-goes c = λ goes.
     let marked : SetsMark a b c.args.page (c.args.offset / class_size c.args.class) marks.Free =
     subst (λ (n : ℕ). SetsMark a b c.args.page (c.args.offset / n) marks.Free) c.extent_of.ensures.value
     c.set_mark.ensures in
-    let free : AllFreeFrom (mark_at b c.args.page) 0 (cells_in c.args.class) =
-    subst (λ (n : ℕ). AllFreeFrom (mark_at b c.args.page) 0 n) c.cells_per_page.ensures c.in-None.ensures in
+    let none : NoneSought sought.Taken (mark_at b c.args.page) 0 (cells_in c.args.class) =
+    subst (λ (n : ℕ). NoneSought sought.Taken (mark_at b c.args.page) 0 n) c.cells_per_page.ensures c.in-None.ensures in
     cells_of-goes a b c.set_use.new.self c.set_room-in-None.new.self c.args.page c.args.class
     (c.args.offset / class_size c.args.class) (4096 * c.args.page + c.args.offset) c.requires.kept c.requires.used
-    number.within (omega (arith, number.at)) marked free c.set_use.ensures c.set_room-in-None.ensures
+    number.within (omega (arith, number.at)) marked none c.set_use.ensures c.set_room-in-None.ensures
 
 pub returns-in-None-clause-kept : goal.returns-in-None-clause-kept
 returns-in-None-clause-kept c =

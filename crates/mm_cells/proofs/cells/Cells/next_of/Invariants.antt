@@ -1,10 +1,11 @@
 use Rattle.std.proofs.Common.{◌≡◌, ◌+◌, ◌-◌, ◌/◌, ◌≤◌}
-use Rattle.mm_cells.proofs.Region.Coloured.{NoneOfBefore}
+use Rattle.mm_cells.specs.declared.marks.Sought.TheVariants as sought
+use Rattle.mm_cells.proofs.Region.Lowest.{NoneBefore}
 use Rattle.mm_cells.proofs.cells.Cells.next_of.Given as goal
 
 abbrev pub invariant-loop-page : goal.invariant-loop-page
 invariant-loop-page g l = record {
-  passed : NoneOfBefore l.self l.page l.colour l.from;
+  passed : NoneBefore l.self l.page (sought.Of l.colour) l.from;
   ticked : l.steps ≡ l.initial.steps + (l.page - l.from / 4096);
   few : l.page - l.from / 4096 ≤ l.self.pages - l.from / 4096;
 }
