@@ -1,5 +1,5 @@
 -- What is asked of the cell in which a word falls, and of those of one colour.
-use Rattle.std.specs.Prelude.{◌≡◌, ◌≢◌, ◌*◌, ◌<◌, ◌≤◌, ◌/◌, ◌⊎◌, ℕ, map, length, get_or, Option, Some, None}
+use Rattle.std.specs.Prelude.{◌≡◌, ◌≢◌, ◌*◌, ◌<◌, ◌≤◌, ◌⊎◌, ℕ, map, length, get_or, Option, Some, None}
 use Rattle.mm_model.specs.declared.object.Colour.{Colour}
 use Rattle.mm_model.specs.declared.object.Colour.TheVariants.{White, Gray}
 use Rattle.mm_cells.specs.Cells.{Taken, Cells, Begins, Covers, with_cell}

@@ -208,14 +208,15 @@ pub(crate) fn set_mark(table: &mut [u32], cell: u32, mark: Mark)
     *word = with_mark(*word, cell % 8, mark);
 }
 
-/// The lowest free one of the first cells of a page, whose marks begin at that word.
-pub(crate) fn lowest_free(table: &[u32], first_word: u32, cells: u32) -> Option<u32>
+/// The lowest free one of the first cells of a page, whose marks begin at that word. Those below `from` are taken.
+pub(crate) fn lowest_free(table: &[u32], first_word: u32, from: u32, cells: u32) -> Option<u32>
     requires cells { cells ≤ 256 }
     requires within { 8 * first_word + cells ≤ 8 * length table.now }
+    requires passed { NoneFree (page_marks table.now first_word) from }
     ensures { let marks = page_marks table.now first_word in
         MatchOption result (NoneFree marks cells) (λ c. IsLowestFree marks cells c) }
 {
-    for word in 0..cells.div_ceil(8) {
+    for word in from / 8..cells.div_ceil(8) {
         if let Some(place) = lowest_free_place(table[first_word as usize + word as usize]) {
             let cell = 8 * word + place;
             return if cell < cells { Some(cell) } else { None };

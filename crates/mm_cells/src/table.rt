@@ -148,15 +148,16 @@ impl Table {
         );
     }
 
-    /// The lowest free one of the first cells of a page.
-    pub fn lowest_free(&self, page: u32, cells: u32) -> Option<u32>
+    /// The lowest free one of the first cells of a page, of which those below `from` are taken.
+    pub fn lowest_free(&self, page: u32, from: u32, cells: u32) -> Option<u32>
         requires page { page < self.now.pages }
         requires cells { cells ≤ 256 }
+        requires passed { NoneFree (mark_at self.now page) from }
         ensures { let marks = mark_at self.now page in
             MatchOption result (NoneFree marks cells) (λ cell. IsLowestFree marks cells cell) }
     {
         let marks = self.marks();
-        marks::lowest_free(marks, MARK_WORDS * page, cells)
+        marks::lowest_free(marks, MARK_WORDS * page, from, cells)
     }
 
     /// The lowest one of the cells of a page from `from` to before `cells` whose mark is sought.

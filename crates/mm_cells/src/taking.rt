@@ -3,7 +3,8 @@ ghost use Rattle.std.specs.Prelude.{◌≡◌, ◌≢◌, ◌+◌, ◌*◌, ◌/
 ghost use Rattle.mm_cells.specs.declared.page_use.PageUse.TheVariants as uses;
 ghost use Rattle.mm_cells.specs.Cells.{Taken, with_cell, with_run, newly_taken, Begins, IsTaken};
 ghost use Rattle.mm_cells.specs.Kept.{class_size, cells_of, KeepsCells, HasFree};
-ghost use Rattle.mm_cells.specs.Map.{use_at, IsLowestRoom};
+ghost use Rattle.mm_cells.specs.Map.{use_at, mark_at, IsLowestRoom};
+ghost use Rattle.mm_cells.specs.Marks.{NoneFree};
 ghost use Rattle.mm_model.specs.Lowest.{IsLowest};
 ghost use Rattle.mm_cells.specs.Placing.{IsFreeCell};
 ghost use Rattle.mm_cells.specs.Spans.{use_in_whole, SetsUses, AreUnused};
@@ -15,13 +16,14 @@ use crate::page_use::PageUse;
 use crate::table::Table;
 use mm_model::{Colour, Size};
 
-/// Whether a page of a class has a free cell.
-fn has_room(table: &Table, page: u32, class: u32) -> bool
+/// Whether a page of a class has a free cell. Those below `from` are taken.
+fn has_room(table: &Table, page: u32, class: u32, from: u32) -> bool
     requires class { class < 19 }
     requires within { page < table.now.pages }
+    requires passed { NoneFree (mark_at table.now page) from }
     ensures { (result ≡ true) ↔ HasFree table.now page class }
 {
-    match table.lowest_free(page, cells_per_page(class)) {
+    match table.lowest_free(page, from, cells_per_page(class)) {
         Some(_) => true,
         None => false,
     }
@@ -76,10 +78,10 @@ pub(crate) fn take_cell(table: &mut Table, page: u32, class: u32, colour: Colour
     ensures kept { KeepsCells table.new }
 {
     let cells = cells_per_page(class);
-    match table.lowest_free(page, cells) {
+    match table.lowest_free(page, 0, cells) {
         Some(cell) => {
             table.set_mark(page, cell, new_mark(colour));
-            let has_room = has_room(table, page, class);
+            let has_room = has_room(table, page, class, cell);
             table.set_room(class, page, has_room);
             PAGE_BYTES * page + cell * extent_of(Size::Small(class))
         }

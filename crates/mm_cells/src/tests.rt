@@ -60,16 +60,16 @@ fn the_taken_cells_of_a_word_become_white_with_their_flags(rt: HostRuntime) -> R
 fn the_lowest_free_cell_of_a_page_is_found(rt: HostRuntime) -> Result<(), Fail> {
     let taken = new_mark(Colour::White);
     let mut table: [u32; 64] = [0x2222_2222; 64];
-    assert_eq!(rt; lowest_free(&table, 32, 256), None);
+    assert_eq!(rt; lowest_free(&table, 32, 0, 256), None);
     fill_free(&mut table, 32);
     assert_eq!(rt; table[31], 0x2222_2222);
     assert_eq!(rt; table[32], 0x3333_3333);
-    assert_eq!(rt; lowest_free(&table, 0, 256), None);
+    assert_eq!(rt; lowest_free(&table, 0, 0, 256), None);
     for cell in 0..256 {
-        assert_eq!(rt; lowest_free(&table, 32, 256), Some(cell));
-        assert_eq!(rt; lowest_free(&table, 32, cell), None);
+        assert_eq!(rt; lowest_free(&table, 32, 0, 256), Some(cell));
+        assert_eq!(rt; lowest_free(&table, 32, 0, cell), None);
         set_mark(&mut table, 256 + cell, taken);
     }
-    assert_eq!(rt; lowest_free(&table, 32, 256), None);
+    assert_eq!(rt; lowest_free(&table, 32, 0, 256), None);
     Ok(())
 }

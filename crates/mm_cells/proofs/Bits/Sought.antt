@@ -1,5 +1,5 @@
 -- The cells of a word that are sought, from a place on, by a mask that has a bit set for each of them.
-use Rattle.std.proofs.Common.{◌≡◌, ◌≢◌, ℕ, ◌+◌, ◌-◌, ◌*◌, ◌/◌, ◌%◌, ◌^◌, ◌<◌, ◌==◌, Bool, min, max, bit_and, bit_or, sym}
+use Rattle.std.proofs.Common.{◌≡◌, ℕ, ◌+◌, ◌-◌, ◌*◌, ◌/◌, ◌%◌, ◌^◌, ◌<◌, ◌==◌, min, max, bit_and, bit_or, sym}
 use Rattle.std.proofs.Common.{ap, ◌∙◌, inl, inr, refl, arith}
 use Rattle.std.specs.Prelude.{if◌then◌else◌}
 use Rattle.std.proofs.lemmas.Bool.{cases_lt, cases_eq}
@@ -15,7 +15,7 @@ use Rattle.mm_cells.specs.declared.marks.Mark.TheVariants.{Free, Taken}
 use Rattle.mm_cells.specs.declared.marks.Sought.{Sought}
 use Rattle.mm_cells.specs.declared.marks.Sought.TheVariants as sought
 use Rattle.mm_cells.specs.declared.marks.TheConstants.{LOWEST_BITS}
-use Rattle.mm_cells.specs.Marks.{code_in, code_of, colour_of, flags_of, colour_code, mark_of, mark_in}
+use Rattle.mm_cells.specs.Marks.{code_in, colour_of, flags_of, colour_code, mark_in}
 use Rattle.mm_cells.specs.Marks.{IsSought, NoneSought, IsLowestSought, IsMaskOf}
 use Rattle.mm_cells.proofs.Bits.Free.{low_bits-free, free-low_bits, low_bit, next_bit, lowest_bits-at, lowest_bits-off}
 

@@ -1,4 +1,4 @@
-use Rattle.std.proofs.Common.{ℕ, ◌+◌, ◌*◌, ◌/◌, arith, sym, ◌∙◌, ap, subst}
+use Rattle.std.proofs.Common.{ℕ, ◌+◌, ◌*◌, ◌/◌, ◌<◌, arith, sym, ◌∙◌, ap, subst}
 use Rattle.mm_cells.specs.declared.marks.Mark.{Mark}
 use Rattle.mm_cells.specs.Marks.{IsLowestFree, NoneFree}
 use Rattle.mm_cells.specs.Map.{Map, mark_at}
@@ -13,6 +13,18 @@ use Rattle.mm_cells.proofs.taking.take_cell.Goals as goal
 pub lowest_free-requires-clause-cells : goal.lowest_free-requires-clause-cells
 lowest_free-requires-clause-cells c =
     omega (arith, c.cells_per_page-cells.ensures, cells_in-most c.args.class c.requires.class)
+
+pub lowest_free-requires-clause-passed : goal.lowest_free-requires-clause-passed
+lowest_free-requires-clause-passed c = λ cell below. absurd (omega arith)
+
+-- a lower cell was taken, and its mark is what it was
+pub has_room-has_room-requires-clause-passed : goal.has_room-has_room-requires-clause-passed
+has_room-has_room-requires-clause-passed c = λ cell below free.
+    let lowest : IsLowestFree (mark_at c.args.table.now c.args.page) c.cells_per_page-cells.result c.in-Some.cell =
+    c.in-Some.ensures in
+    let small : cell < 256 =
+    omega (arith, lowest.within, c.cells_per_page-cells.ensures, cells_in-most c.args.class c.requires.class) in
+    lowest.lowest cell below (sym (c.set_mark.ensures.other_cells cell small (omega arith)) ∙ free)
 
 pub set_mark-requires-clause-cell : goal.set_mark-requires-clause-cell
 set_mark-requires-clause-cell c =
