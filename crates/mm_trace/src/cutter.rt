@@ -1,5 +1,6 @@
 // Bytes cut into lines.
-ghost use Rattle.std.specs.Prelude.{◌≡◌, ◌↔◌, ◌+◌, ◌<◌, ◌≤◌, ◌++◌, ◌==◌, [], length, take, drop, map, IsErr, IfErr, OnOk, OnErr};
+ghost use Rattle.std.specs.Prelude.{◌≡◌, ◌↔◌, ◌+◌, ◌<◌, ◌≤◌, ◌++◌, ◌==◌, [], length, take, drop, map, IsErr, IfErr};
+ghost use Rattle.std.specs.Prelude.{OnOk, OnErr};
 ghost use Rattle.mm_model.specs.declared.refusal.LineFault.TheVariants.{LineTooLong};
 ghost use Rattle.std.specs.Simd.Lanes.{mask_l};
 ghost use Rattle.mm_trace.specs.Lines.{IsLineEnd, IsWithinLine, is_newline};

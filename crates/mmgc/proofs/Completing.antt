@@ -1,5 +1,7 @@
 -- Nothing but running out of memory keeps a run from its end where its input has no fault and no call failed.
-use Rattle.std.proofs.Common.{◌≡◌, ◌≢◌, ℕ, ◌≤◌, Bool, true, false, List, [], ◌∷◌, ◌++◌, codes, if◌then◌else◌, length, length-append, Option, Some, None, IsSome, refl, sym, ap, ◌∙◌, subst, append-nil, inl, inr, arith}
+use Rattle.std.proofs.Common.{◌≡◌, ◌≢◌, ℕ, ◌≤◌, Bool, true, false, List, [], ◌∷◌, ◌++◌, codes, if◌then◌else◌, length}
+use Rattle.std.proofs.Common.{length-append, Option, Some, None, IsSome, refl, sym, ap, ◌∙◌, subst, append-nil, inl}
+use Rattle.std.proofs.Common.{inr, arith}
 use Rattle.std.specs.Prelude.{IfSome, ◌⊎◌}
 use Rattle.mm_model.specs.Trace.{lines_of, FaultAt}
 use Rattle.mm_gc.specs.Gc.{Gc}

@@ -1,5 +1,7 @@
 -- Ends of a replay, as a whole and by turns.
-use Rattle.std.proofs.Common.{◌≡◌, ℕ, ◌+◌, ◌<◌, ◌≤◌, Bool, true, false, cond, List, [], ◌∷◌, ◌++◌, length, length-append, refl, sym, ap, ◌∙◌, subst, append-nil, ◌⊎◌, inl, inr, IsTrue, Option, Some, None, arith}
+use Rattle.std.proofs.Common.{◌≡◌, ℕ, ◌+◌, ◌<◌, ◌≤◌, Bool, true, false, cond, List, [], ◌∷◌, ◌++◌, length}
+use Rattle.std.proofs.Common.{length-append, refl, sym, ap, ◌∙◌, subst, append-nil, ◌⊎◌, inl, inr, IsTrue, Option, Some}
+use Rattle.std.proofs.Common.{None, arith}
 use mathlib.Core.Path.{subst₂}
 use Rattle.mm_model.specs.declared.line.Line.{Line}
 use Rattle.mm_model.specs.declared.line.Line.TheVariants as lines
@@ -16,7 +18,8 @@ use Rattle.mm_gc.specs.Gc.{Gc, totals_in}
 use Rattle.mm_gc.specs.Rows.{Kept}
 use Rattle.mmgc.specs.Writing.{kept_bytes, Grows}
 use Rattle.mmgc.specs.Replaying.{reading_of, most_bytes, Grew, GrewSince, Start, Moment, Stopped, Progress}
-use Rattle.mmgc.specs.Run.{Input, Output, Reach, lines_in, NothingLeft, HasCause, IsFaultOf, IsLogOf, IsWritten, Replayed, Ended, Logged}
+use Rattle.mmgc.specs.Run.{Input, Output, Reach, lines_in, NothingLeft, HasCause, IsFaultOf, IsLogOf, IsWritten}
+use Rattle.mmgc.specs.Run.{Replayed, Ended, Logged}
 use Rattle.mmgc.specs.Generating.{EndsWritten}
 use Rattle.mmgc.specs.declared.replay.End.{End}
 use Rattle.mmgc.specs.declared.replay.End.TheVariants.{Whole, Fault, ReadFailed, WriteFailed, TooLong}

@@ -1,12 +1,14 @@
 -- A fault in the complete lines of a front of an input is the first fault of the whole input.
-use Rattle.std.proofs.Common.{◌≡◌, ◌≢◌, ℕ, ◌<◌, Bool, true, false, nat_lt, List, [], ◌∷◌, ◌++◌, length, Option, Some, None, Result, Err, refl, sym, ap, ◌∙◌, subst, append-nil, append_assoc, ⊎_elim, arith}
+use Rattle.std.proofs.Common.{◌≡◌, ◌≢◌, ℕ, ◌<◌, Bool, true, false, nat_lt, List, [], ◌∷◌, ◌++◌, length, Option, Some}
+use Rattle.std.proofs.Common.{None, Result, Err, refl, sym, ap, ◌∙◌, subst, append-nil, append_assoc, ⊎_elim, arith}
 use Rattle.std.proofs.lemmas.Bool.{cases_eq}
 use Rattle.std.proofs.lemmas.Bool.Decides.{nat_tests}
 use Rattle.mm_model.specs.declared.command.Command.{Command}
 use Rattle.mm_model.specs.declared.refusal.LineFault.{LineFault}
 use Rattle.mm_model.specs.declared.refusal.LineFault.TheVariants.{LineTooLong}
 use Rattle.mm_model.specs.Trace.{line_reading, complete_lines, lines_of, line_if, FaultAt, Reading, reading_from}
-use Rattle.mm_model.proofs.Text.Traces.{Cuts, Cuts-none, Cuts-byte, Cuts-newline, complete_lines-cuts, lines_of-more, lines_of-too_long, reading_from-fault, reading_from-stops}
+use Rattle.mm_model.proofs.Text.Traces.{Cuts, Cuts-none, Cuts-byte, Cuts-newline, complete_lines-cuts, lines_of-more}
+use Rattle.mm_model.proofs.Text.Traces.{lines_of-too_long, reading_from-fault, reading_from-stops}
 use Rattle.mmgc.specs.Replaying.{reading_of}
 use Rattle.mmgc.proofs.Replays.{too_long}
 

@@ -1,5 +1,7 @@
 -- Bytes and lines that are carried out, one after another.
-use Rattle.std.proofs.Common.{◌≡◌, ◌≢◌, ℕ, ◌+◌, ◌<◌, ◌≤◌, true, false, cond, List, [], ◌∷◌, ◌++◌, length, take, drop, length-append, lt-ltb, Option, Some, None, Result, Ok, Err, refl, sym, ap, ◌∙◌, subst, append-nil, append_assoc, arith}
+use Rattle.std.proofs.Common.{◌≡◌, ◌≢◌, ℕ, ◌+◌, ◌<◌, ◌≤◌, true, false, cond, List, [], ◌∷◌, ◌++◌, length, take, drop}
+use Rattle.std.proofs.Common.{length-append, lt-ltb, Option, Some, None, Result, Ok, Err, refl, sym, ap, ◌∙◌, subst}
+use Rattle.std.proofs.Common.{append-nil, append_assoc, arith}
 use mathlib.Core.Path.{subst₃}
 use Rattle.std.proofs.lemmas.Bool.Decides.{nat_tests}
 use Rattle.std.proofs.lemmas.List.{length_push, length-take-le, take-append-drop, take_rest}
@@ -22,16 +24,21 @@ use Rattle.mm_model.specs.View.{Shows}
 use Rattle.mm_model.specs.Step.{IsStep}
 use Rattle.mm_model.specs.After.{after}
 use Rattle.mm_model.specs.Spelling.{spelling, spelling_of}
-use Rattle.mm_model.specs.Trace.{line_reading, words_reading, words_of, is_comment, complete_lines, lines_of, line_if, Reading, FaultAt}
+use Rattle.mm_model.specs.Trace.{line_reading, words_reading, words_of, is_comment, complete_lines, lines_of, line_if}
+use Rattle.mm_model.specs.Trace.{Reading, FaultAt}
 use Rattle.mm_model.proofs.Good.Starting.{empty_is_good}
 use Rattle.mm_model.proofs.Text.Journals.{writes-none, writes-append}
-use Rattle.mm_model.proofs.Text.Traces.{Cuts, Cuts-none, Cuts-newline, with_newline, complete_lines-cuts, reading_from-stops}
-use Rattle.mm_model.proofs.Text.Faults.{fault_at_end, reading-end-none, reading-end-nothing, reading-end-command, complete_lines-held, fault_at_newline, reading-next-nothing, reading-next-command, lines-fewer, commands-fewer}
+use Rattle.mm_model.proofs.Text.Traces.{Cuts, Cuts-none, Cuts-newline, with_newline, complete_lines-cuts}
+use Rattle.mm_model.proofs.Text.Traces.{reading_from-stops}
+use Rattle.mm_model.proofs.Text.Faults.{fault_at_end, reading-end-none, reading-end-nothing, reading-end-command}
+use Rattle.mm_model.proofs.Text.Faults.{complete_lines-held, fault_at_newline, reading-next-nothing}
+use Rattle.mm_model.proofs.Text.Faults.{reading-next-command, lines-fewer, commands-fewer}
 use Rattle.mm_trace.specs.Lines.{IsWithinLine}
 use Rattle.mm_gc.specs.Gc.{Gc, view_of_gc, totals_in}
 use Rattle.mm_gc.specs.Rows.{IsStepOf, Executes, Kept}
 use Rattle.mm_model.specs.declared.settings.Settings.{Settings}
-use Rattle.mmgc.specs.Replaying.{reading_of, CarriedOut, Stopped, Progress, DoesLine, CarriesOut, GoesOn, IsUnderWay, most_bytes, Grew, GrewSince, Start, Moment, IsNew}
+use Rattle.mmgc.specs.Replaying.{reading_of, CarriedOut, Stopped, Progress, DoesLine, CarriesOut, GoesOn, IsUnderWay}
+use Rattle.mmgc.specs.Replaying.{most_bytes, Grew, GrewSince, Start, Moment, IsNew}
 use Rattle.mmgc.proofs.StepNumbers.{step_counts_one}
 
 -- one log after another

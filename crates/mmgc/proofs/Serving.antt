@@ -1,5 +1,6 @@
 -- A run, as its parts come to it.
-use Rattle.std.proofs.Common.{◌≡◌, ℕ, List, Option, None, Some, IsSome, option_map, Bor, refl, sym, subst, ◌⊎◌, inl, inr}
+use Rattle.std.proofs.Common.{◌≡◌, ℕ, List, Option, None, Some, IsSome, option_map, Bor, refl, sym, subst, ◌⊎◌, inl}
+use Rattle.std.proofs.Common.{inr}
 use Rattle.mm_model.specs.declared.settings.Settings.{Settings}
 use Rattle.mm_io.specs.Told.{NamedFile}
 use Rattle.mmgc.specs.declared.generator.GeneratedTrace.{GeneratedTrace}

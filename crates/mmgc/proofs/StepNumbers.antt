@@ -1,5 +1,6 @@
 -- A step counts one command and bears at most one object.
-use Rattle.std.proofs.Common.{◌≡◌, ℕ, ◌+◌, ◌≤◌, Bool, true, false, List, [], ◌∷◌, length, Option, Some, None, refl, sym, ap, ◌∙◌, subst, arith}
+use Rattle.std.proofs.Common.{◌≡◌, ℕ, ◌+◌, ◌≤◌, Bool, true, false, List, [], ◌∷◌, length, Option, Some, None, refl, sym}
+use Rattle.std.proofs.Common.{ap, ◌∙◌, subst, arith}
 use Rattle.std.proofs.lemmas.List.{length_push, length-map, length-set}
 use Rattle.std.specs.Prelude.{slice_get}
 use Rattle.mm_model.specs.declared.command.Command.{Command}
@@ -16,9 +17,11 @@ use Rattle.mm_model.specs.Phase.{after_release, reaped, collected}
 use Rattle.mm_model.specs.Marking.{part_done}
 use Rattle.mm_model.specs.Scan.{AreScanned}
 use Rattle.mm_model.specs.Search.{Searches, At_once, After_reap, After_collection}
-use Rattle.mm_model.specs.Effect.{Effect, with_some, weak_shape, weak_made, weak_effect, new_effect, area_effect, plain_effect}
+use Rattle.mm_model.specs.Effect.{Effect, with_some, weak_shape, weak_made, weak_effect, new_effect, area_effect}
+use Rattle.mm_model.specs.Effect.{plain_effect}
 use Rattle.mm_model.specs.Refusing.{refusal}
-use Rattle.mm_model.specs.Step.{IsPlain, Makes, MakesWeak, Reaps, Carries, Ends, Refused_as_full, Below_threshold, At_threshold, is_full, IsStepUnless, IsStep}
+use Rattle.mm_model.specs.Step.{IsPlain, Makes, MakesWeak, Reaps, Carries, Ends, Refused_as_full, Below_threshold}
+use Rattle.mm_model.specs.Step.{At_threshold, is_full, IsStepUnless, IsStep}
 use Rattle.mm_model.proofs.Good.Numbers.{BearsFew, bears_few-new, bears_few-plain}
 
 -- as many objects and commands

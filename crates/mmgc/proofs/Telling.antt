@@ -1,5 +1,6 @@
 -- Parts of a text, written one after another.
-use Rattle.std.proofs.Common.{◌≡◌, ℕ, List, [], ◌++◌, length, take, min, Option, Result, Ok, Err, IsErr, sym, subst, ◌∙◌, append-nil, inl, inr}
+use Rattle.std.proofs.Common.{◌≡◌, ℕ, List, [], ◌++◌, length, take, min, Option, Result, Ok, Err, IsErr, sym, subst}
+use Rattle.std.proofs.Common.{◌∙◌, append-nil, inl, inr}
 use Rattle.std.proofs.lemmas.List.{take_min, take-append-le}
 use Rattle.std.proofs.Math.Nat.{min-le_right}
 use Rattle.mm_io.specs.declared.fault.Failed.{Failed}

@@ -1,5 +1,6 @@
 -- How the bytes of a trace are carried out, line by line.
-use Rattle.std.specs.Prelude.{◌≡◌, ℕ, ◌+◌, ◌-◌, ◌^◌, ◌≤◌, false, List, ◌++◌, ◌∷◌, [], length, flat_map, Option, Some, None, Result, Ok, Err}
+use Rattle.std.specs.Prelude.{◌≡◌, ℕ, ◌+◌, ◌-◌, ◌^◌, ◌≤◌, false, List, ◌++◌, ◌∷◌, [], length, flat_map, Option, Some}
+use Rattle.std.specs.Prelude.{None, Result, Ok, Err}
 use Rattle.std.specs.List.{All}
 use Rattle.mm_model.specs.Limits.{IsWithinLimits}
 use Rattle.mm_model.specs.declared.command.Command.{Command}

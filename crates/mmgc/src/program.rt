@@ -1,5 +1,6 @@
 // The program, over whatever its bytes come from and go to.
-ghost use Rattle.std.specs.Prelude.{◌≡◌, ◌≢◌, ◌≤◌, ◌++◌, ◌∷◌, List, ℕ, Option, None, Some, OnOk, OnErr, IsSome, codes, map, option_map, string_bytes};
+ghost use Rattle.std.specs.Prelude.{◌≡◌, ◌≢◌, ◌≤◌, ◌++◌, ◌∷◌, List, ℕ, Option, None, Some, OnOk, OnErr, IsSome, codes};
+ghost use Rattle.std.specs.Prelude.{map, option_map, string_bytes};
 ghost use Rattle.mm_io.specs.Faults.{CountsChoice};
 ghost use Rattle.mm_model.specs.Limits.{IsWithinLimits};
 ghost use Rattle.mmgc.specs.Completing.{IsComplete};

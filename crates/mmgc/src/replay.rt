@@ -1,5 +1,6 @@
 // A trace that is being carried out.
-ghost use Rattle.std.specs.Prelude.{◌≡◌, ℕ, ◌+◌, ◌-◌, ◌<◌, ◌≤◌, ◌++◌, ◌∷◌, [], ◌^◌, false, true, Some, None, Ok, Err, Option, List, length, IfErr, IfOk, IfSome, OnOk, IsTrue, cond};
+ghost use Rattle.std.specs.Prelude.{◌≡◌, ℕ, ◌+◌, ◌-◌, ◌<◌, ◌≤◌, ◌++◌, ◌∷◌, [], ◌^◌, false, true, Some, None, Ok, Err};
+ghost use Rattle.std.specs.Prelude.{Option, List, length, IfErr, IfOk, IfSome, OnOk, IsTrue, cond};
 ghost use Rattle.mm_gc.specs.Gc.{view_of_gc};
 ghost use Rattle.mm_io.specs.Told.{Gives};
 ghost use Rattle.mm_trace.specs.Lines.{IsWithinLine};
@@ -7,7 +8,8 @@ ghost use Rattle.mm_model.specs.declared.refusal.LineFault.TheVariants.{LineTooL
 ghost use Rattle.mm_model.specs.declared.settings.Settings.{Settings};
 ghost use Rattle.mm_model.specs.Trace.{complete_lines, line_reading, lines_of, FaultAt};
 ghost use Rattle.mmgc.specs.Logging.{kept_by, moment_of, KeepsOn};
-ghost use Rattle.mmgc.specs.Replaying.{CarriesOut, DoesLine, GoesOn, Grew, IsNew, IsUnderWay, Progress, Start, Stopped, most_bytes};
+ghost use Rattle.mmgc.specs.Replaying.{CarriesOut, DoesLine, GoesOn, Grew, IsNew, IsUnderWay, Progress, Start, Stopped};
+ghost use Rattle.mmgc.specs.Replaying.{most_bytes};
 ghost use Rattle.mmgc.specs.Run.{Ended, Input, IsFaultOf, Logged, NothingLeft, Reach, Replayed, Turns, lines_in};
 
 use crate::log::LogWriter;

@@ -20,7 +20,8 @@ returns-in-Err-NoMemory-clause-ran g c words is =
 pub returns-in-Err-Refused-clause-ran : goal.returns-in-Err-Refused-clause-ran
 returns-in-Err-Refused-clause-ran g c words is =
     inl (record {
-      unreadable = ap choice_taken (sym is) ∙ c.in-Err-Refused.ensures.refused (ap (λ f. Err f) c.in-Err-Refused.field-0-is);
+      unreadable = ap choice_taken (sym is)
+          ∙ c.in-Err-Refused.ensures.refused (ap (λ f. Err f) c.in-Err-Refused.field-0-is);
       status = refl;
       no_heap = refl;
       text = c.tell.ensures;

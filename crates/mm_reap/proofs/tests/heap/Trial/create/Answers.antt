@@ -1,5 +1,6 @@
 -- The new object names nothing, and no place holds it, so that counts stay right.
-use Rattle.std.proofs.Common.{◌≡◌, ◌≢◌, ◌⊎◌, ⊎_elim, inl, inr, ℕ, zero, suc, ◌/◌, ◌≤◌, Bool, true, false, cond, eqb-true}
+use Rattle.std.proofs.Common.{◌≡◌, ◌≢◌, ◌⊎◌, ⊎_elim, inl, inr, ℕ, zero, suc, ◌/◌, ◌≤◌, Bool, true, false, cond}
+use Rattle.std.proofs.Common.{eqb-true}
 use Rattle.std.proofs.Common.{List, [], ◌∷◌, take, replicate, Option, Some, None, refl, sym, ap, ◌∙◌, subst, arith}
 use Rattle.std.specs.Prelude.{◌==◌, if◌then◌else◌, slice_get, slice_set, slice_index, IsTrue}
 use Rattle.std.specs.List.{sum_by, count_by, AllByRecursion}
@@ -97,7 +98,8 @@ module _ (objects : StoredObjects) (base : ℕ) (some : base ≢ 0)
           omega (arith, first, rest, here)
 
 -- an entry that was replaced is put back
-set-back : {X : Type 0} (xs : List X) (k : ℕ) (x y : X) → slice_get xs k ≡ Some x → slice_set (slice_set xs k y) k x ≡ xs
+set-back : {X : Type 0} (xs : List X) (k : ℕ) (x y : X) → slice_get xs k ≡ Some x
+    → slice_set (slice_set xs k y) k x ≡ xs
 set-back [] k x y e = cc
 set-back (z ∷ xs) zero x y e = let same : z ≡ x = cc in ap (λ w. w ∷ xs) (sym same)
 set-back (z ∷ xs) (suc k) x y e = ap (λ ws. z ∷ ws) (set-back xs k x y e)
@@ -151,7 +153,8 @@ module _ (objects : StoredObjects) (base slots : ℕ) (vacant : slice_get object
       let cleared = references-cleared (views_of after) base (view_of_stored (newborn slots))
       (begins_mapped view_of_stored after base (newborn slots) begins) b in
       let vacant_seen : slice_get (views_of objects) (base / 16) ≡ Some None =
-      slice_get-map (option_map view_of_stored) objects (base / 16) ∙ ap (option_map (option_map view_of_stored)) vacant in
+      slice_get-map (option_map view_of_stored) objects (base / 16)
+      ∙ ap (option_map (option_map view_of_stored)) vacant in
       let back : with_entry base None (views_of after) ≡ views_of objects =
       ap (λ (vs : ObjectsByBase). with_entry base None vs)
       (map-set (option_map view_of_stored) objects (base / 16) (Some (newborn slots)))
@@ -309,7 +312,8 @@ returns g c =
         outside,
         c.born.ensures.counts outside
             (subst (λ (os : StoredObjects). IsCountedBy os outside) (sym is)
-            (counted-born objects base slots vacant begins c.requires.counted.0 c.requires.counted.1 c.requires.named bases)),
+            (counted-born objects base slots vacant begins c.requires.counted.0 c.requires.counted.1 c.requires.named
+            bases)),
       );
       listed = c.born.ensures.listed
           (subst (AllListedBut base) (sym is) (listed-born objects base slots vacant begins c.requires.listed));
