@@ -6,7 +6,7 @@ use Rattle.mm_cells.specs.declared.marks.Sought.{Sought}
 use Rattle.mm_cells.specs.declared.marks.Sought.TheVariants as sought
 use Rattle.mm_cells.specs.Marks.{IsSought}
 use Rattle.mm_cells.specs.Map.{Map, use_at, mark_at}
-use Rattle.mm_cells.specs.Cells.{Taken, Cells, Begins}
+use Rattle.mm_cells.specs.Cells.{Taken, Cells, Begins, Covers}
 use Rattle.mm_cells.specs.Kept.{class_size, cells_in, cells_of}
 
 -- the cell of this mark begins at the base, and has so many bytes
@@ -26,6 +26,13 @@ pub record IsMarkIndex (m : Map) (page number base : ℕ) : Type 0 where
   pub begins : Begins (cells_of m) base cell
   pub seat : MarksCell m page number base cell.extent
   pub mark : mark_at m page number ≡ marks.Taken cell.colour cell.flags
+
+-- the taken cell in which a word falls, which has so many bytes, and where its mark stands
+pub record IsLocated (m : Map) (word page number base extent : ℕ) : Type 0 where
+  pub cell : Taken
+  pub covers : Covers (cells_of m) word base cell
+  pub sized : cell.extent ≡ extent
+  pub index : IsMarkIndex m page number base
 
 -- a taken cell is one that is sought
 abbrev pub IsSuch : Sought → Taken → Type 0

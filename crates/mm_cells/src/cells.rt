@@ -8,7 +8,7 @@ ghost use Rattle.mm_cells.specs.Marks.{IsFlags, IsSought};
 ghost use Rattle.mm_cells.specs.Cells.{Taken, fresh, with_cell, Begins, IsTaken, Covers, HasNoCell, IsSoundCells};
 ghost use Rattle.mm_cells.specs.Cells.{IsNextTaken, NoneTakenFrom, IsWalk};
 ghost use Rattle.mm_cells.specs.Kept.{class_size, cells_in, cells_of, KeepsCells};
-ghost use Rattle.mm_cells.specs.Indexes.{IsMarkIndex, NoneInPage, IsLowestInPage, IsTakenIn, NoneIn, IsLowestIn};
+ghost use Rattle.mm_cells.specs.Indexes.{IsLocated, IsMarkIndex, NoneInPage, IsLowestInPage, IsTakenIn, NoneIn, IsLowestIn};
 
 use crate::class::{PAGE_BYTES, cells_per_page, extent_of};
 use crate::marks::{CellBits, Mark, Sought};
@@ -89,15 +89,9 @@ impl Cells {
         ensures cost { steps.new ≡ steps.old + 1 }
     {
         steps.tick();
-        let page = word / PAGE_BYTES;
-        if self.table.pages() <= page {
-            return None;
-        }
-        match self.table.use_at(page) {
-            PageUse::Unused => None,
-            PageUse::Class(class) => small_cell(&self.table, page, class, word % PAGE_BYTES),
-            PageUse::First(count) => Some(whole_cell(page, count)),
-            PageUse::Later(distance) => Some(cell_from(&self.table, page - distance)),
+        match locate(&self.table, word) {
+            Some(located) => Some(located.cell),
+            None => None,
         }
     }
 
@@ -185,6 +179,13 @@ pub(crate) struct MarkIndex {
     pub(crate) number: u32,
 }
 
+/// A taken cell, and where its mark stands.
+#[derive(Clone, Copy)]
+pub(crate) struct Located {
+    pub(crate) cell: Cell,
+    pub(crate) index: MarkIndex,
+}
+
 /// What is told of the object in a taken cell.
 #[derive(Clone, Copy)]
 pub(crate) struct ObjectMark {
@@ -192,47 +193,75 @@ pub(crate) struct ObjectMark {
     pub(crate) flags: CellBits,
 }
 
+/// The taken cell in which a word falls.
+pub(crate) fn locate(table: &Table, word: u32) -> Option<Located>
+    requires { KeepsCells table.now }
+    ensures { MatchOption result
+        ((base : ℕ) (cell : Taken) → Covers (cells_of table.now) word base cell → ⊥)
+        (λ found. IsLocated table.now word found.index.page found.index.number found.cell.base found.cell.extent) }
+{
+    let page = word / PAGE_BYTES;
+    if table.pages() <= page {
+        return None;
+    }
+    match table.use_at(page) {
+        PageUse::Unused => None,
+        PageUse::Class(class) => small_cell(table, page, class, word % PAGE_BYTES),
+        PageUse::First(count) => Some(whole_cell(page, count)),
+        PageUse::Later(distance) => Some(cell_from(table, page - distance)),
+    }
+}
+
 /// The cell of a page of a class that has the byte which is so many bytes into the page, if it is taken.
-fn small_cell(table: &Table, page: u32, class: u32, offset: u32) -> Option<Cell>
+fn small_cell(table: &Table, page: u32, class: u32, offset: u32) -> Option<Located>
     requires page { page < table.now.pages }
     requires most { table.now.pages ≤ 4096 }
     requires class { class < 19 }
     requires offset { offset < 4096 }
     ensures { let number = offset / class_size class in MatchOption result
         (number < cells_in class → mark_at table.now page number ≡ Mark.Free)
-        (λ found. IsTakenIn table.now page class number found.base × (found.extent ≡ class_size class)) }
+        (λ found. IsTakenIn table.now page class number found.cell.base × (found.cell.extent ≡ class_size class)
+        × (found.index.page ≡ page) × (found.index.number ≡ number)) }
 {
     let size = extent_of(Size::Small(class));
     let number = offset / size;
     if cells_per_page(class) <= number || table.mark_at(page, number) == Mark::Free {
         return None;
     }
-    Some(Cell {
-        base: page * PAGE_BYTES + number * size,
-        extent: size,
+    Some(Located {
+        cell: Cell {
+            base: page * PAGE_BYTES + number * size,
+            extent: size,
+        },
+        index: MarkIndex { page, number },
     })
 }
 
-/// The room of a cell of whole pages.
-fn whole_cell(page: u32, count: u32) -> Cell
+/// A cell of whole pages.
+fn whole_cell(page: u32, count: u32) -> Located
     requires page { page ≤ 4096 }
     requires count { count ≤ 4096 }
-    ensures base { result.base ≡ 4096 * page }
-    ensures extent { result.extent ≡ 4096 * count }
+    ensures base { result.cell.base ≡ 4096 * page }
+    ensures extent { result.cell.extent ≡ 4096 * count }
+    ensures index { (result.index.page ≡ page) × (result.index.number ≡ 0) }
 {
-    Cell {
-        base: page * PAGE_BYTES,
-        extent: count * PAGE_BYTES,
+    Located {
+        cell: Cell {
+            base: page * PAGE_BYTES,
+            extent: count * PAGE_BYTES,
+        },
+        index: MarkIndex { page, number: 0 },
     }
 }
 
-/// The room of the cell whose first page it is.
-fn cell_from(table: &Table, page: u32) -> Cell
+/// The cell whose first page it is.
+fn cell_from(table: &Table, page: u32) -> Located
     requires within { page < table.now.pages }
     requires most { table.now.pages ≤ 4096 }
     requires first { (count : ℕ) × (use_at table.now page ≡ PageUse.First count) × (count ≤ 4096) }
-    ensures base { result.base ≡ 4096 * page }
-    ensures extent { (count : ℕ) → use_at table.now page ≡ PageUse.First count → result.extent ≡ 4096 * count }
+    ensures base { result.cell.base ≡ 4096 * page }
+    ensures extent { (count : ℕ) → use_at table.now page ≡ PageUse.First count → result.cell.extent ≡ 4096 * count }
+    ensures index { (result.index.page ≡ page) × (result.index.number ≡ 0) }
 {
     match table.use_at(page) {
         PageUse::First(count) => whole_cell(page, count),

@@ -1,13 +1,14 @@
 // Looking a cell up once, by a word or by its base.
-ghost use Rattle.std.specs.Prelude.{◌≡◌, ◌+◌, ℕ, MatchOption, Some};
-ghost use Rattle.mm_cells.specs.Cells.{Taken, with_cell, Begins, IsTaken, Covers, IsSoundCells};
+ghost use Rattle.std.specs.Prelude.{◌≡◌, ◌≢◌, ◌+◌, ◌<◌, ℕ, MatchOption, Some, true, false};
+ghost use Rattle.mm_cells.specs.Cells.{Taken, Begins, IsTaken, Covers, IsSoundCells};
+ghost use Rattle.mm_cells.specs.Map.{mark_at, SetsMark};
 ghost use Rattle.mm_cells.specs.Looking.{NoWhite, Shades};
-ghost use Rattle.mm_cells.specs.Marks.{IsFlags};
 
-use crate::cells::{Cells, ObjectMark, mark_index_of, object_mark_at};
+use crate::cells::{Cells, MarkIndex, locate, object_mark_at};
 use crate::class::{PAGE_BYTES, extent_of};
 use crate::marks::{CellBits, Mark};
 use crate::page_use::PageUse;
+use crate::table::Table;
 use mm_model::{Colour, Size};
 use mm_steps::Steps;
 use std::sync::ledger::Ledger;
@@ -44,12 +45,13 @@ impl Cells {
         ensures sound { IsSoundCells self.now }
         ensures cost { steps.new ≡ steps.old + 1 }
     {
-        match self.resolve(word, steps) {
-            Some(cell) => {
-                let told = self.told(cell.base);
+        steps.tick();
+        match locate(&self.table, word) {
+            Some(located) => {
+                let told = object_mark_at(&self.table, located.index);
                 Some(FoundCell {
-                    base: cell.base,
-                    extent: cell.extent,
+                    base: located.cell.base,
+                    extent: located.cell.extent,
                     colour: told.colour,
                     flags: told.flags,
                 })
@@ -65,38 +67,41 @@ impl Cells {
         ensures sound { IsSoundCells self.new }
         ensures cost { steps.new ≡ steps.old + 1 }
     {
-        match self.find(word, steps) {
-            Some(found) => match found.colour {
-                Colour::White => {
-                    self.mark_as(found.base, Colour::Gray, found.flags);
-                    Some(found.base)
+        steps.tick();
+        match locate(&self.table, word) {
+            Some(located) => {
+                if shade_at(&mut self.table, located.index) {
+                    Some(located.cell.base)
+                } else {
+                    None
                 }
-                Colour::Gray | Colour::Black => None,
-            },
+            }
             None => None,
         }
     }
+}
 
-    /// What is told of the object in a taken cell.
-    pub(crate) fn told(&self, base: u32) -> ObjectMark
-        requires { IsTaken self.now base }
-        ensures colour { (cell : Taken) → Begins self.now base cell → result.colour ≡ cell.colour }
-        ensures flags { (cell : Taken) → Begins self.now base cell → result.flags ≡ cell.flags }
-        ensures known { IsFlags result.flags }
-    {
-        object_mark_at(&self.table, mark_index_of(&self.table, base))
-    }
-
-    /// Notes what is told of it from now on.
-    pub(crate) fn mark_as(&mut self, base: u32, colour: Colour, flags: CellBits)
-        requires taken { IsTaken self.old base }
-        requires known { IsFlags flags }
-        ensures told { (cell : Taken) → Begins self.old base cell
-            → self.new ≡ with_cell self.old base (Some (record cell { colour = colour; flags = flags })) }
-        ensures sound { IsSoundCells self.new }
-    {
-        let index = mark_index_of(&self.table, base);
-        self.table
-            .set_mark(index.page, index.number, Mark::Taken(colour, flags));
+/// Makes the cell with this mark gray if it is white, and answers whether it was.
+fn shade_at(table: &mut Table, index: MarkIndex) -> bool
+    requires page { index.page < table.old.pages }
+    requires number { index.number < 256 }
+    requires taken { mark_at table.old index.page index.number ≢ Mark.Free }
+    ensures white { result ≡ true → (flags : CellBits)
+        × (mark_at table.old index.page index.number ≡ Mark.Taken Colour.White flags)
+        × SetsMark table.old table.new index.page index.number (Mark.Taken Colour.Gray flags) }
+    ensures other { result ≡ false → (table.new ≡ table.old) × ((flags : CellBits)
+        → mark_at table.old index.page index.number ≢ Mark.Taken Colour.White flags) }
+{
+    let told = object_mark_at(table, index);
+    match told.colour {
+        Colour::White => {
+            table.set_mark(
+                index.page,
+                index.number,
+                Mark::Taken(Colour::Gray, told.flags),
+            );
+            true
+        }
+        Colour::Gray | Colour::Black => false,
     }
 }

@@ -8,11 +8,11 @@ use Rattle.mm_cells.specs.declared.marks.Mark.TheVariants as marks
 use Rattle.mm_cells.specs.Map.{Map, use_at, mark_at}
 use Rattle.mm_cells.specs.Cells.{Taken, Covers}
 use Rattle.mm_cells.specs.Kept.{class_size, cells_in, taken_as, cells_of, KeepsCells, IsWhole}
-use Rattle.mm_cells.specs.Indexes.{IsTakenIn}
+use Rattle.mm_cells.specs.Indexes.{IsTakenIn, IsMarkIndex, IsLocated}
 use Rattle.mm_cells.proofs.Sizes.ClassSizes.{class_size-least, cells_in-fit}
 use Rattle.mm_cells.proofs.Sizes.Grains.{cell-fits, div-rest}
 use Rattle.mm_cells.proofs.Region.Begins.{IsSmallCell, IsWholeCell, IsCellOf, small, whole, Begins-cell, cell-Begins}
-use Rattle.mm_cells.proofs.Region.Indexes.{number-in}
+use Rattle.mm_cells.proofs.Region.Indexes.{number-in, small-seat, whole-seat}
 use Rattle.mm_cells.proofs.Region.Sound.{taken_as-extent, IsSpaced-kept}
 
 -- what a mark that isn't free is read as
@@ -114,45 +114,60 @@ none-free m word class base cell kept used free c = elim (Covers-covering m word
 pub class-has : (m : Map) (word class base : ℕ) → KeepsCells m → word / 4096 < m.pages →
     use_at m (word / 4096) ≡ Class class →
     IsTakenIn m (word / 4096) class (word % 4096 / class_size class) base →
-    (cell : Taken) × Covers (cells_of m) word base cell × (cell.extent ≡ class_size class)
+    IsLocated m word (word / 4096) (word % 4096 / class_size class) base (class_size class)
 class-has m word class base kept page used known =
     let size : ℕ = class_size class in
     let number : ℕ = word % 4096 / size in
     let some : 16 ≤ size = class_size-least class (kept.classes (word / 4096) class used).0 in
     let found = taken_as-some size (mark_at m (word / 4096) number) known.taken in
     let extent : found.0.extent ≡ size = taken_as-extent size (mark_at m (word / 4096) number) found.0 found.1 in
-    let rest = div-rest (word % 4096) size (omega arith) in (
-      found.0,
-      record {
-        begins = cell-Begins m base found.0 kept (small (word / 4096) class number (record {
-          page_within = page;
-          used = used;
-          number_within = known.within;
-          begins = known.begins;
-          taken = found.1;
-        }));
+    let rest = div-rest (word % 4096) size (omega arith) in
+    let there : IsSmallCell m (word / 4096) class number base found.0 = record {
+      page_within = page;
+      used = used;
+      number_within = known.within;
+      begins = known.begins;
+      taken = found.1;
+    } in
+    let begins = cell-Begins m base found.0 kept (small (word / 4096) class number there) in
+    record {
+      cell = found.0;
+      covers = record {
+        begins = begins;
         from = omega (arith, rest.0, known.begins);
         to = omega (arith, rest.1, known.begins);
-      },
-      extent,
-    )
+      };
+      sized = extent;
+      index = small-seat m (word / 4096) class number base found.0 kept begins there;
+    }
 
 pub whole-has : (m : Map) (word page count base : ℕ) → KeepsCells m → use_at m page ≡ First count → base ≡ 4096 * page →
     page ≤ word / 4096 → word / 4096 < page + count →
-    (cell : Taken) × Covers (cells_of m) word base cell × (cell.extent ≡ 4096 * count)
+    IsLocated m word page 0 base (4096 * count)
 whole-has m word page count base kept used is from to =
     let known : IsWhole m page count = kept.wholes page count used in
     let found = taken_as-some (4096 * count) (mark_at m page 0) known.taken in
-    let extent : found.0.extent ≡ 4096 * count = taken_as-extent (4096 * count) (mark_at m page 0) found.0 found.1 in (
-      found.0,
-      record {
-        begins = cell-Begins m base found.0 kept
-            (whole page count (record { used = used; begins = is; taken = found.1 }));
-        from = omega arith;
-        to = omega arith;
-      },
-      extent,
-    )
+    let extent : found.0.extent ≡ 4096 * count = taken_as-extent (4096 * count) (mark_at m page 0) found.0 found.1 in
+    let there : IsWholeCell m page count base found.0 = record { used = used; begins = is; taken = found.1 } in
+    let begins = cell-Begins m base found.0 kept (whole page count there) in
+    record {
+      cell = found.0;
+      covers = record { begins = begins; from = omega arith; to = omega arith };
+      sized = extent;
+      index = whole-seat m page count base found.0 kept begins there;
+    }
+
+-- the same, as the program has it
+pub IsLocated-same : (m : Map) (word page page' number number' base extent extent' : ℕ) → page' ≡ page →
+    number' ≡ number → extent' ≡ extent → IsLocated m word page number base extent →
+    IsLocated m word page' number' base extent'
+IsLocated-same m word page page' number number' base extent extent' at is sized found = record {
+  cell = found.cell;
+  covers = found.covers;
+  sized = found.sized ∙ sym sized;
+  index = subst (λ (p : ℕ). IsMarkIndex m p number' base) (sym at)
+      (subst (λ (n : ℕ). IsMarkIndex m page n base) (sym is) found.index);
+}
 
 -- another thing is known of each answer
 pub MatchOption-map : {A : Type 0} (answer : Option A) (P P' : Type 0) (Q Q' : A → Type 0) → (P → P') →

@@ -55,7 +55,7 @@ small-number m page class number base cell kept s =
     number-in number (class_size class) 0 (base % 4096)
     (omega (arith, (small-page m page class number base cell kept s).1)) (omega arith)
 
-small-seat : (m : Map) (page class number base : ℕ) (cell : Taken) → KeepsCells m → Begins (cells_of m) base cell →
+pub small-seat : (m : Map) (page class number base : ℕ) (cell : Taken) → KeepsCells m → Begins (cells_of m) base cell →
     IsSmallCell m page class number base cell → IsMarkIndex m page number base
 small-seat m page class number base cell kept begins s =
     let low : class < 19 = (kept.classes page class s.used).0 in
@@ -69,7 +69,7 @@ small-seat m page class number base cell kept begins s =
       mark = taken_as-mark (class_size class) (mark_at m page number) cell s.taken;
     }
 
-whole-seat : (m : Map) (page count base : ℕ) (cell : Taken) → KeepsCells m → Begins (cells_of m) base cell →
+pub whole-seat : (m : Map) (page count base : ℕ) (cell : Taken) → KeepsCells m → Begins (cells_of m) base cell →
     IsWholeCell m page count base cell → IsMarkIndex m page 0 base
 whole-seat m page count base cell kept begins w =
     let known : IsWhole m page count = kept.wholes page count w.used in
