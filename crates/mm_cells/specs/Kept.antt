@@ -1,5 +1,6 @@
 -- Which cells a table says are taken, and what holds of it between calls.
-use Rattle.std.specs.Prelude.{◌≡◌, ◌≢◌, ◌+◌, ◌-◌, ◌*◌, ◌/◌, ◌%◌, ◌<◌, ◌≤◌, ◌↔◌, ◌==◌, ◌&&◌, ℕ, true, if◌then◌else◌, nat_lt, map, List, Option, Some, None, ⊤}
+use Rattle.std.specs.Prelude.{◌≡◌, ◌≢◌, ◌+◌, ◌-◌, ◌*◌, ◌/◌, ◌%◌, ◌<◌, ◌≤◌, ◌↔◌, ◌==◌, ◌&&◌, ℕ, true, if◌then◌else◌}
+use Rattle.std.specs.Prelude.{nat_lt, map, List, Option, Some, None, ⊤}
 use Rattle.std.specs.List.{range_with_len}
 use Rattle.mm_model.specs.declared.object.Size.TheVariants.{Small}
 use Rattle.mm_model.specs.SizeClass.{extent_of_size}

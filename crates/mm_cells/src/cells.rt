@@ -8,7 +8,8 @@ ghost use Rattle.mm_cells.specs.Marks.{IsFlags, IsSought};
 ghost use Rattle.mm_cells.specs.Cells.{Taken, fresh, with_cell, Begins, IsTaken, Covers, HasNoCell, IsSoundCells};
 ghost use Rattle.mm_cells.specs.Cells.{IsNextTaken, NoneTakenFrom, IsWalk};
 ghost use Rattle.mm_cells.specs.Kept.{class_size, cells_in, cells_of, KeepsCells};
-ghost use Rattle.mm_cells.specs.Indexes.{IsLocated, IsMarkIndex, NoneInPage, IsLowestInPage, IsTakenIn, NoneIn, IsLowestIn};
+ghost use Rattle.mm_cells.specs.Indexes.{IsLocated, IsMarkIndex, NoneInPage, IsLowestInPage, IsTakenIn, NoneIn};
+ghost use Rattle.mm_cells.specs.Indexes.{IsLowestIn};
 
 use crate::class::{PAGE_BYTES, cells_per_page, extent_of};
 use crate::marks::{CellBits, Mark, Sought};

@@ -1,6 +1,7 @@
 // The marks of cells in a table of words: four bits for each cell, and those of eight cells in each word.
 ghost use Rattle.std.specs.Prelude.{◌≡◌, ◌≢◌, ℕ, ◌+◌, ◌*◌, ◌/◌, ◌%◌, ◌<◌, ◌≤◌, ◌⊎◌, length, MatchOption};
-ghost use Rattle.mm_cells.specs.Marks.{code_in, code_of, colour_code, no_flags, IsMark, mark_of, mark_in, whitened_mark};
+ghost use Rattle.mm_cells.specs.Marks.{code_in, code_of, colour_code, no_flags, IsMark, mark_of, mark_in};
+ghost use Rattle.mm_cells.specs.Marks.{whitened_mark};
 ghost use Rattle.mm_cells.specs.Marks.{code_of_cell, mark_of_cell, page_marks};
 ghost use Rattle.mm_cells.specs.Marks.{NoneFree, IsLowestFree, NoneSought, IsLowestSought, IsMaskOf};
 

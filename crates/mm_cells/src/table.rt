@@ -165,7 +165,8 @@ impl Table {
         requires page { page < self.now.pages }
         requires cells { cells ≤ 256 }
         ensures { let marks = mark_at self.now page in
-            MatchOption result (NoneSought sought marks from cells) (λ cell. IsLowestSought sought marks from cells cell) }
+            MatchOption result (NoneSought sought marks from cells)
+            (λ cell. IsLowestSought sought marks from cells cell) }
     {
         let marks = self.marks();
         marks::lowest_sought(marks, MARK_WORDS * page, from, cells, sought)

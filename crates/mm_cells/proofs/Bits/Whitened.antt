@@ -1,5 +1,6 @@
 -- A word whose taken cells become white: the flags stay, and so does what says free.
-use Rattle.std.proofs.Common.{◌≡◌, ℕ, ◌+◌, ◌-◌, ◌*◌, ◌/◌, ◌%◌, ◌^◌, ◌<◌, ◌==◌, false, true, refl, min, max, bit_and, bit_or, sym, ap}
+use Rattle.std.proofs.Common.{◌≡◌, ℕ, ◌+◌, ◌-◌, ◌*◌, ◌/◌, ◌%◌, ◌^◌, ◌<◌, ◌==◌, false, true, refl, min, max, bit_and}
+use Rattle.std.proofs.Common.{bit_or, sym, ap}
 use Rattle.std.proofs.Common.{◌∙◌, inl, inr, arith}
 use Rattle.std.proofs.lemmas.Bool.{agree_below_at, cases_eq, cases_lt, eqb-true, ne_eqb}
 use Rattle.std.proofs.lemmas.Nat.{and_le_r}
@@ -90,7 +91,12 @@ module _ (word : ℕ) where
       let zero : bit_at whitened (4 * place) ≡ bit_at free (4 * place) =
       omega (arith, whitened-at (4 * place) (omega arith), shifted-here place within) in
       let one : bit_at whitened (4 * place + 1) ≡ bit_at free (4 * place) =
-      omega (arith, whitened-at (4 * place + 1) (omega arith), free-off (4 * place + 1) (omega arith) (omega arith), shifted) in
+      omega (
+        arith,
+        whitened-at (4 * place + 1) (omega arith),
+        free-off (4 * place + 1) (omega arith) (omega arith),
+        shifted,
+      ) in
       omega (arith, low_bit whitened place, second, zero, one, here)
 
   flag-same : (place j : ℕ) → place < 8 → 1 < j → j < 4 → bit_at whitened (4 * place + j) ≡ bit_at word (4 * place + j)
@@ -106,9 +112,21 @@ module _ (word : ℕ) where
   high_bits : (place : ℕ) → place < 8 → code_in whitened place / 4 ≡ code_in word place / 4
   high_bits place within =
       let third : code_in whitened place / 4 % 2 ≡ code_in word place / 4 % 2 =
-      omega (arith, bit_of_place whitened place 2, bit_of_place word place 2, flag-same place 2 within (omega arith) (omega arith)) in
+      omega (
+        arith,
+        bit_of_place whitened place 2,
+        bit_of_place word place 2,
+        flag-same place 2 within (omega arith)
+            (omega arith),
+      ) in
       let fourth : code_in whitened place / 8 % 2 ≡ code_in word place / 8 % 2 =
-      omega (arith, bit_of_place whitened place 3, bit_of_place word place 3, flag-same place 3 within (omega arith) (omega arith)) in
+      omega (
+        arith,
+        bit_of_place whitened place 3,
+        bit_of_place word place 3,
+        flag-same place 3 within (omega arith)
+            (omega arith),
+      ) in
       omega (arith, third, fourth)
 
 -- by its bits, a mark is that of a white cell, or free

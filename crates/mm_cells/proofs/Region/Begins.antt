@@ -145,7 +145,8 @@ whole-begins m page count base cell known w =
     grain-begins m page 0 base cell (omega (arith, known.some, known.within)) (omega arith) (omega (arith, w.begins))
     (ap (λ (u : PageUse). taken_in u (mark_at m page) 0) w.used ∙ w.taken)
 
-pub cell-Begins : (m : Map) (base : ℕ) (cell : Taken) → KeepsCells m → IsCellOf m base cell → Begins (cells_of m) base cell
+pub cell-Begins : (m : Map) (base : ℕ) (cell : Taken) → KeepsCells m → IsCellOf m base cell
+    → Begins (cells_of m) base cell
 cell-Begins m base cell kept (small page class number s) =
     small-begins m page class number base cell (kept.classes page class s.used).0 s
 cell-Begins m base cell kept (whole page count w) =

@@ -38,7 +38,8 @@ HasNoRun-unused heap top sound highest is =
     at_zero zero e some = let none = sound.off_zero in omega arith
     at_zero (suc page) e some = omega arith
 
-pub table-left : (before after : Cells) (heap : Pages) (page : ℕ) (left : Pages) → LeavesPage before after heap page left →
+pub table-left : (before after : Cells) (heap : Pages) (page : ℕ) (left : Pages)
+    → LeavesPage before after heap page left →
     left.table ≡ heap.table
 table-left before after heap page left (Page_stays base cell begins inside still) = refl
 table-left before after heap page left (Page_goes none gone) = refl

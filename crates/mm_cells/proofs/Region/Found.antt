@@ -16,7 +16,8 @@ use Rattle.mm_cells.proofs.Region.Soundness.{IsSoundCells-kept}
 told-cell : (cell : Taken) (extent : ℕ) (colour : Colour) (flags : CellBits) → cell.extent ≡ extent →
     colour ≡ cell.colour → flags ≡ cell.flags → cell ≡ record { extent = extent; colour = colour; flags = flags }
 told-cell cell extent colour flags same shown marked =
-    ap (λ (n : ℕ). record cell { extent = n }) same ∙ ap (λ (k : Colour). record cell { extent = extent; colour = k }) (sym shown)
+    ap (λ (n : ℕ). record cell { extent = n }) same
+    ∙ ap (λ (k : Colour). record cell { extent = extent; colour = k }) (sym shown)
     ∙ ap (λ (f : CellBits). record cell { extent = extent; colour = colour; flags = f }) (sym marked)
 
 Covers-told : (v : Cells) (word base : ℕ) (cell : Taken) (extent : ℕ) (colour : Colour) (flags : CellBits) →

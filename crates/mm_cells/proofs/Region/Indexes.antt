@@ -146,7 +146,8 @@ pub cells_of-told : (a b : Map) (page number base : ℕ) (colour : Colour) (flag
     cells_of b ≡ with_cell (cells_of a) base (Some (record cell { colour = colour; flags = flags }))
 cells_of-told a b page number base colour flags kept seat sets cell begins =
     let same : seat.cell ≡ cell = Begins-one (cells_of a) base seat.cell cell seat.begins begins in
-    cells_of-marked a b page number base seat.cell.extent (marks.Taken colour flags) (KeepsCells-classes a kept) seat.seat sets
+    cells_of-marked a b page number base seat.cell.extent (marks.Taken colour flags) (KeepsCells-classes a kept)
+    seat.seat sets
     ∙ ap (λ (c : Taken). with_cell (cells_of a) base (Some (record c { colour = colour; flags = flags }))) same
 
 -- what the mark tells

@@ -51,21 +51,25 @@ Begins-whole m page count base cell kept used begins here = elim (Begins-cell m 
 ]
 
 -- a page in which no cell begins
-pub NoneInPage-other : (m : Map) (page : ℕ) (what : Sought) (from : ℕ) → KeepsCells m → ((class : ℕ) → use_at m page ≡ Class class → ⊥) →
+pub NoneInPage-other : (m : Map) (page : ℕ) (what : Sought) (from : ℕ) → KeepsCells m
+    → ((class : ℕ) → use_at m page ≡ Class class → ⊥) →
     ((count : ℕ) → use_at m page ≡ First count → ⊥) → NoneInPage (cells_of m) page what from
-NoneInPage-other m page what from kept no_class no_first base cell begins is here = elim (Begins-cell m base cell begins) [
-  | small page' class number s ↦
-      let same : page' ≡ page = sym (small-page m page' class number base cell kept s).0 ∙ here in
-      absurd (no_class class (ap (λ (p : ℕ). use_at m p) (sym same) ∙ s.used))
-  | whole page' count w ↦
-      let same : page' ≡ page = omega (arith, w.begins) in
-      absurd (no_first count (ap (λ (p : ℕ). use_at m p) (sym same) ∙ w.used))
-]
+NoneInPage-other m page what from kept no_class no_first base cell begins is here = elim
+    (Begins-cell m base cell begins) [
+      | small page' class number s ↦
+          let same : page' ≡ page = sym (small-page m page' class number base cell kept s).0 ∙ here in
+          absurd (no_class class (ap (λ (p : ℕ). use_at m p) (sym same) ∙ s.used))
+      | whole page' count w ↦
+          let same : page' ≡ page = omega (arith, w.begins) in
+          absurd (no_first count (ap (λ (p : ℕ). use_at m p) (sym same) ∙ w.used))
+    ]
 
 -- a mark that is sought is that of such a cell
-such-mark : (what : Sought) (mark : Mark) (cell : Taken) → mark ≡ marks.Taken cell.colour cell.flags → IsSuch what cell →
+such-mark : (what : Sought) (mark : Mark) (cell : Taken) → mark ≡ marks.Taken cell.colour cell.flags → IsSuch what cell
+    →
     IsSought what mark
-such-mark sought.Taken mark cell is such = λ free. absurd (let both : marks.Free ≡ marks.Taken cell.colour cell.flags = sym free ∙ is in cc)
+such-mark sought.Taken mark cell is such = λ free. absurd
+    (let both : marks.Free ≡ marks.Taken cell.colour cell.flags = sym free ∙ is in cc)
 such-mark (sought.Of colour) mark cell is such = rw is such
 
 -- and the other way round, where it can be read
@@ -147,7 +151,8 @@ pub NoneInPage-whole : (m : Map) (page count : ℕ) (what : Sought) (from : ℕ)
     NoneInPage (cells_of m) page what from
 NoneInPage-whole m page count what from kept used above base cell begins such here =
     let at = Begins-whole m page count base cell kept used begins here in
-    let past = above (such-mark what (mark_at m page 0) cell (whole-mark m page count base cell kept used begins here) such) in
+    let past = above (such-mark what (mark_at m page 0) cell (whole-mark m page count base cell kept used begins here)
+    such) in
     omega arith
 
 pub IsLowestInPage-whole : (m : Map) (page count : ℕ) (what : Sought) (from base : ℕ) → KeepsCells m →
@@ -199,7 +204,8 @@ IsNextTaken-lowest v page from base before low = record {
   cell = low.cell;
   begins = low.begins;
   reached = low.reached;
-  least = λ lower other begins reached. lowest-least v page sought.Taken from base lower other before low begins tt reached;
+  least = λ lower other begins reached. lowest-least v page sought.Taken from base lower other before low begins tt
+      reached;
 }
 
 pub IsNextOf-lowest : (v : Cells) (page : ℕ) (colour : Colour) (from base : ℕ) →
@@ -215,7 +221,8 @@ IsNextOf-lowest v page colour from base before low = record {
 }
 
 -- all cells begin in pages of the table
-begins-before : (m : Map) (page base : ℕ) (cell : Taken) → KeepsCells m → m.pages ≤ page → Begins (cells_of m) base cell →
+begins-before : (m : Map) (page base : ℕ) (cell : Taken) → KeepsCells m → m.pages ≤ page → Begins (cells_of m) base cell
+    →
     base / 4096 < page
 begins-before m page base cell kept all begins =
     let sound = IsSpaced-kept m kept in

@@ -1,5 +1,6 @@
 -- The pages of a class as callers see them.
-use Rattle.std.proofs.Common.{◌≡◌, ◌≢◌, ℕ, suc, ◌+◌, ◌-◌, ◌*◌, ◌/◌, ◌<◌, ◌≤◌, inl, inr, Bool, true, false, refl, arith, sym, ◌∙◌, ap, subst}
+use Rattle.std.proofs.Common.{◌≡◌, ◌≢◌, ℕ, suc, ◌+◌, ◌-◌, ◌*◌, ◌/◌, ◌<◌, ◌≤◌, inl, inr, Bool, true, false, refl, arith}
+use Rattle.std.proofs.Common.{sym, ◌∙◌, ap, subst}
 use Rattle.std.specs.Prelude.{Some, None, nat_eq}
 use Rattle.std.proofs.lemmas.Bool.{cases_lt, cases_order, agree_below_at, eqb-true}
 use Rattle.std.proofs.lemmas.Nat.{le-div}
@@ -100,7 +101,8 @@ page-class m page class base cell kept known (small p c number s) inside same =
     let low : c < 19 = (kept.classes p c s.used).0 in
     let extent : cell.extent ≡ class_size c = taken_as-extent (class_size c) (mark_at m p number) cell s.taken in
     let is : c ≡ class = class_size-apart c class low known (sym extent ∙ same) in
-    let at : p ≡ page = sym (cell-page p number c low s.number_within) ∙ ap (λ (b : ℕ). b / 4096) (sym s.begins) ∙ inside in
+    let at : p ≡ page = sym (cell-page p number c low s.number_within) ∙ ap (λ (b : ℕ). b / 4096) (sym s.begins)
+    ∙ inside in
     ap (use_at m) (sym at) ∙ s.used ∙ ap Class is
 page-class m page class base cell kept known (whole p count w) inside same =
     let extent : cell.extent ≡ 4096 * count = taken_as-extent (4096 * count) (mark_at m p 0) cell w.taken in
@@ -156,7 +158,8 @@ free-IsFreeCell m page class number base kept used within free at = record {
   at = sym at;
   whole = cell-fits number (cells_in class) (class_size class) within (cells_in-fit class);
   of_page = class-IsPageOf m page class kept used;
-  free = λ cell begins. free-cell m page class number base cell kept used within free at (Begins-cell m base cell begins);
+  free = λ cell begins. free-cell m page class number base cell kept used within free at
+      (Begins-cell m base cell begins);
 }
 
 -- and the other way round

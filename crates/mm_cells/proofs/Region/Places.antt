@@ -70,7 +70,13 @@ open-page v heap page count sound parked some free within = record {
       let at : 4096 * page / 4096 ≡ page = omega arith in
       let run : 0 < slice_index v.runs page =
       subst (λ (p : ℕ). 0 < slice_index v.runs p) at (run-some v (4096 * page) cell sound begins) in
-      absurd (omega (arith, run, parked.parked page run, parked-free heap page (free page (omega arith) (omega arith))));
+      absurd (omega (
+        arith,
+        run,
+        parked.parked page run,
+        parked-free heap page
+            (free page (omega arith) (omega arith)),
+      ));
 }
 
 pub begins-placed : (v after : Cells) (base page count : ℕ) (cell : Taken) → IsOpen v base →

@@ -1,5 +1,6 @@
 -- A table in which a cell was given back.
-use Rattle.std.proofs.Common.{◌≡◌, ◌≢◌, ℕ, ◌+◌, ◌-◌, ◌*◌, ◌/◌, ◌<◌, ◌≤◌, ◌⊎◌, inl, inr, true, false, refl, arith, sym, ◌∙◌, ap, subst}
+use Rattle.std.proofs.Common.{◌≡◌, ◌≢◌, ℕ, ◌+◌, ◌-◌, ◌*◌, ◌/◌, ◌<◌, ◌≤◌, ◌⊎◌, inl, inr, true, false, refl, arith, sym}
+use Rattle.std.proofs.Common.{◌∙◌, ap, subst}
 use Rattle.std.specs.Prelude.{None}
 use Rattle.std.proofs.lemmas.Bool.{cases_lt, cases_eq}
 use Rattle.mm_cells.specs.declared.page_use.PageUse.TheVariants.{Unused, Class, First, Later}
@@ -14,9 +15,11 @@ use Rattle.mm_cells.specs.Spans.{SetsUses, AreUnused}
 use Rattle.mm_cells.proofs.Sizes.ClassSizes.{class_size-least, cells_in-most}
 use Rattle.mm_cells.proofs.Sizes.Grains.{div-whole}
 use Rattle.mm_cells.proofs.Region.Begins.{IsCellOf, small, whole, Begins-cell}
-use Rattle.mm_cells.proofs.Tables.Blocks.{IsInside, AgreesOff, AgreesOff-mark, AgreesOff-use, AgreesOff-room, AgreesOff-uses}
+use Rattle.mm_cells.proofs.Tables.Blocks.{IsInside, AgreesOff, AgreesOff-mark, AgreesOff-use, AgreesOff-room}
+use Rattle.mm_cells.proofs.Tables.Blocks.{AgreesOff-uses}
 use Rattle.mm_cells.proofs.Tables.Blocks.{AgreesOff-trans, use_at-same, room_at-same}
-use Rattle.mm_cells.proofs.Tables.KeptBlocks.{KeepsCells-block, IsClosed-class, IsClosed-whole, KeepsPages-unused, use_in-whole}
+use Rattle.mm_cells.proofs.Tables.KeptBlocks.{KeepsCells-block, IsClosed-class, IsClosed-whole, KeepsPages-unused}
+use Rattle.mm_cells.proofs.Tables.KeptBlocks.{use_in-whole}
 use Rattle.mm_cells.proofs.Tables.KeptBlocks.{no_room-other, only_page}
 use Rattle.mm_cells.proofs.Tables.Marked.{KeepsCells-classes}
 use Rattle.mm_cells.proofs.Tables.Placed.{KeepsCells-cell}
@@ -36,10 +39,12 @@ used-within m page kept used = (
   ],
 )
 
-pub class-within : (m : Map) (page class : ℕ) → KeepsCells m → use_at m page ≡ Class class → (0 < page) × (page < m.pages)
+pub class-within : (m : Map) (page class : ℕ) → KeepsCells m → use_at m page ≡ Class class
+    → (0 < page) × (page < m.pages)
 class-within m page class kept used = used-within m page kept (λ none. absurd (cc))
 
-pub first-within : (m : Map) (page count : ℕ) → KeepsCells m → use_at m page ≡ First count → (0 < page) × (page < m.pages)
+pub first-within : (m : Map) (page count : ℕ) → KeepsCells m → use_at m page ≡ First count
+    → (0 < page) × (page < m.pages)
 first-within m page count kept used = used-within m page kept (λ none. absurd (cc))
 
 -- a taken cell of a page of a class begins at a multiple of its size
@@ -127,7 +132,8 @@ mark-free (marks.Taken colour flags) none = absurd (none (λ e. absurd (cc)))
 pub cells_of-goes : (a b c d : Map) (page class number base : ℕ) → KeepsCells a → use_at a page ≡ Class class →
     number < cells_in class → base ≡ 4096 * page + number * class_size class →
     SetsMark a b page number marks.Free → NoneSought sought.Taken (mark_at b page) 0 (cells_in class) →
-    SetsUse b c page Unused → SetsRoom c d class page false → cells_of d ≡ with_run (with_cell (cells_of a) base None) page 0
+    SetsUse b c page Unused → SetsRoom c d class page false
+    → cells_of d ≡ with_run (with_cell (cells_of a) base None) page 0
 cells_of-goes a b c d page class number base kept used fits begins marked none unused room =
     let known : class < 19 = (kept.classes page class used).0 in
     let most : cells_in class ≤ 256 = cells_in-most class known in
@@ -170,7 +176,8 @@ KeepsCells-cleared a b first count kept used cleared =
     (λ is. whole-no_class a first count page class kept used inside is)))
 
 pub cells_of-cleared_pages : (a b : Map) (first count : ℕ) → KeepsCells a → use_at a first ≡ First count →
-    SetsUses a b first count (λ distance. Unused) → cells_of b ≡ with_run (with_cell (cells_of a) (4096 * first) None) first 0
+    SetsUses a b first count (λ distance. Unused)
+    → cells_of b ≡ with_run (with_cell (cells_of a) (4096 * first) None) first 0
 cells_of-cleared_pages a b first count kept used cleared =
     let known = kept.wholes first count used in
     cells_of-cleared a b first count (KeepsCells-classes a kept)

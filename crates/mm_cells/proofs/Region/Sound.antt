@@ -64,7 +64,8 @@ pub small-seated : (m : Map) (page class number base : ℕ) (cell : Taken) → K
     IsSmallCell m page class number base cell → IsSeated m base cell page
 small-seated m page class number base cell kept s =
     let known = kept.classes page class s.used in
-    let extent : cell.extent ≡ class_size class = taken_as-extent (class_size class) (mark_at m page number) cell s.taken in
+    let extent : cell.extent ≡ class_size class = taken_as-extent (class_size class) (mark_at m page number) cell
+    s.taken in
     let fits : number * class_size class + class_size class ≤ 4096 =
     cell-fits number (cells_in class) (class_size class) s.number_within (cells_in-fit class) in
     let some : 16 ≤ class_size class = class_size-least class known.0 in
@@ -144,12 +145,14 @@ cells-clash m low high lower higher kept (small page class number s) (small page
     (small-seated m page' class' number' high higher kept s') below inside) below inside
 cells-clash m low high lower higher kept (small page class number s) (whole page' count' w') below inside =
     let same : page ≡ page' = pages-same m low high page page' lower higher
-    (small-seated m page class number low lower kept s) (whole-seated m page' count' high higher kept w') below inside in
+    (small-seated m page class number low lower kept s) (whole-seated m page' count' high higher kept w') below inside
+    in
     let both : Class class ≡ First count' = sym s.used ∙ ap (λ (p : ℕ). use_at m p) same ∙ w'.used in
     absurd (cc)
 cells-clash m low high lower higher kept (whole page count w) (small page' class' number' s') below inside =
     let same : page ≡ page' = pages-same m low high page page' lower higher
-    (whole-seated m page count low lower kept w) (small-seated m page' class' number' high higher kept s') below inside in
+    (whole-seated m page count low lower kept w) (small-seated m page' class' number' high higher kept s') below inside
+    in
     let both : First count ≡ Class class' = sym w.used ∙ ap (λ (p : ℕ). use_at m p) same ∙ s'.used in
     absurd (cc)
 cells-clash m low high lower higher kept (whole page count w) (whole page' count' w') below inside =

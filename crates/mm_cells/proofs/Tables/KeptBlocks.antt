@@ -1,5 +1,6 @@
 -- What a table keeps where some pages in a row change together.
-use Rattle.std.proofs.Common.{◌≡◌, ◌≢◌, ℕ, ◌+◌, ◌-◌, ◌<◌, ◌≤◌, ◌⊎◌, inl, inr, Bool, true, false, refl, arith, sym, ◌∙◌, ap, subst}
+use Rattle.std.proofs.Common.{◌≡◌, ◌≢◌, ℕ, ◌+◌, ◌-◌, ◌<◌, ◌≤◌, ◌⊎◌, inl, inr, Bool, true, false, refl, arith, sym, ◌∙◌}
+use Rattle.std.proofs.Common.{ap, subst}
 use Rattle.std.specs.Prelude.{◌↔◌, if◌then◌else◌}
 use Rattle.std.proofs.lemmas.Bool.{cases_eq, ne_eqb}
 use Rattle.mm_cells.specs.declared.page_use.PageUse.TheVariants.{Unused, Class, First, Later}
@@ -32,7 +33,8 @@ pub not_true : (test : Bool) → (test ≡ true → ⊥) → test ≡ false
 not_true true f = absurd (f refl)
 not_true false f = refl
 
-pub KeepsCells-block : (a b : Map) (first count : ℕ) → KeepsCells a → AgreesOff a b first count → IsClosed a first count →
+pub KeepsCells-block : (a b : Map) (first count : ℕ) → KeepsCells a → AgreesOff a b first count → IsClosed a first count
+    →
     0 < first → first + count ≤ a.pages → KeepsPages b first count → KeepsCells b
 KeepsCells-block a b first count kept agrees closed off_zero ends now =
     let pages : b.pages ≡ a.pages = agrees.same.pages in
@@ -142,7 +144,8 @@ IsClosed-class m page class kept used = IsClosed-small m page 1 kept
     (λ other n inside later. absurd (let same = ap (use_at m) (only_page page other inside) in cc))
 
 -- the use of each page of a cell of whole pages
-pub use_in-whole : (m : Map) (first count distance : ℕ) → KeepsCells m → use_at m first ≡ First count → distance < count →
+pub use_in-whole : (m : Map) (first count distance : ℕ) → KeepsCells m → use_at m first ≡ First count → distance < count
+    →
     use_at m (first + distance) ≡ use_in_whole count distance
 use_in-whole m first count distance kept used within = elim (cases_eq distance 0) [
   | inl e ↦ ap (λ (d : ℕ). use_at m (first + d)) e ∙ ap (use_at m) (omega arith) ∙ used

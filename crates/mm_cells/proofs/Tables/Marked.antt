@@ -84,12 +84,14 @@ pub cells_of-marked : (a b : Map) (page number base extent : ℕ) (mark : Mark) 
     cells_of b ≡ with_cell (cells_of a) base (taken_as extent mark)
 cells_of-marked a b page number base extent mark known (in_class class within low used small begins whole) sets =
     cells_of-changed a b page (number * (class_size class / 16)) base (taken_as (class_size class) mark)
-    (runs_of a) (runs-same a b sets.same.pages sets.uses) (class-changed a b page number class mark known sets within low used small)
+    (runs_of a) (runs-same a b sets.same.pages sets.uses)
+    (class-changed a b page number class mark known sets within low used small)
     (omega (arith, cell-units class number low))
     ∙ ap (λ (x : ℕ). with_cell (cells_of a) base (taken_as x mark)) (sym whole)
 cells_of-marked a b page number base extent mark known (in_whole count within used first begins whole) sets =
     cells_of-changed a b page 0 base (taken_as (4096 * count) mark)
-    (runs_of a) (runs-same a b sets.same.pages sets.uses) (whole-changed a b page count mark known (subst (λ (n : ℕ). SetsMark a b page n mark) first sets) within used)
+    (runs_of a) (runs-same a b sets.same.pages sets.uses)
+    (whole-changed a b page count mark known (subst (λ (n : ℕ). SetsMark a b page n mark) first sets) within used)
     (omega arith)
     ∙ ap (λ (x : ℕ). with_cell (cells_of a) base (taken_as x mark)) (sym whole)
 
@@ -176,7 +178,8 @@ KeepsCells-marked a b page number mark kept sets low before now =
       | inl e ↦ ap (λ (x : ℕ). mark_at b x c) e ∙ sets.other_cells c l (d e) ∙ ap (λ (x : ℕ). mark_at a x c) (sym e)
     ] in
     let taken_now : (p c : ℕ) → mark_at b p c ≡ marks.Free → p ≡ page → c ≡ number → ⊥ =
-    λ p c free e d. now (sym sets.here ∙ ap (λ (x : ℕ). mark_at b page x) (sym d) ∙ ap (λ (x : ℕ). mark_at b x c) (sym e) ∙ free) in
+    λ p c free e d. now (sym sets.here ∙ ap (λ (x : ℕ). mark_at b page x) (sym d)
+    ∙ ap (λ (x : ℕ). mark_at b x c) (sym e) ∙ free) in
     let taken_before : (p c : ℕ) → mark_at a p c ≡ marks.Free → p ≡ page → c ≡ number → ⊥ =
     λ p c free e d. before (ap (λ (x : ℕ). mark_at a page x) (sym d) ∙ ap (λ (x : ℕ). mark_at a x c) (sym e) ∙ free) in
     KeepsCells-alike a b (record {

@@ -14,8 +14,10 @@ use Rattle.mm_cells.specs.Kept.{class_size, cells_in, taken_as, cells_of, KeepsC
 use Rattle.mm_cells.specs.Spans.{use_in_whole, SetsUses, AreUnused}
 use Rattle.mm_cells.proofs.Sizes.ClassSizes.{cells_in-most}
 use Rattle.mm_cells.proofs.Tables.Blocks.{AgreesOff, AgreesOff-mark, AgreesOff-free, AgreesOff-use, AgreesOff-room}
-use Rattle.mm_cells.proofs.Tables.Blocks.{AgreesOff-uses, AgreesOff-trans, AgreesOff-first, use_at-same, mark_at-same, room_at-same}
-use Rattle.mm_cells.proofs.Tables.KeptBlocks.{KeepsCells-block, IsClosed-class, IsClosed-unused, KeepsPages-class, KeepsPages-whole}
+use Rattle.mm_cells.proofs.Tables.Blocks.{AgreesOff-uses, AgreesOff-trans, AgreesOff-first, use_at-same, mark_at-same}
+use Rattle.mm_cells.proofs.Tables.Blocks.{room_at-same}
+use Rattle.mm_cells.proofs.Tables.KeptBlocks.{KeepsCells-block, IsClosed-class, IsClosed-unused, KeepsPages-class}
+use Rattle.mm_cells.proofs.Tables.KeptBlocks.{KeepsPages-whole}
 use Rattle.mm_cells.proofs.Tables.KeptBlocks.{no_room-other, only_page}
 use Rattle.mm_cells.proofs.Tables.Marked.{KeepsCells-classes, cells_of-marked}
 use Rattle.mm_cells.proofs.Tables.TakenBlocks.{cells_of-fresh, cells_of-whole}
@@ -44,7 +46,8 @@ cells_of-room a b class page has_room s =
     ap cells_of (map-same a b s.same.location s.same.pages s.uses s.marks)
 
 -- the mark of a cell of a page changes and some cell of it is taken
-pub KeepsCells-cell : (a b c : Map) (page class number : ℕ) (mark : Mark) (has_room : Bool) → KeepsCells a → class < 19 →
+pub KeepsCells-cell : (a b c : Map) (page class number : ℕ) (mark : Mark) (has_room : Bool) → KeepsCells a → class < 19
+    →
     use_at a page ≡ Class class → page < a.pages → 0 < page → SetsMark a b page number mark →
     HasTaken b page class → SetsRoom b c class page has_room →
     ((has_room ≡ true) ↔ HasFree b page class) → KeepsCells c
@@ -77,7 +80,8 @@ KeepsCells-cell a b c page class number mark has_room kept known used within off
     ∙ room_at-same a b other page marked.same.pages marked.rooms
     ∙ no_room-other a other page kept low within (λ is. apart (cc))))
 
-pub cells_of-cell : (a b c : Map) (page class number base : ℕ) (mark : Mark) (has_room : Bool) → KeepsCells a → class < 19 →
+pub cells_of-cell : (a b c : Map) (page class number base : ℕ) (mark : Mark) (has_room : Bool) → KeepsCells a
+    → class < 19 →
     use_at a page ≡ Class class → page < a.pages → number < cells_in class →
     base ≡ 4096 * page + number * class_size class → SetsMark a b page number mark →
     SetsRoom b c class page has_room → cells_of c ≡ with_cell (cells_of a) base (taken_as (class_size class) mark)
@@ -115,7 +119,8 @@ FillsPage-steps a b c d e page class mark within freed used marked room = record
       ∙ room_at-same a b other page freed.same.pages freed.rooms;
 }
 
-pub KeepsCells-fresh : (a b : Map) (page class : ℕ) (mark : Mark) → KeepsCells a → class < 19 → 0 < page → page < a.pages →
+pub KeepsCells-fresh : (a b : Map) (page class : ℕ) (mark : Mark) → KeepsCells a → class < 19 → 0 < page
+    → page < a.pages →
     use_at a page ≡ Unused → mark ≢ marks.Free → FillsPage a b page class mark → KeepsCells b
 KeepsCells-fresh a b page class mark kept known off_zero within unused taken f =
     let few : 2 ≤ cells_in class = cells_in-least class known in
@@ -135,7 +140,8 @@ pub cells_of-fresh_page : (a b : Map) (page class : ℕ) (mark : Mark) → Keeps
 cells_of-fresh_page a b page class mark kept known within unused f =
     let few : 2 ≤ cells_in class = cells_in-least class known in
     let most : cells_in class ≤ 256 = cells_in-most class known in
-    cells_of-fresh a b page class mark (KeepsCells-classes a kept) f.agrees within known (omega arith) unused f.used f.marked
+    cells_of-fresh a b page class mark (KeepsCells-classes a kept) f.agrees within known (omega arith) unused f.used
+    f.marked
     (λ cell low apart. f.free cell (omega arith) apart)
 
 -- some unused pages become those of one cell
@@ -165,6 +171,7 @@ pub cells_of-pages : (a b c : Map) (first count : ℕ) (mark : Mark) → KeepsCe
     SetsUses a b first count (use_in_whole count) → SetsMark b c first 0 mark →
     cells_of c ≡ with_run (with_cell (cells_of a) (4096 * first) (taken_as (4096 * count) mark)) first count
 cells_of-pages a b c first count mark kept some within unused used marked =
-    cells_of-whole a c first count mark (KeepsCells-classes a kept) (AgreesOff-pages a b c first count mark some used marked)
+    cells_of-whole a c first count mark (KeepsCells-classes a kept)
+    (AgreesOff-pages a b c first count mark some used marked)
     within some unused (λ distance low. use_at-same b c (first + distance) marked.uses ∙ used.here distance low)
     marked.here

@@ -7,7 +7,8 @@ use Rattle.std.proofs.lemmas.List.{drop-drop}
 use Rattle.mm_words.specs.Piece.{Piece, with_words}
 use Rattle.mm_words.specs.Writes.{written}
 use Rattle.mm_sets.specs.Set.{set_size, members, IsSet, IsEmpty, IsLowest}
-use Rattle.mm_words.proofs.Writes.{length-written, take-written, drop-written, drop-written_behind, range-written_before}
+use Rattle.mm_words.proofs.Writes.{length-written, take-written, drop-written, drop-written_behind}
+use Rattle.mm_words.proofs.Writes.{range-written_before}
 use Rattle.mm_pages.proofs.Tables.{length-part}
 use Rattle.mm_cells.specs.Map.{Map, map_of, room_set, FitsTable, SetsRoom, NoPageWithRoom, IsLowestRoom}
 
@@ -99,7 +100,8 @@ range-others : (p : Piece) (pages class other : ℕ) (ws : List ℕ) →
 range-others p pages class other ws fits sized apart = elim (cases_lt other class) [
   | inl before ↦
       let less = before_later other class (set_size pages) before in
-      range-written_before (set_start pages class) ws p.words fits (set_size pages) (set_start pages other) (omega arith)
+      range-written_before (set_start pages class) ws p.words fits (set_size pages) (set_start pages other)
+      (omega arith)
   | inr later ↦
       let more = before_later class other (set_size pages) (omega arith) in
       ap (λ (x : List ℕ). take (set_size pages) x)

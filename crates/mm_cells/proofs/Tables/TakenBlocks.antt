@@ -186,7 +186,8 @@ cells_of-cleared a b first count known agrees within some before now =
     (runs-changed a b first 0 agrees.same.pages (omega arith)
     (λ other below apart. elim (outside_or_inside first count other) [
       | inl outside ↦ ap run_of (agrees.uses other outside)
-      | inr inside ↦ ap run_of (now other inside.from inside.to) ∙ sym (whole-run a first count other before inside apart)
+      | inr inside ↦ ap run_of (now other inside.from inside.to)
+          ∙ sym (whole-run a first count other before inside apart)
     ]) (ap run_of (now first (omega arith) (omega arith)))) (record {
       same = agrees.same;
       within = omega arith;

@@ -12,7 +12,8 @@ use Rattle.mm_cells.specs.Cells.{fresh}
 use Rattle.mm_cells.specs.Kept.{taken_in, taken_at, run_of, cells_of, KeepsCells}
 use Rattle.mm_cells.proofs.Tables.Changed.{cells-same}
 
-pub KeepsCells-untouched : (location : Location) (pages : ℕ) (m : Map) → 2 ≤ pages → pages ≤ 4096 → IsUntouched location pages m →
+pub KeepsCells-untouched : (location : Location) (pages : ℕ) (m : Map) → 2 ≤ pages → pages ≤ 4096
+    → IsUntouched location pages m →
     KeepsCells m
 KeepsCells-untouched location pages m two most none = record {
   two = omega (arith, none.same_pages);

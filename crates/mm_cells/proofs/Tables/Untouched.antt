@@ -97,7 +97,8 @@ pub IsUntouched-filled : (p : Piece) (pages : ℕ) → table_size pages ≤ leng
 IsUntouched-filled p pages room =
     let zeroed = IsZeroed-filled pages p.words room in
     record {
-      same_location = ap (λ n. record { arena = p.arena; start = p.place; size = n }) (length-filled pages p.words room);
+      same_location = ap (λ n. record { arena = p.arena; start = p.place; size = n })
+          (length-filled pages p.words room);
       same_pages = refl;
       unused = λ page.
           ap (λ (s : List ℕ). use_of (get_or s page 0)) zeroed.uses ∙ ap use_of (get_or-zeros pages page);

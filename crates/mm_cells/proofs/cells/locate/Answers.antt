@@ -43,14 +43,16 @@ returns-in-First c =
     let whole = c.requires.wholes (c.args.word / 4096) c.in-First.count (sym c.in-First.ensures) in
     IsLocated-same c.args.table.now c.args.word (c.args.word / 4096) c.whole_cell.result.index.page 0
     c.whole_cell.result.index.number c.whole_cell.result.cell.base (4096 * c.in-First.count)
-    c.whole_cell.result.cell.extent c.whole_cell.ensures.index.0 c.whole_cell.ensures.index.1 c.whole_cell.ensures.extent
+    c.whole_cell.result.cell.extent c.whole_cell.ensures.index.0 c.whole_cell.ensures.index.1
+    c.whole_cell.ensures.extent
     (whole-has c.args.table.now c.args.word (c.args.word / 4096) c.in-First.count c.whole_cell.result.cell.base
     c.requires (sym c.in-First.ensures) c.whole_cell.ensures.base (omega arith) (omega (arith, whole.some)))
 
 pub returns-in-Later : goal.returns-in-Later
 returns-in-Later c =
     let later = c.requires.laters (c.args.word / 4096) c.in-Later.distance (sym c.in-Later.ensures) in
-    IsLocated-same c.args.table.now c.args.word (c.args.word / 4096 - c.in-Later.distance) c.cell_from.result.index.page 0
+    IsLocated-same c.args.table.now c.args.word (c.args.word / 4096 - c.in-Later.distance) c.cell_from.result.index.page
+    0
     c.cell_from.result.index.number c.cell_from.result.cell.base (4096 * later.count) c.cell_from.result.cell.extent
     c.cell_from.ensures.index.0 c.cell_from.ensures.index.1 (c.cell_from.ensures.extent later.count later.first)
     (whole-has c.args.table.now c.args.word (c.args.word / 4096 - c.in-Later.distance) later.count

@@ -12,7 +12,8 @@ pub returns-in-Class : goal.returns-in-Class
 returns-in-Class c =
     let offset : c.saturating_sub.result ≡ c.args.from - 4096 * c.args.page = omega (arith, c.saturating_sub.ensures) in
     MatchOption-map c.lowest_small.result _ _ _ _
-    (λ none. NoneInPage-class c.args.table.now c.args.page c.in-Class.class c.args.sought c.args.from c.saturating_sub.result
+    (λ none. NoneInPage-class c.args.table.now c.args.page c.in-Class.class c.args.sought c.args.from
+    c.saturating_sub.result
     c.requires.kept (sym c.in-Class.ensures) offset none)
     (λ base found. IsLowestInPage-class c.args.table.now c.args.page c.in-Class.class c.args.sought c.args.from
     c.saturating_sub.result base c.requires.kept c.requires.page (sym c.in-Class.ensures) offset found)

@@ -11,7 +11,8 @@ pub returns-in_err-number : goal.returns-in_err-number
 returns-in_err-number c = rw c.from_residual.ensures (λ cell within reached is.
     let above = div_ceil-below c.args.offset c.extent_of-size.result cell c.extent_of-size.ensures.some
     (rw c.extent_of-size.ensures.value reached) in
-    c.in_err-number.ensures cell (omega (arith, c.div_ceil.ensures, above)) (omega (arith, c.cells_per_page.ensures)) is)
+    c.in_err-number.ensures cell (omega (arith, c.div_ceil.ensures, above)) (omega (arith, c.cells_per_page.ensures))
+    is)
 
 pub returns : goal.returns
 returns c =

@@ -10,15 +10,18 @@ returns-in-Taken c = rw c.in-Taken.is (IsMaskOf-taken c.args.word (omega arith))
 
 pub returns-in-Of-White : goal.returns-in-Of-White
 returns-in-Of-White c =
-    let same : c.args.sought ≡ sought.Of White = c.in-Of-White.is ∙ ap sought.Of (rw c.in-Of-White.is at c.in-Of-White.field-0-is) in
+    let same : c.args.sought ≡ sought.Of White = c.in-Of-White.is
+    ∙ ap sought.Of (rw c.in-Of-White.is at c.in-Of-White.field-0-is) in
     rw same (IsMaskOf-white c.args.word (omega arith))
 
 pub returns-in-Of-Gray : goal.returns-in-Of-Gray
 returns-in-Of-Gray c =
-    let same : c.args.sought ≡ sought.Of Gray = c.in-Of-Gray.is ∙ ap sought.Of (rw c.in-Of-Gray.is at c.in-Of-Gray.field-0-is) in
+    let same : c.args.sought ≡ sought.Of Gray = c.in-Of-Gray.is
+    ∙ ap sought.Of (rw c.in-Of-Gray.is at c.in-Of-Gray.field-0-is) in
     rw same (IsMaskOf-gray c.args.word (omega arith))
 
 pub returns-in-Of-Black : goal.returns-in-Of-Black
 returns-in-Of-Black c =
-    let same : c.args.sought ≡ sought.Of Black = c.in-Of-Black.is ∙ ap sought.Of (rw c.in-Of-Black.is at c.in-Of-Black.field-0-is) in
+    let same : c.args.sought ≡ sought.Of Black = c.in-Of-Black.is
+    ∙ ap sought.Of (rw c.in-Of-Black.is at c.in-Of-Black.field-0-is) in
     rw same (IsMaskOf-black c.args.word (omega arith))

@@ -7,7 +7,8 @@ use Rattle.mm_cells.specs.Kept.{class_size, cells_in}
 use Rattle.mm_cells.proofs.Sizes.ClassSizes.{cells_in-most}
 use Rattle.mm_cells.proofs.Tables.Blocks.{use_at-same}
 use Rattle.mm_cells.proofs.Tables.Placed.{cells_of-cell}
-use Rattle.mm_cells.proofs.Region.Released.{IsNumberOf, IsTaken-number, class-within, KeepsCells-stays, KeepsCells-goes, cells_of-goes, use_at-goes}
+use Rattle.mm_cells.proofs.Region.Released.{IsNumberOf, IsTaken-number, class-within, KeepsCells-stays, KeepsCells-goes}
+use Rattle.mm_cells.proofs.Region.Released.{cells_of-goes, use_at-goes}
 use Rattle.mm_cells.proofs.Region.PageCells.{class-IsPageOf, unused-none_begins}
 use Rattle.mm_cells.proofs.taking.release_cell.Goals as goal
 
@@ -65,7 +66,8 @@ returns-in-Some-clause-kept c =
     subst (λ (n : ℕ). SetsMark a b c.args.page (c.args.offset / n) marks.Free) c.extent_of.ensures.value
     c.set_mark.ensures in
     let taken : IsLowestSought sought.Taken (mark_at b c.args.page) 0 (cells_in c.args.class) c.in-Some.field-0 =
-    subst (λ (n : ℕ). IsLowestSought sought.Taken (mark_at b c.args.page) 0 n c.in-Some.field-0) c.cells_per_page.ensures
+    subst (λ (n : ℕ). IsLowestSought sought.Taken (mark_at b c.args.page) 0 n c.in-Some.field-0)
+    c.cells_per_page.ensures
     c.in-Some.ensures in
     KeepsCells-stays a b c.set_room.new.self c.args.page c.args.class (c.args.offset / class_size c.args.class)
     c.in-Some.field-0 c.requires.kept c.requires.used number.within marked taken c.set_room.ensures

@@ -15,7 +15,8 @@ returns-clause-taken c =
     c.set_room.ensures in
     cells_of-fresh_page a c.set_room.new.self c.args.page c.args.class c.new_mark.result c.requires.kept
     c.requires.class c.requires.within c.requires.unused fills
-    ∙ ap (λ (mark : Mark). with_run (with_cell (cells_of a) (4096 * c.args.page) (taken_as (class_size c.args.class) mark))
+    ∙ ap (λ (mark : Mark). with_run
+    (with_cell (cells_of a) (4096 * c.args.page) (taken_as (class_size c.args.class) mark))
     c.args.page 1)
     c.new_mark.ensures
 

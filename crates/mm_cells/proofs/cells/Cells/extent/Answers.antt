@@ -32,7 +32,8 @@ pub returns-in-Class-clause-extent : goal.returns-in-Class-clause-extent
 returns-in-Class-clause-extent c = λ cell begins.
     c.extent_of.ensures.value
     ∙ sym (Begins-class_extent c.self.inside.table c.args.base c.in-Class.class cell c.self.invariant
-    (sym c.use_at.ensures ∙ c.in-Class.is) (subst (λ (v : Cells). Begins v c.args.base cell) (sym c.self.view_is) begins))
+    (sym c.use_at.ensures ∙ c.in-Class.is)
+    (subst (λ (v : Cells). Begins v c.args.base cell) (sym c.self.view_is) begins))
 
 pub returns-in-Class-clause-sound : goal.returns-in-Class-clause-sound
 returns-in-Class-clause-sound c =
@@ -41,7 +42,8 @@ returns-in-Class-clause-sound c =
 pub returns-in-First-clause-extent : goal.returns-in-First-clause-extent
 returns-in-First-clause-extent c = λ cell begins.
     let extent = Begins-first_extent c.self.inside.table c.args.base c.in-First.count cell c.self.invariant
-    (sym c.use_at.ensures ∙ c.in-First.is) (subst (λ (v : Cells). Begins v c.args.base cell) (sym c.self.view_is) begins) in
+    (sym c.use_at.ensures ∙ c.in-First.is)
+    (subst (λ (v : Cells). Begins v c.args.base cell) (sym c.self.view_is) begins) in
     omega arith
 
 pub returns-in-First-clause-sound : goal.returns-in-First-clause-sound

@@ -12,12 +12,15 @@ object_mark_at-told-requires-clause-number g c = c.in-Some.ensures.index.number_
 
 pub object_mark_at-told-requires-clause-taken : goal.object_mark_at-told-requires-clause-taken
 object_mark_at-told-requires-clause-taken g c =
-    seat-taken c.self.inside.table c.in-Some.located.index.page c.in-Some.located.index.number c.in-Some.located.cell.base c.in-Some.ensures.index
+    seat-taken c.self.inside.table c.in-Some.located.index.page c.in-Some.located.index.number
+    c.in-Some.located.cell.base c.in-Some.ensures.index
 
 pub returns-in-Some-clause-cell : goal.returns-in-Some-clause-cell
 returns-in-Some-clause-cell g c =
-    rw (← c.self.view_is) (Covers-marked c.self.inside.table c.args.word c.in-Some.located.index.page c.in-Some.located.index.number
-    c.in-Some.located.cell.base c.in-Some.located.cell.extent c.object_mark_at-told.result.colour c.object_mark_at-told.result.flags
+    rw (← c.self.view_is)
+    (Covers-marked c.self.inside.table c.args.word c.in-Some.located.index.page c.in-Some.located.index.number
+    c.in-Some.located.cell.base c.in-Some.located.cell.extent c.object_mark_at-told.result.colour
+    c.object_mark_at-told.result.flags
     c.in-Some.ensures c.object_mark_at-told.ensures.mark)
 
 pub returns-in-Some-clause-sound : goal.returns-in-Some-clause-sound

@@ -15,21 +15,26 @@ loop-page-init g c = record {
 }
 
 pub returns-in-Some-clause-base : goal.returns-in-Some-clause-base
-returns-in-Some-clause-base g c = IsNextOf-lowest c.args.self.now c.loop-page.page c.args.colour c.args.from c.in-Some.base
+returns-in-Some-clause-base g c = IsNextOf-lowest c.args.self.now c.loop-page.page c.args.colour c.args.from
+    c.in-Some.base
     c.loop-page.invariant.passed
-    (subst (λ (v : Cells). IsLowestInPage v c.loop-page.page (sought.Of c.args.colour) c.args.from c.in-Some.base) c.self.view_is
+    (subst (λ (v : Cells). IsLowestInPage v c.loop-page.page (sought.Of c.args.colour) c.args.from c.in-Some.base)
+    c.self.view_is
     c.in-Some.ensures)
 
 pub loop-page-preserved : goal.loop-page-preserved
 loop-page-preserved g c = record {
-  passed = NoneBefore-more c.args.self.now c.loop-page.page (sought.Of c.args.colour) c.args.from c.loop-page.invariant.passed
-      (subst (λ (v : Cells). NoneInPage v c.loop-page.page (sought.Of c.args.colour) c.args.from) c.self.view_is c.in_default.ensures);
+  passed = NoneBefore-more c.args.self.now c.loop-page.page (sought.Of c.args.colour) c.args.from
+      c.loop-page.invariant.passed
+      (subst (λ (v : Cells). NoneInPage v c.loop-page.page (sought.Of c.args.colour) c.args.from) c.self.view_is
+      c.in_default.ensures);
   ticked = omega (arith, c.tick.ensures, c.loop-page.invariant.ticked, c.loop-page.auto.page);
   few = omega (arith, ap (λ (v : Cells). v.pages) c.self.view_is, c.pages-page-end.ensures.value);
 }
 
 pub returns-clause-base : goal.returns-clause-base
-returns-clause-base g c = rw (← c.self.view_is) (NoneOfFrom-before c.self.inside.table c.loop-page.page c.args.colour c.args.from
+returns-clause-base g c = rw (← c.self.view_is)
+    (NoneOfFrom-before c.self.inside.table c.loop-page.page c.args.colour c.args.from
     c.self.invariant (omega (arith, c.pages-page-end.ensures.value))
     (subst (λ (v : Cells). NoneBefore v c.loop-page.page (sought.Of c.args.colour) c.args.from) (sym c.self.view_is)
     c.loop-page.invariant.passed))

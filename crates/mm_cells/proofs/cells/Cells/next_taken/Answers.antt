@@ -23,7 +23,8 @@ returns-in-Some-clause-base g c = IsNextTaken-lowest c.args.self.now c.loop-page
 pub loop-page-preserved : goal.loop-page-preserved
 loop-page-preserved g c = record {
   passed = NoneBefore-more c.args.self.now c.loop-page.page sought.Taken c.args.from c.loop-page.invariant.passed
-      (subst (λ (v : Cells). NoneInPage v c.loop-page.page sought.Taken c.args.from) c.self.view_is c.in_default.ensures);
+      (subst (λ (v : Cells). NoneInPage v c.loop-page.page sought.Taken c.args.from) c.self.view_is
+      c.in_default.ensures);
   ticked = omega (arith, c.tick.ensures, c.loop-page.invariant.ticked, c.loop-page.auto.page);
   few = omega (arith, ap (λ (v : Cells). v.pages) c.self.view_is, c.pages-page-end.ensures.value);
 }

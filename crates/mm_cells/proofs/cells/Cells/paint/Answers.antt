@@ -9,7 +9,8 @@ invariant_of-self c = KeepsCells-told c.self.inside.table c.set_mark.new.self c.
 
 pub returns-clause-colour : goal.returns-clause-colour
 returns-clause-colour c = rw (← c.self.view_is) (λ cell begins.
-    cells_of-coloured c.self.inside.table c.set_mark.new.self c.mark_index_of-index.result.page c.mark_index_of-index.result.number
+    cells_of-coloured c.self.inside.table c.set_mark.new.self c.mark_index_of-index.result.page
+    c.mark_index_of-index.result.number
     c.args.base c.object_mark_at-told.result.colour c.args.colour c.object_mark_at-told.result.flags c.self.invariant
     c.mark_index_of-index.ensures c.object_mark_at-told.ensures.mark c.set_mark.ensures cell begins)
 

@@ -8,7 +8,8 @@ use Rattle.mm_cells.specs.Cells.{Cells, newly_taken, with_cell, with_run, IsSoun
 use Rattle.mm_cells.specs.Kept.{class_size, cells_of}
 use Rattle.mm_cells.specs.Placing.{IsFreeCell}
 use Rattle.mm_cells.proofs.Region.PageCells.{IsLowestRoom-class, IsNowhere-none}
-use Rattle.mm_cells.proofs.Region.Parking.{with_run-there, with_parked-there, run-seen, run-parked, runs-seen, seen-unused}
+use Rattle.mm_cells.proofs.Region.Parking.{with_run-there, with_parked-there, run-seen, run-parked, runs-seen}
+use Rattle.mm_cells.proofs.Region.Parking.{seen-unused}
 use Rattle.mm_cells.proofs.Region.Parking.{IsLowest-run, IsNowhere-run}
 use Rattle.mm_cells.proofs.Region.Places.{IsOpen, seen-sound, open-cell, open-page, begins-placed, was-free}
 use Rattle.mm_cells.proofs.Region.Places.{parked-below, AreAllParked-taken}
@@ -54,7 +55,8 @@ returns-in-Some-clause-taken g c =
     let there = run-seen c.self.inside.table c.args.self.now c.in-Some.page (Class c.args.class) c.self.view_is
     c.in-Some.ensures.within c.take_cell.ensures.used in
     c.take_cell.ensures.taken ∙ ap (λ (v : Cells). with_cell v base (Some cell)) c.self.view_is
-    ∙ sym (with_run-there now (base / 4096) 1 (omega arith) (ap (λ (p : ℕ). slice_index now.runs p) c.take_cell.ensures.here ∙ there))
+    ∙ sym (with_run-there now (base / 4096) 1 (omega arith)
+    (ap (λ (p : ℕ). slice_index now.runs p) c.take_cell.ensures.here ∙ there))
 
 pub returns-in-Some-clause-begins : goal.returns-in-Some-clause-begins
 returns-in-Some-clause-begins g c =

@@ -6,7 +6,8 @@ use Rattle.mm_cells.specs.Map.{use_at}
 use Rattle.mm_cells.specs.Cells.{Cells, with_cell, with_run, IsTaken}
 use Rattle.mm_cells.specs.Kept.{cells_of}
 use Rattle.mm_cells.specs.Placing.{Page_stays}
-use Rattle.mm_cells.proofs.Region.Parking.{run-parked, gone-seen, gone-seen_run, own-runs, LeavesPage-goes, AreParked-goes}
+use Rattle.mm_cells.proofs.Region.Parking.{run-parked, gone-seen, gone-seen_run, own-runs, LeavesPage-goes}
+use Rattle.mm_cells.proofs.Region.Parking.{AreParked-goes}
 use Rattle.mm_cells.proofs.Region.Places.{run-taken, parked-below, AreAllParked-left}
 use Rattle.mm_cells.proofs.Region.Released.{IsTaken-within, IsTaken-used, IsTaken-first}
 use Rattle.mm_cells.proofs.Region.Soundness.{IsSoundCells-kept}
@@ -153,7 +154,8 @@ returns-in-First-clause-parked g c =
 
 pub returns-in-First-clause-all_parked : goal.returns-in-First-clause-all_parked
 returns-in-First-clause-all_parked g c = λ others all.
-    AreAllParked-left c.args.self.now (cells_of c.release_pages.new.table) others c.args.pages.now c.free_parked-in-First.new.self
+    AreAllParked-left c.args.self.now (cells_of c.release_pages.new.table) others c.args.pages.now
+    c.free_parked-in-First.new.self
     (c.args.base / 4096) (returns-in-First-clause-page g c) c.requires.parked
     (run-taken c.self.inside.table c.args.self.now c.args.base c.self.view_is c.self.invariant c.requires.taken) all
 

@@ -9,7 +9,8 @@ invariant_of-self g c = KeepsCells-told c.self.inside.table c.set_mark.new.self 
 
 pub returns-clause-flags : goal.returns-clause-flags
 returns-clause-flags g c = rw (← c.self.view_is) (λ cell begins.
-    cells_of-flagged c.self.inside.table c.set_mark.new.self c.mark_index_of-index.result.page c.mark_index_of-index.result.number
+    cells_of-flagged c.self.inside.table c.set_mark.new.self c.mark_index_of-index.result.page
+    c.mark_index_of-index.result.number
     c.args.base c.object_mark_at-told.result.colour c.object_mark_at-told.result.flags c.args.flags c.self.invariant
     c.mark_index_of-index.ensures c.object_mark_at-told.ensures.mark c.set_mark.ensures cell begins)
 

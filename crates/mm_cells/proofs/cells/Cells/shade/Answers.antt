@@ -12,7 +12,8 @@ use Rattle.mm_cells.proofs.cells.Cells.shade.Goals as goal
 
 pub shade_at-requires-clause-taken : goal.shade_at-requires-clause-taken
 shade_at-requires-clause-taken g c =
-    seat-taken c.self.inside.table c.in-Some.located.index.page c.in-Some.located.index.number c.in-Some.located.cell.base c.in-Some.ensures.index
+    seat-taken c.self.inside.table c.in-Some.located.index.page c.in-Some.located.index.number
+    c.in-Some.located.cell.base c.in-Some.ensures.index
 
 pub invariant_of-self : goal.invariant_of-self
 invariant_of-self g c = elim (cases_Bool c.shade_at.result) [

@@ -9,7 +9,8 @@ use Rattle.mm_cells.proofs.Tables.Whitened.{KeepsCells-whitened, Whitens-whitene
 use Rattle.mm_cells.proofs.cells.Cells.whiten_page.Goals as goal
 
 pub words_of_marks-words-requires : goal.words_of_marks-words-requires
-words_of_marks-words-requires c = λ class used. (c.self.invariant.classes c.args.page class (sym c.use_at.ensures ∙ used)).0
+words_of_marks-words-requires c = λ class used.
+    (c.self.invariant.classes c.args.page class (sym c.use_at.ensures ∙ used)).0
 
 pub invariant_of-self : goal.invariant_of-self
 invariant_of-self c =
@@ -18,10 +19,12 @@ invariant_of-self c =
 
 pub returns-clause-white : goal.returns-clause-white
 returns-clause-white c =
-    subst (λ (v : Cells). Whitens v (cells_of c.whiten.new.self) (4096 * c.args.page) (4096 * c.args.page + 4096)) c.self.view_is
+    subst (λ (v : Cells). Whitens v (cells_of c.whiten.new.self) (4096 * c.args.page) (4096 * c.args.page + 4096))
+    c.self.view_is
     (Whitens-whitened c.self.inside.table c.whiten.new.self c.args.page c.words_of_marks-words.result c.self.invariant
     (omega (arith, c.requires, ap (λ (v : Cells). v.pages) c.self.view_is))
-    (subst (λ (u : PageUse). HaveMarks u c.words_of_marks-words.result) c.use_at.ensures c.words_of_marks-words.ensures.all)
+    (subst (λ (u : PageUse). HaveMarks u c.words_of_marks-words.result) c.use_at.ensures
+    c.words_of_marks-words.ensures.all)
     c.whiten.ensures)
 
 pub returns-clause-sound : goal.returns-clause-sound

@@ -5,4 +5,5 @@ use Rattle.mm_cells.proofs.tests.cells.Trial.open.Goals as goal
 
 pub invariant_of-result-clause-parked : goal.invariant_of-result-clause-parked
 invariant_of-result-clause-parked c =
-    let pages = ap (λ (h : Pages). h.pages) c.make-2.ensures.value in c.make-3.ensures.parked c.make-2.result (omega (arith, pages))
+    let pages = ap (λ (h : Pages). h.pages) c.make-2.ensures.value in c.make-3.ensures.parked c.make-2.result
+    (omega (arith, pages))
