@@ -1,6 +1,5 @@
 // Reaps of a chain of counted objects, at places worked out by hand.
 ghost use Rattle.std.specs.Prelude.{◌≡◌, ◌+◌, ◌-◌, ◌*◌, ◌≤◌, ◌<◌, ℕ, IfOk, length, true, slice_index};
-ghost use Rattle.mm_model.specs.Object.{is_counted, is_scanned};
 ghost use Rattle.mm_model.specs.ByBase.{Begins};
 ghost use Rattle.mm_object.specs.Object.{StoredObject};
 ghost use Rattle.mm_object.specs.Heap.{FitsHeap};
@@ -24,30 +23,12 @@ use std::process::Abort;
 use std::sync::ledger::{Blank, Ledger};
 use std::test::Fail;
 
-fn is_counted(kind: Kind) -> bool
-    ensures { result ≡ is_counted kind }
-{
-    match kind {
-        Kind::Counted => true,
-        Kind::Traced | Kind::Leaf | Kind::Weak => false,
-    }
-}
-
-fn is_scanned(kind: Kind) -> bool
-    ensures { result ≡ is_scanned kind }
-{
-    match kind {
-        Kind::Traced | Kind::Counted => true,
-        Kind::Leaf | Kind::Weak => false,
-    }
-}
-
 // Whether a counted object begins there.
 fn begins_counted<L: Ledger>(heap: &Heap, base: u32, steps: &mut Steps<L>) -> bool
     ensures { result ≡ true → IsCountedAt heap.now.objects base }
 {
     match heap.look_up(base, steps) {
-        Some(found) => found.base == base && is_counted(found.shape.kind),
+        Some(found) => found.base == base && found.shape.kind.is_counted(),
         None => false,
     }
 }
@@ -59,7 +40,7 @@ fn has_counted_slot<L: Ledger>(heap: &Heap, base: u32, s: u32, steps: &mut Steps
     match heap.look_up(base, steps) {
         Some(found) => {
             found.base == base
-                && is_scanned(found.shape.kind)
+                && found.shape.kind.is_scanned()
                 && s < found.shape.counted
                 && s < found.shape.slots
         }
