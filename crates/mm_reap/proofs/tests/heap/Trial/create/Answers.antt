@@ -28,7 +28,8 @@ use Rattle.mm_count.specs.Counts.{counts_of, IsCountedBy, NamesCounted}
 use Rattle.mm_count.specs.Listed.{IsListedAtZero, AllListed, AllListedBut, NonePinned}
 use Rattle.mm_count.proofs.Born.{right-born}
 use Rattle.mm_count.proofs.Counted.{counts_of-begins}
-use Rattle.mm_count.proofs.Entries.{begins_get, begins_mapped, mapped_begins}
+use Rattle.mm_model.proofs.View.ReplacedEntries.{begins_get}
+use Rattle.mm_model.proofs.View.MappedEntries.{begins_mapped, mapped_begins}
 use Rattle.mm_count.proofs.References.{references_of, references-cleared}
 use Rattle.mm_count.proofs.Room.{begins_room}
 use Rattle.mm_count.proofs.Stored.{kept-counted}

@@ -14,7 +14,7 @@ use Rattle.mm_object.specs.Object.{StoredObject, StoredObjects, view_of_stored, 
 use Rattle.mm_object.specs.Heap.{Heap, FitsHeap}
 use Rattle.mm_count.specs.Table.{Table}
 use Rattle.mm_count.specs.Counts.{NamesCounted}
-use Rattle.mm_count.proofs.Entries.{begins_mapped, mapped_begins}
+use Rattle.mm_model.proofs.View.MappedEntries.{begins_mapped, mapped_begins}
 use Rattle.mm_reap.proofs.tests.heap.Trial.reap.Goals as goal
 
 or-left : (a b : Bool) → a ≡ true → (a || b) ≡ true

@@ -6,7 +6,8 @@ use Rattle.mm_model.specs.ByBase.{Begins, with_entry}
 use Rattle.mm_object.specs.Object.{StoredObject, StoredObjects}
 use Rattle.mm_object.specs.Heap.{Heap}
 use Rattle.mm_count.specs.Counts.{NamesCounted, with_word, written_at}
-use Rattle.mm_count.proofs.Entries.{entry_at-begins, begins_cases}
+use Rattle.mm_count.proofs.Entries.{entry_at-begins}
+use Rattle.mm_model.proofs.View.ReplacedEntries.{begins_cases}
 use Rattle.mm_count.proofs.Stored.{stored, stored-keeps, kept-counted}
 use Rattle.mm_reap.proofs.tests.heap.Trial.store.Goals as goal
 
