@@ -21,48 +21,6 @@ pub composite_at-counted : (objects : StoredObjects) (base : ℕ) (k : IsCounted
     → composite_at objects base ≡ composite_of k.object
 composite_at-counted objects base k = ap composite_told (entry_at-begins objects base k.object k.begins)
 
--- the table by what an object said before
-pub table-raised_sticky : (table : Table) (c : Composite) → c.sticky ≡ true → table ≡ table_raised table c
-table-raised_sticky table c e = ap (λ b. cond b table (table_left table c)) (sym e)
-
-pub table-raised_out : (table : Table) (c : Composite) → c.sticky ≡ false → c.listed ≡ false
-    → table ≡ table_raised table c
-table-raised_out table c e out =
-    ap (λ b. cond b (with_entries table (without_place table.entries c.place)) table) (sym out)
-    ∙ ap (λ b. cond b table (table_left table c)) (sym e)
-
-pub table-raised_in : (table : Table) (c : Composite) → c.sticky ≡ false → c.listed ≡ true
-    → with_entries table (without_place table.entries c.place) ≡ table_raised table c
-table-raised_in table c e listed =
-    ap (λ b. cond b (with_entries table (without_place table.entries c.place)) table) (sym listed)
-    ∙ ap (λ b. cond b table (table_left table c)) (sym e)
-
-pub table-lowered_sticky : (table : Table) (c : Composite) (base : ℕ) → c.sticky ≡ true
-    → table ≡ table_lowered table c base
-table-lowered_sticky table c base e =
-    ap (λ b. cond (not b && c.count == 1) (with_entries table (table.entries ++ base ∷ [])) table) (sym e)
-
-pub table-lowered_more : (table : Table) (c : Composite) (base : ℕ) → c.sticky ≡ false → c.count ≢ 1
-    → table ≡ table_lowered table c base
-table-lowered_more table c base e more =
-    ap (λ b. cond b (with_entries table (table.entries ++ base ∷ [])) table) (sym (refutes c.count 1 more))
-    ∙ ap (λ b. cond (not b && c.count == 1) (with_entries table (table.entries ++ base ∷ [])) table) (sym e)
-
-pub table-lowered_one : (table : Table) (c : Composite) (base : ℕ) → c.sticky ≡ false → c.count ≡ 1
-    → with_entries table (table.entries ++ base ∷ []) ≡ table_lowered table c base
-table-lowered_one table c base e one =
-    ap (λ b. cond b (with_entries table (table.entries ++ base ∷ [])) table) (sym (decides c.count 1 one))
-    ∙ ap (λ b. cond (not b && c.count == 1) (with_entries table (table.entries ++ base ∷ [])) table) (sym e)
-
-pub table-left_out : (table : Table) (c : Composite) → c.listed ≡ false → table ≡ table_left table c
-table-left_out table c out =
-    ap (λ b. cond b (with_entries table (without_place table.entries c.place)) table) (sym out)
-
-pub table-left_in : (table : Table) (c : Composite) → c.listed ≡ true
-    → with_entries table (without_place table.entries c.place) ≡ table_left table c
-table-left_in table c listed =
-    ap (λ b. cond b (with_entries table (without_place table.entries c.place)) table) (sym listed)
-
 module _ (h : Heap) (base : ℕ) (k : IsCountedAt h.objects base) (r : Composite) (says : r ≡ composite_of k.object) where
   pub composite-said : (table : Table) → IsRight table h → IsComposite r
   composite-said table right =

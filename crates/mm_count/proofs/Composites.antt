@@ -120,9 +120,5 @@ module _ (o : StoredObject) (c : Composite) (fits : FitsWord c) where
       never true p q = clash q
       never false p q = clash p
 
--- the composite of a counted object says what it must
-pub most-exact : (c : Composite) → IsComposite c → c.sticky ≡ false → c.count ≤ 254
-most-exact c is e = is.exact e
-
 pub fits-pin : (pinned : Bool) (c : Composite) → FitsWord c → FitsWord (with_pin pinned c)
 fits-pin pinned c fits = record { count = fits.count; place = fits.place }

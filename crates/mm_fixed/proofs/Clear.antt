@@ -60,9 +60,6 @@ place-clear v heap (Small class) base runs sound some (Of_second none second) pa
 place-clear v heap (Pages count) base runs sound some lowest parked clear =
     free-clear heap count base runs some lowest.is parked
 
-pub clear-sym : (own runs : List ℕ) → HaveNoCommonRun own runs → HaveNoCommonRun runs own
-clear-sym own runs clear page some = zero_unless (slice_index own page) (λ there. omega (arith, clear page there, some))
-
 -- where a run begins at one more page, and none of theirs does
 set-clear : (own : List ℕ) (page count : ℕ) (runs : List ℕ) → slice_index runs page ≡ 0 → HaveNoCommonRun own runs →
     HaveNoCommonRun (set own page count) runs

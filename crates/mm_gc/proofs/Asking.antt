@@ -89,11 +89,6 @@ weak-reply : (target : ℕ) (view : View) (place : Option ℕ)
 weak-reply target view None = refl
 weak-reply target view (Some base) = weak-not_area view base (object_at view.objects target)
 
-area-reply : (area : AreaWanted) (view : View) (place : Option ℕ)
-    → is_new_reply (effect_of (wanted.Area area) view place).reply ≡ false
-area-reply area view None = refl
-area-reply area view (Some base) = refl
-
 clash : {A : Type 0} → true ≡ false → A
 clash e = cc
 
@@ -109,12 +104,6 @@ module _ (old new : Gc) (before after : Kept) where
   weak-no_area target area s =
       clash (ap (λ (v : ViewEffect). is_area_reply v.reply) s.makes.effect_is
       ∙ weak-reply target s.makes.left s.makes.found)
-
-  pub area-not_object : (area : AreaWanted) (base : ℕ)
-      → Searches old new (wanted.Area area) (Some (made_variants.Object base)) before after → ⊥
-  area-not_object area base s =
-      clash (ap (λ (v : ViewEffect). is_new_reply v.reply) s.makes.effect_is
-      ∙ area-reply area s.makes.left s.makes.found)
 
   -- `new`, once a place was looked for
   pub create-tells : (shape : Shape) (result : Option Made) → is_bad_shape shape ≡ false

@@ -26,9 +26,6 @@ module _ (before after : Heap) (same : IsSameButColours before after) where
   alike : HaveOneOutline before.objects after.objects
   alike = white-alike before.objects after.objects white-same
 
-  pub coloured-rest : after ≡ record before { objects = after.objects }
-  coloured-rest = ap (λ (h : Heap). record h { objects = after.objects }) same
-
   pub coloured-counts : (table : Table) (outside : ℕ → ℕ) → HasCounts table before outside
       → HasCounts table after outside
   coloured-counts table outside counts =
@@ -53,19 +50,3 @@ shows-marking marker heap view gone shows cycle runs =
           ∙ ap (λ b. if b then Some (record { gone_before = gone; partly_scanned = marker.partly }) else None) runs;
       partly = refl;
     }
-
--- where none runs, marking has passed nothing
-pub barrier-idle : (marker : Marker) (view : View) (gone : ℕ) (base s word : ℕ) (object : ObjectView)
-    → view.cycle ≡ cycle_with gone marker → marker.running ≡ false
-    → view_barrier (record { base = base; value = object }) s word view ≡ view
-barrier-idle marker view gone base s word object cycle idle =
-    let none : view.cycle ≡ None = cycle
-    ∙ ap (λ b. if b then Some (record { gone_before = gone; partly_scanned = marker.partly }) else None) idle in
-    ap (λ (c : Option CycleView). if not (is_raw (slot_kind_of object s))
-    && view_is_passed c (record { base = base; value = object }) s then view_with_grayed
-    (word ∷ []) view else view) none
-    ∙ never (not (is_raw (slot_kind_of object s)))
-  where
-    never : (b : Bool) → (if b && false then view_with_grayed (word ∷ []) view else view) ≡ view
-    never true = refl
-    never false = refl

@@ -52,21 +52,6 @@ module _ (number : ℕ) (store : AreaStore) (parts : CellParts) (shows : ShowsCe
       ∙ areas-written number store parts shows
       (map (with_cell number store.cell store.word) (views_of_areas parts.areas parts.heap.raw)) refl
 
-  pub counted_refused : (store.word == 0 || begins_counted_in (views_of parts.heap.objects) store.word) ≡ false
-      → IsCellRefused store refusals.NotCounted
-  counted_refused loose =
-      record {
-        because_is = refl;
-        refused = ap (λ kind. view_refuses_word store.view kind store.word) kind
-            ∙ ap (λ (vs : ObjectsByBase). not (store.word == 0) && not (begins_counted_in vs store.word)) shows.objects
-            ∙ neither (store.word == 0) (begins_counted_in (views_of parts.heap.objects) store.word) loose;
-      }
-    where
-      neither : (a b : Bool) → (a || b) ≡ false → (not a && not b) ≡ true
-      neither true b e = cc
-      neither false true e = cc
-      neither false false e = refl
-
   -- what the cell held names a counted object, or is 0
   old-named : NamesCounted parts.heap.objects before
   old-named =

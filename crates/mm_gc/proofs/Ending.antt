@@ -87,18 +87,6 @@ entries-zero gc keeps =
     entries_are_zero_count gc.table gc.region.heap (outside_references (view_of_gc gc)) keeps.counts.right
     keeps.counts.listed keeps.counts.counted
 
-pub ends-refused : (gc : Gc) (refused : Bool) (kept : Kept) → refused ≡ true → Ends gc gc refused kept kept
-ends-refused gc refused kept e =
-    record {
-      log = [];
-      ends = subst (λ b. EndsUnless b [] (view_of_gc gc) (view_of_gc gc)) (sym e) (record {
-        no_lines = refl;
-        same =
-            refl;
-      });
-      written = writes-none kept.bytes kept.broken;
-    }
-
 pub ends-below : (gc : Gc) (refused : Bool) (kept : Kept) → refused ≡ false
     → view_zero_count (view_of_gc gc) < gc.threshold → Ends gc gc refused kept kept
 ends-below gc refused kept e below =

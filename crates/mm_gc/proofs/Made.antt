@@ -198,21 +198,6 @@ pub room-pushed : (gc : Gc) → KeepsGc gc → length gc.stack.words ≢ gc.sett
     → length gc.stack.words ≢ gc.stack.limit
 room-pushed gc keeps room = subst (λ limit. length gc.stack.words ≢ limit) (sym keeps.rooms.stack) room
 
--- where there was no place
-pub made-none : (gc : Gc) (keeps : KeepsGc gc) (r : Region) (same : IsSameRegion gc.region r) (settled : IsSettled r)
-    → r.heap.objects ≡ gc.region.heap.objects → areas_in r ≡ areas_in gc.region → (reach : Reach) (w : Wanted)
-    → place_in_reach reach (view_of_gc gc) w ≡ None
-    → IsMade (view_of_gc gc) w reach (view_of_gc (record gc { region = r })) None
-made-none gc keeps r same settled objects areas reach w none =
-    ap (effect_of w (view_of_gc gc)) none ∙ full w
-    ∙ ap (λ (v : View). record { view = v; reply = replies.Refused refusals.Full })
-    (sym (view-unmade gc keeps r same settled objects areas))
-  where
-    full : (w : Wanted) → effect_of w (view_of_gc gc) None ≡ view_full (view_of_gc gc)
-    full (wanted.Object shape) = refl
-    full (wanted.WeakOf target) = refl
-    full (wanted.Area area) = refl
-
 -- the same of a heap by another name
 pub made-of : (gc old : Gc) → gc ≡ old → (w : Wanted) (reach : Reach) (new : View) (result : Option Made)
     → IsMade (view_of_gc gc) w reach new result → IsMade (view_of_gc old) w reach new result

@@ -82,12 +82,6 @@ set-back [] k x y e = cc
 set-back (z ∷ xs) zero x y e = let same : z ≡ x = cc in ap (λ w. w ∷ xs) (sym same)
 set-back (z ∷ xs) (suc k) x y e = ap (λ ws. z ∷ ws) (set-back xs k x y e)
 
--- words that are 0
-all-zero : (count : ℕ) (n word : ℕ) → slice_get (replicate count 0) n ≡ Some word → word ≡ 0
-all-zero zero n word e = cc
-all-zero (suc count) zero word e = cc
-all-zero (suc count) (suc n) word e = all-zero count n word e
-
 take-zero : (k count : ℕ) (n word : ℕ) → slice_get (take k (replicate count 0)) n ≡ Some word → word ≡ 0
 take-zero zero count n word e = cc
 take-zero (suc k) zero n word e = cc

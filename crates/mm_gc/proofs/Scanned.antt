@@ -80,6 +80,3 @@ enough-reached k log base slots left below reaches =
 pub enough-drained : (k : ℕ) (log : List Line) (left : View) → sum (costs log) < k → NoGray left
     → ViewIsEnough k log left
 enough-drained k log left below none = ViewIsEnough.Nothing_left below none
-
-pub enough-nothing : (left : View) → ViewIsEnough 0 [] left
-enough-nothing left = ViewIsEnough.Nothing_asked refl refl

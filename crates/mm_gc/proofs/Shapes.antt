@@ -37,16 +37,3 @@ pub record IsFineArea (inside cells : ℕ) : Type 0 where
   pub counted : inside ≤ cells
   pub some : 1 ≤ cells
   pub most : cells ≤ most_slots
-
-pub area-fine : (counted cells : ℕ) → is_bad_area counted cells ≡ false → IsFineArea counted cells
-area-fine counted cells fine =
-    let b = neither (nat_lt cells counted || nat_lt most_slots cells) (cells == 0) fine in
-    let a = neither (nat_lt cells counted) (nat_lt most_slots cells) b.0 in
-    record {
-      counted = not_less cells counted a.0;
-      most = not_less most_slots cells a.1;
-      some = some cells b.1;
-    }
-  where
-    some : (n : ℕ) → (n == 0) ≡ false → 1 ≤ n
-    some n e = grind (arith, nat_tests)

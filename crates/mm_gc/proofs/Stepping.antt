@@ -79,21 +79,6 @@ scanning-drained old k cost now next before middle after s below n =
           (writes-on before middle after s.log [] s.written n.written);
     }
 
-pub scanning-reached : (old : View) (k cost : ℕ) (now : View) (before after : Kept)
-    → IsScanning old k cost now before after → k ≤ cost → ScansTo old k now before after
-scanning-reached old k cost now before after s reached =
-    record {
-      log = s.log;
-      scans = record { objects = s.objects; scanned = s.scanned; enough = ⊎_elim nothing whole s.last };
-      written = s.written;
-    }
-  where
-    nothing : s.log ≡ [] → ViewIsEnough k s.log now
-    nothing empty =
-        let so_far = s.costs_are in
-        let none : sum (costs s.log) ≡ 0 = ap (λ (log : List Line). sum (costs log)) empty in
-        ViewIsEnough.Nothing_asked (omega (arith, so_far, none, reached)) empty
-
     whole : sum (take (length s.log - 1) (costs s.log)) < k → ViewIsEnough k s.log now
     whole below =
         let so_far = s.costs_are in

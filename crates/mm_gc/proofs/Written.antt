@@ -47,12 +47,6 @@ use Rattle.mm_gc.specs.Stores.{Store, IsStored, IsNotCounted}
 use Rattle.mm_gc.proofs.Outlines.{framed, HaveOneOutline, alike-listed, alike-unpinned, alike-counted, alike-right}
 use Rattle.mm_gc.proofs.Outlines.{alike-links, keeps-links, linked-kept}
 
--- the kind of a slot, by what reading it answers
-pub slot_counted : (kind : SlotKind) (word found : ℕ) → slots.Count found ≡ slot_with kind word → kind ≡ CountedSlot
-slot_counted CountedSlot word found e = refl
-slot_counted WordSlot word found e = cc
-slot_counted RawSlot word found e = cc
-
 pub slot_word : (kind : SlotKind) (word found : ℕ) → slots.Word found ≡ slot_with kind word
     → is_counted_slot kind ≡ false
 slot_word CountedSlot word found e = cc
@@ -129,29 +123,6 @@ module _ (h : Heap) (base s : ℕ) (slot : HasCountedSlot h.objects base s) wher
       (sym (ap (λ (c : Composite). c.sticky) told) ∙ sticky) in
       let some = held in
       omega arith
-
--- the table's entries alone change
-same-left : (table : Table) (c : Composite) → IsSameTable table (table_left table c)
-same-left table c = split c.listed
-  where
-    split : (b : Bool) → IsSameTable table
-        (if b then with_entries table (without_place table.entries c.place) else table)
-    split true = refl
-    split false = refl
-
-pub same-raised : (table : Table) (c : Composite) → IsSameTable table (table_raised table c)
-same-raised table c = split c.sticky
-  where
-    split : (b : Bool) → IsSameTable table (if b then table else table_left table c)
-    split true = refl
-    split false = same-left table c
-
-pub same-lowered : (table : Table) (c : Composite) (base : ℕ) → IsSameTable table (table_lowered table c base)
-same-lowered table c base = split (not c.sticky && c.count == 1)
-  where
-    split : (b : Bool) → IsSameTable table (if b then with_entries table (table.entries ++ base ∷ []) else table)
-    split true = refl
-    split false = refl
 
 pub same-then : (a b c : Table) → IsSameTable a b → IsSameTable b c → IsSameTable a c
 same-then a b c one two = two ∙ ap (λ (t : Table). with_entries t c.entries) one

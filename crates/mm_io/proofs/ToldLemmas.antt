@@ -24,12 +24,6 @@ AppendsFront-append a b c x y first second =
 pub AppendsFront-of-Appends : (a b : Option (List ℕ)) (x y : List ℕ) → Appends a b x → AppendsFront a b (x ++ y)
 AppendsFront-of-Appends a b x y first = (length x, rw (take-append_seam x y) first)
 
--- where a sink still tells its bytes, they are those that it had and those that it took
-pub told_whole : (before : List ℕ) (after : Option (List ℕ)) (x : List ℕ) → IsSome after → Appends (Some before) after x
-    → after ≡ Some (before ++ x)
-told_whole before None x told appended = cc told
-told_whole before (Some after) x told appended = ap (λ (bytes : List ℕ). Some bytes) appended
-
 -- a source that gave x and then y has given both, in this order
 pub Gives-append : (a b c : Option (List ℕ)) (x y : List ℕ) → Gives a b x → Gives b c y → Gives a c (x ++ y)
 Gives-append a b None x y first second = tt
@@ -81,15 +75,6 @@ KeepsFirst-append room (Some a) (Some b) (Some c) x y first second =
     second ∙ ap (λ bs. bs ++ take (room - length bs) y) first
     ∙ append_assoc a (take (room - length a) x) (take (room - length (a ++ take (room - length a) x)) y)
     ∙ ap (λ bs. a ++ bs) (sym (take-room room a x y))
-
--- a sink that isn't called keeps what it kept
-pub KeepsFirst-nothing : (room : ℕ) (a : Option (List ℕ)) → KeepsFirst room a a []
-KeepsFirst-nothing room None = tt
-KeepsFirst-nothing room (Some a) = sym (ap (λ bs. a ++ bs) (none (room - length a)) ∙ append-nil a)
-  where
-    none : (n : ℕ) → ◌≡◌ {A = List ℕ} (take n []) []
-    none zero = refl
-    none (suc n) = refl
 
 -- a sink that isn't called takes nothing
 pub Appends-nothing : (a : Option (List ℕ)) → Appends a a []

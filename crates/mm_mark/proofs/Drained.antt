@@ -135,15 +135,6 @@ white-was words objects base object begins white = split from.shaded
           (none (sym (ap (λ (v : ObjectView). v.colour) is) ∙ white));
     }
 
--- what isn't white stays
-pub dark-stays : (words : List ℕ) (objects : ObjectsByBase) (base : ℕ) (object : ObjectView)
-    → Begins objects base object
-    → object.colour ≢ White → Begins (with_grayed_objects words objects) base object
-dark-stays words objects base object begins dark = split to.shaded
-  where
-    to : ShadedTo words objects base object
-    to = shaded-to words objects base object begins
-
     split : IsShaded words base object to.new → Begins (with_grayed_objects words objects) base object
     split (IsShaded.Is_grayed w named is) = absurd (dark w)
     split (IsShaded.Is_spared none is) = subst (λ (v : ObjectView). Begins (with_grayed_objects words objects) base v)

@@ -84,8 +84,3 @@ told-under objects p under = split (slice_get objects (p.base / 16)) refl under.
           some_done = under.some_done;
           some_left = under.some_left object begins;
         }
-
-pub all-under : (objects : ObjectsByBase) (o : Option PartlyScannedView) → IfSome o (IsUnderScan objects)
-    → IfSome o (UnderScan objects)
-all-under objects None under = under
-all-under objects (Some p) under = told-under objects p under

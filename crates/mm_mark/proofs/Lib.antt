@@ -9,7 +9,6 @@ pub mod Keeping
 pub mod Known
 pub mod PartsDone
 pub mod Potential
-pub mod Propositions
 pub mod Reading
 pub mod RootWords
 pub mod Shaded

@@ -53,15 +53,3 @@ area-shaded areas before mid after from next base cells start spent steps so_far
           let paid = so_far.paid in
           omega arith;
     }
-
--- no area is left
-pub all-shaded : (areas : Areas) (before after : Heap) (from start steps : ℕ)
-    → AreShaded areas before after from start steps → scanned_words_from areas before.raw from ≡ []
-    → (words : List ℕ) → scanned_words_from areas before.raw 0 ≡ words
-    → IsGrayed before after words × (steps ≡ start + 2 * length words)
-all-shaded areas before after from start steps so_far none words all =
-    let same : so_far.words ≡ words =
-    sym (append-nil so_far.words) ∙ ap (λ ws. so_far.words ++ ws) (sym none) ∙ so_far.rest ∙ all in (
-      subst (IsGrayed before after) same so_far.grayed,
-      (let paid = so_far.paid in let size = ap length same in omega (arith, paid, size)),
-    )

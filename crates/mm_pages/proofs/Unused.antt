@@ -59,9 +59,6 @@ unused-from runs p h above =
 pub used-from : (runs : ℕ → ℕ) (p f : ℕ) → f ≤ p → p < f + runs f → unused runs p ≡ false
 used-from runs p f l h = not_true (unused runs p) (λ u. omega (arith, unused-above runs p f u l))
 
-pub used-zero : (runs : ℕ → ℕ) → unused runs 0 ≡ false
-used-zero runs = refl
-
 -- a page that is used lies in a run, or is page 0
 pub used-to : (runs : ℕ → ℕ) (p : ℕ) → unused runs p ≡ false → (p ≡ 0) ⊎ Reached runs p (suc p)
 used-to runs p u = elim (cases_Bool (reaches runs p (suc p))) [

@@ -31,10 +31,6 @@ left-false : (a b : Bool) → (a || b) ≡ false → a ≡ false
 left-false true b e = e
 left-false false b e = refl
 
-right-false : (a b : Bool) → (a || b) ≡ false → b ≡ false
-right-false true b e = absurd (no_other e refl)
-right-false false b e = e
-
 pub not-lists : (bases : List ℕ) (base : ℕ) → (lists bases base ≡ true → ⊥) → lists bases base ≡ false
 not-lists bases base never = split (lists bases base) refl
   where

@@ -58,11 +58,3 @@ module _ (a : Areas) (sound : IsSoundAreas a) (heap : Heap) (heap_sound : IsSoun
   views-taken before base extent takes =
       sym (outside before base extent takes.inside (λ place less. sym (takes.below place less))
       (λ place past. sym (takes.above place past)))
-
-  -- the words of an object's extent are left, and this is the heap before
-  pub views-left : (after : List (Option ℕ)) (base : ℕ) (object : StoredObject) → Begins heap.objects base object →
-      LeavesWords heap.raw after base object.extent → views_of_areas a after ≡ views_of_areas a heap.raw
-  views-left after base object begins leaves =
-      outside after base object.extent
-      (λ place from to. heap_sound.covered place base object (record { begins = begins; from = from; to = to }))
-      leaves.below leaves.above

@@ -124,8 +124,3 @@ IsSet-zeros limit words small room zeros =
       some = λ i lt one. absurd (omega (arith, none i (omega arith)));
       below = λ n ge lt. members-false words n (none (128 + n) (omega arith));
     }
-
-pub IsEmpty-zeros : (limit : ℕ) (words : List ℕ) → ((i : ℕ) → i < set_size limit → slice_index words i ≡ 0) →
-    IsEmpty limit words
-IsEmpty-zeros limit words zeros =
-    λ n lt. members-false words n (bit_of-zero words (128 + n) (zeros ((128 + n) / 32) (omega arith)))

@@ -36,11 +36,6 @@ or-right : (a b : Bool) → b ≡ true → (a || b) ≡ true
 or-right true b e = refl
 or-right false b e = e
 
--- none lies below 0
-pub white-none : (objects : ObjectsByBase) → AreWhiteBelow objects 0 []
-white-none objects =
-    record { ascending = tt; only = tt; below = tt; all = λ base object begins white below. absurd (omega arith) }
-
 pub white-more : (h : Heap) (from base : ℕ) (bases : List ℕ) → AreWhiteBelow (views_of h.objects) from bases
     → IsNextOf h White from base → AreWhiteBelow (views_of h.objects) (base + 1) (bases ++ base ∷ [])
 white-more h from base bases are next =

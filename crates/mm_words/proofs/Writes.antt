@@ -31,15 +31,6 @@ module _ (from : ℕ) (ws xs : List ℕ) (fits : from + length ws ≤ length xs)
   both : length (take from xs ++ ws) ≡ from + length ws
   both = length-append (take from xs) ws ∙ ap (λ (k : ℕ). k + length ws) front
 
-  -- the words that were written
-  pub get_or-written : (i d : ℕ) → i < length ws → get_or (written from ws xs) (from + i) d ≡ get_or ws i d
-  get_or-written i d inside =
-      let here : from + i < length (take from xs ++ ws) = omega (arith, both) in
-      get_or-take (length xs) (uncut from ws xs) (from + i) d (omega arith)
-      ∙ get_or_append_left (take from xs ++ ws) (drop (from + length ws) xs) d (from + i) here
-      ∙ get_or-append_right (take from xs) ws from (from + i) d front (omega arith)
-      ∙ ap (λ (k : ℕ). get_or ws k d) (let e : from + i - from ≡ i = omega arith in e)
-
   -- those before them
   pub get_or-written-before : (i d : ℕ) → i < from → get_or (written from ws xs) i d ≡ get_or xs i d
   get_or-written-before i d before =

@@ -26,10 +26,6 @@ use Rattle.mmgc.specs.declared.replay.End.TheVariants.{Whole, Fault, ReadFailed,
 use Rattle.mmgc.proofs.Replays.{spelling_of-append, progress-stopped}
 use Rattle.mmgc.proofs.WritingLemmas.{settled, broken_front}
 
--- a count that rose since some moment rose since any earlier one
-pub rose-since : (earlier before now : ℕ) → earlier ≤ before → Rose before now → Rose earlier now
-rose-since earlier before now l h = omega arith
-
 -- The last line of an input is carried out, or has a fault.
 module _ {start : Start} {bytes : List ℕ} {input : Input} {now : Moment}
     (given : Gives input.left input.left_after []) (nothing_left : NothingLeft input.left_after)

@@ -22,9 +22,6 @@ module _ (r : Region) (keeps : KeepsRegion r) where
   pub needed-least : r.least ≤ pages_needed r
   needed-least = end-least r.least (pieces_in r)
 
-  pub needed-two : 2 ≤ pages_needed r
-  needed-two = omega (arith, keeps.tables.two, needed-least)
-
   pub needed-most : pages_needed r ≤ r.most
   needed-most =
       let region = region-shown r keeps in
@@ -46,14 +43,6 @@ module _ (r : Region) (keeps : KeepsRegion r) where
 
   pub objects-end_needed : objects.EndsBy r.heap (pages_needed r)
   objects-end_needed = objects_end r.heap (pieces_in r) r.least (region-shown r keeps).objects_are
-
-  pub pages-end_most : EndsBy r.pages r.most
-  pages-end_most =
-      let ends = pages-end_needed in
-      record {
-        out = λ p c. omega (arith, ends.out p c, needed-most);
-        parked = λ p c. omega (arith, ends.parked p c, needed-most);
-      }
 
   pub objects-end_most : objects.EndsBy r.heap r.most
   objects-end_most base object begins = omega (arith, objects-end_needed base object begins, needed-most)

@@ -92,9 +92,6 @@ module _ (r : Region) (heap : Heap) (pages : Pages) (target : ℕ) (colour : Col
         keeps-heap r heap pages keeps (stays-weak found makes) makes.sound makes.pages_sound makes.fits
         (makes.others r.areas.fixed.runs keeps.placed.areas) (all_parked-weak found makes)
 
-    pub same-weak : IsSameRegion r (record r { heap = heap; pages = pages })
-    same-weak = same-changed r (record r { heap = heap; pages = pages }) (stays-weak found makes)
-
   pub areas-weak : (found : Option ℕ) → MakesWeak r heap pages target colour found
       → areas_in (record r { heap = heap; pages = pages }) ≡ areas_in r
   areas-weak None makes = ap (λ (h : Heap). views_of_areas r.areas h.raw) (makes.unchanged refl).0

@@ -43,13 +43,6 @@ not_white-begun a birth object lives e =
     clash : false ≡ true → ⊥
     clash p = cc
 
--- After `begin`, marking reaches no more than is reached.
-pub mark_reached-begun : (a : State) (birth : ℕ) → IsMarked (begun a) birth → IsReached (begun a) birth
-mark_reached-begun a birth (IsMarked.Already _ object lives gray) =
-    IsReached.By_root birth object lives (not_white-begun a birth object lives gray)
-mark_reached-begun a birth (IsMarked.By_slot _ object by holder lives held named own) =
-    IsReached.By_slot birth object by holder lives held named (mark_reached-begun a by own)
-
 by_colour : (P : Type 0) (c : Colour) → (c ≡ White → P) → (c ≡ Gray → P) → (c ≡ Black → P) → P
 by_colour P White f g h = f refl
 by_colour P Gray f g h = g refl

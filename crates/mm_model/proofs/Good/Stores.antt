@@ -438,9 +438,6 @@ module _ (a : State) (good : IsGood a) (birth : ℕ) (object : Object) (lives : 
   abbrev pub with_store : State
   with_store = any_store a good birth object lives s value refers
 
-  pub keeps-store : Keeps a with_store
-  keeps-store = keeps-any_store a good birth object lives s value refers
-
   refs-store : (base : ℕ) → refs with_store base ≡ refs a base
   refs-store base =
       let new = stored a (slot_kind object s) value in
@@ -457,7 +454,3 @@ module _ (a : State) (good : IsGood a) (birth : ℕ) (object : Object) (lives : 
       (ap (λ b. b && not (value.word == 0) && not (names_counted a value.word)) uncounted))
       (few-any_store a good birth object lives s value refers (λ base. Unit {0})
       (λ base any. let same = refs-store base in omega arith))
-
-  pub store_is_coloured : (before after : Cycle) → IsColoured a before
-      → IsShaded a birth object s value.word before after → IsColoured with_store after
-  store_is_coloured = any_store_is_coloured a good birth object lives s value refers

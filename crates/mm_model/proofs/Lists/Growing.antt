@@ -37,16 +37,6 @@ find-None {X} test (x ∷ xs) e =
     elim [ true ↦ λ p q. cc | false ↦ λ p q. (p, find-None test xs q) ] in
     split (test x) refl e
 
-pub find-push : {X : Type 0} (test : X → Bool) (xs : List X) (y : X)
-    → find test (xs ++ y ∷ []) ≡ option_or (find test xs) (cond (test y) (Some y) None)
-find-push test [] y = refl
-find-push {X} test (x ∷ xs) y =
-    let split : (b : Bool)
-    → cond b (Some x) (find test (xs ++ y ∷ []))
-    ≡ option_or (cond b (Some x) (find test xs)) (cond (test y) (Some y) None) =
-    elim [ true ↦ refl | false ↦ find-push test xs y ] in
-    split (test x)
-
 pub get-front : {X : Type 0} (xs ys : List X) (i : ℕ) (x : X) → slice_get xs i ≡ Some x
     → slice_get (xs ++ ys) i ≡ Some x
 get-front [] ys i x e = cc
@@ -103,34 +93,6 @@ pub each_push : {X : Type 0} (P : X → Type 0) (xs : List X) (y : X) → AllByR
     → AllByRecursion P (xs ++ y ∷ [])
 each_push P [] y h p = (p, tt)
 each_push P (x ∷ xs) y h p = (h.0, each_push P xs y h.1 p)
-
-pub position_from-push : {X : Type 0} (test : X → Bool) (i : ℕ) (xs : List X) (y : X) →
-    position_from test i (xs ++ y ∷ [])
-    ≡ option_or (position_from test i xs) (cond (test y) (Some (i + length xs)) None)
-position_from-push test i [] y = ap (λ n. cond (test y) (Some n) None) (sym (add-zero i))
-position_from-push test i (x ∷ xs) y =
-    let next : cond (test y) (Some (i + 1 + length xs)) None ≡ cond (test y) (Some (i + suc (length xs))) None =
-    ap (λ (n : ℕ). cond (test y) (Some n) None) (omega arith) in
-    let split : (b : Bool) → cond b (Some i) (position_from test (i + 1) (xs ++ y ∷ []))
-    ≡ option_or (cond b (Some i) (position_from test (i + 1) xs))
-    (cond (test y) (Some (i + suc (length xs))) None) =
-    elim [
-      | true ↦ refl
-      | false ↦ position_from-push test (i + 1) xs y ∙ ap (option_or (position_from test (i + 1) xs)) next
-    ] in
-    split (test x)
-
--- a position lies within the list
-pub position_from-below : {X : Type 0} (test : X → Bool) (i : ℕ) (xs : List X) (n : ℕ)
-    → position_from test i xs ≡ Some n → n < i + length xs
-position_from-below test i [] n e = cc
-position_from-below test i (x ∷ xs) n e =
-    let split : (b : Bool) → cond b (Some i) (position_from test (i + 1) xs) ≡ Some n → n < i + suc (length xs) =
-    elim [
-      | true ↦ λ q. let same : i ≡ n = cc in omega arith
-      | false ↦ λ q. let rest = position_from-below test (i + 1) xs n q in omega arith
-    ] in
-    split (test x) e
 
 -- a test that one element alone passes finds it
 pub find-only : {X : Type 0} (test : X → Bool) (xs : List X) (i : ℕ) (x : X) → slice_get xs i ≡ Some x

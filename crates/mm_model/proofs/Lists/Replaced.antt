@@ -75,14 +75,6 @@ pub flat_map-map : {X A : Type 0} (f : X → List A) (xs : List X) → flat_map 
 flat_map-map f [] = refl
 flat_map-map f (x ∷ xs) = ap (λ ys. f x ++ ys) (flat_map-map f xs)
 
-pub flat_map_live-set : (f : Object → List ℕ) (objects : List Object) (i : ℕ) (x y : Object)
-    → slice_get objects i ≡ Some x → is_live y ≡ is_live x → f y ≡ f x
-    → flat_map f (live_objects (slice_set objects i y)) ≡ flat_map f (live_objects objects)
-flat_map_live-set f objects i x y e live same =
-    flat_map-map f (live_objects (slice_set objects i y))
-    ∙ ap (flat_map (λ ys. ys)) (map_live-set f objects i x y e live same)
-    ∙ sym (flat_map-map f (live_objects objects))
-
 -- a test that passes in a front of the new list passed in it before, or passes of the new element
 pub any_take-set : (test : ℕ → Bool) (count : ℕ) (words : List ℕ) (i word : ℕ)
     → list_any test (take count (slice_set words i word)) ≡ true
@@ -150,33 +142,6 @@ option_get-set_alike {X} f (z ∷ zs) zero zero x y e same =
 option_get-set_alike f (z ∷ zs) zero (suc j) x y e same = refl
 option_get-set_alike f (z ∷ zs) (suc i) zero x y e same = refl
 option_get-set_alike f (z ∷ zs) (suc i) (suc j) x y e same = option_get-set_alike f zs i j x y e same
-
--- a test that finds nothing finds nothing in the new list either
-pub find-set_None : {X : Type 0} (test : X → Bool) (xs : List X) (i : ℕ) (x y : X) → slice_get xs i ≡ Some x
-    → test y ≡ test x → find test xs ≡ None → find test (slice_set xs i y) ≡ None
-find-set_None test [] i x y e same none = cc
-find-set_None {X} test (z ∷ zs) zero x y e same none =
-    let own : z ≡ x = cc in
-    let split : (b : Bool) → test z ≡ b → ◌≡◌ {A = Option X} (cond b (Some z) (find test zs)) None
-    → ◌≡◌ {A = Option X} (cond b (Some y) (find test zs)) None =
-    elim [ true ↦ λ p q. cc | false ↦ λ p q. q ] in
-    ap (λ b. cond b (Some y) (find test zs)) (same ∙ sym (ap test own)) ∙ split (test z) refl none
-find-set_None {X} test (z ∷ zs) (suc i) x y e same none =
-    let rest = find-set_None test zs i x y e same in
-    let split : (b : Bool) → ◌≡◌ {A = Option X} (cond b (Some z) (find test zs)) None
-    → ◌≡◌ {A = Option X} (cond b (Some z) (find test (slice_set zs i y))) None =
-    elim [ true ↦ λ q. cc | false ↦ λ q. rest q ] in
-    split (test z) none
-
--- a test of what a function doesn't change
-pub find-map_alike : {X : Type 0} (test : X → Bool) (f : X → X) → ((x : X) → test (f x) ≡ test x) → (xs : List X)
-    → find test (map f xs) ≡ option_map f (find test xs)
-find-map_alike test f same [] = refl
-find-map_alike {X} test f same (x ∷ xs) =
-    let split : (b : Bool)
-    → cond b (Some (f x)) (find test (map f xs)) ≡ option_map f (cond b (Some x) (find test xs)) =
-    elim [ true ↦ refl | false ↦ find-map_alike test f same xs ] in
-    ap (λ b. cond b (Some (f x)) (find test (map f xs))) (same x) ∙ split (test x)
 
 pub map-map_alike : {X P : Type 0} (g : X → P) (f : X → X) → ((x : X) → g (f x) ≡ g x) → (xs : List X)
     → map g (map f xs) ≡ map g xs

@@ -93,56 +93,6 @@ lines_of-end : (bytes : List ℕ) (done : List (List ℕ)) (held : List ℕ) →
 lines_of-end bytes done held cuts some =
     lines_of-cuts bytes done held cuts ∙ ap (λ b. done ++ line_if b held) (lt-ltb 0 (length held) some)
 
--- The first line begins with these bytes, whatever comes behind them.
-pub record LongLine (front rest : List ℕ) : Type 0 where
-  pub more : List ℕ
-  pub tail : List (List ℕ)
-  pub is : complete_lines (front ++ rest) ≡ (front ++ more) ∷ tail
-
-LongLine-end : (front : List ℕ) → NoNewline front → 1024 < length front → LongLine front []
-LongLine-end front clean long =
-    let none_clean = All-nil NoNewline in
-    let cuts : Cuts front [] front = record { whole = refl; lines_clean = none_clean; held_clean = clean } in
-    record {
-      more = [];
-      tail = [];
-      is =
-          ap complete_lines (append-nil front)
-          ∙ complete_lines-cuts front [] front cuts
-          ∙ ap (λ b. line_if b front) (lt-ltb 1024 (length front) long)
-          ∙ ap (λ (xs : List ℕ). xs ∷ []) (sym (append-nil front));
-    }
-
-LongLine-newline : (front rest : List ℕ) → NoNewline front → LongLine front (10 ∷ rest)
-LongLine-newline front rest clean = record {
-  more = [];
-  tail = complete_lines rest;
-  is =
-      complete_lines-newline front rest clean
-      ∙ ap (λ (xs : List ℕ). xs ∷ complete_lines rest) (sym (append-nil front));
-}
-
-LongLine-byte : (front : List ℕ) (b : ℕ) (rest : List ℕ) → LongLine (front ++ b ∷ []) rest → LongLine front (b ∷ rest)
-LongLine-byte front b rest line = record {
-  more = b ∷ line.more;
-  tail = line.tail;
-  is =
-      ap complete_lines (sym (append_assoc front (b ∷ []) rest))
-      ∙ line.is
-      ∙ ap (λ (xs : List ℕ). xs ∷ line.tail) (append_assoc front (b ∷ []) line.more);
-}
-
--- a line that is too long already is a complete one, however it goes on
-pub long_line : (front rest : List ℕ) → NoNewline front → 1024 < length front → LongLine front rest
-long_line front [] clean long = LongLine-end front clean long
-long_line front (b ∷ rest) clean long =
-    ⊎_elim (λ (same : b ≡ 10).
-    subst (λ (c : ℕ). LongLine front (c ∷ rest)) (sym same) (LongLine-newline front rest clean))
-    (λ (other : b ≢ 10).
-    LongLine-byte front b rest (long_line (front ++ b ∷ []) rest
-    (All-push (λ (c : ℕ). c ≢ 10) front b clean other) (omega (arith, length_push front b, long))))
-    (cases_eq b 10)
-
 -- each line has a byte of its own, its newline
 pub lines-fewer : (bytes : List ℕ) (done : List (List ℕ)) (held : List ℕ) → Cuts bytes done held
     → length done + length held ≤ length bytes
@@ -242,30 +192,6 @@ module _ (read : List ℕ → Result (Option Command) LineFault) where
       ap (reading_from read 1) (complete_lines-after bytes done held (10 ∷ rest) cuts
       ∙ ap (λ (lines : List (List ℕ)). done ++ lines) (complete_lines-newline held rest cuts.held_clean))
       ∙ reading-next-fault done held (complete_lines rest) fault clean says
-
-  -- one byte more makes the line too long, whatever comes behind it
-  pub fault_too_long : (bytes : List ℕ) (done : List (List ℕ)) (held : List ℕ) (b : ℕ) (rest : List ℕ)
-      → Cuts bytes done held
-      → (reading_from read 1 done).fault ≡ None
-      → length held ≡ 1024
-      → b ≢ 10
-      → ((line : List ℕ) → 1024 < length line → read line ≡ Err LineTooLong)
-      → reading_from read 1 (complete_lines (bytes ++ b ∷ rest))
-      ≡ record {
-        commands = (reading_from read 1 done).commands;
-        fault = Some (record { line = length done + 1; fault = LineTooLong });
-      }
-  fault_too_long bytes done held b rest cuts clean full other refuses =
-      let front = held ++ b ∷ [] in
-      let long : 1024 < length front = omega (arith, length_push held b, full) in
-      let first = long_line front rest (All-push (λ (c : ℕ). c ≢ 10) held b cuts.held_clean other) long in
-      let longer : 1024 < length (front ++ first.more) = omega (arith, length-append front first.more, long) in
-      let lines : complete_lines (held ++ b ∷ rest) ≡ (front ++ first.more) ∷ first.tail =
-      ap complete_lines (sym (append_assoc held (b ∷ []) rest)) ∙ first.is in
-      ap (reading_from read 1) (complete_lines-after bytes done held (b ∷ rest) cuts
-      ∙ ap (λ (next : List (List ℕ)). done ++ next) lines)
-      ∙ reading-next-fault done (front ++ first.more) first.tail LineTooLong clean
-      (refuses (front ++ first.more) longer)
 
   -- the last line is at fault and has no newline
   pub fault_at_end : (bytes : List ℕ) (done : List (List ℕ)) (held : List ℕ) (fault : LineFault)

@@ -126,18 +126,6 @@ last_piece-append [] piece pieces = refl
 last_piece-append (line ∷ []) piece pieces = refl
 last_piece-append (line ∷ next ∷ lines) piece pieces = last_piece-append (next ∷ lines) piece pieces
 
--- the lines are those that a newline ends
-pub ended_lines-cuts : (bytes : List ℕ) (lines : List (List ℕ)) (held : List ℕ) → Cuts bytes lines held
-    → ended_lines (pieces_of bytes) ≡ lines
-ended_lines-cuts bytes lines held cuts =
-    ap ended_lines (pieces_of-cuts bytes lines held cuts) ∙ ended_lines-append lines held [] ∙ append-nil lines
-
--- what is held is what stands after the last newline
-pub rest_of-cuts : (bytes : List ℕ) (lines : List (List ℕ)) (held : List ℕ) → Cuts bytes lines held
-    → rest_of bytes ≡ held
-rest_of-cuts bytes lines held cuts =
-    ap last_piece (pieces_of-cuts bytes lines held cuts) ∙ last_piece-append lines held []
-
 -- The lines that pieces make: the last piece is one only where it has more bytes than the limit.
 abbrev lines_with : ℕ → List (List ℕ) → List (List ℕ)
 lines_with limit pieces = ended_lines pieces ++ line_if (nat_lt limit (length (last_piece pieces))) (last_piece pieces)
@@ -179,12 +167,6 @@ lines_of-more bytes lines held cuts more =
     let w = lines_with-joined 0 lines held (pieces_of more) in
     (w.0, ap (lines_with 0) (pieces_of-more bytes lines held cuts more) ∙ w.1)
 
-pub complete_lines-more : (bytes : List ℕ) (lines : List (List ℕ)) (held : List ℕ) → Cuts bytes lines held
-    → (more : List ℕ) → (rest : List (List ℕ)) × (complete_lines (bytes ++ more) ≡ lines ++ rest)
-complete_lines-more bytes lines held cuts more =
-    let w = lines_with-joined 1024 lines held (pieces_of more) in
-    (w.0, ap (lines_with 1024) (pieces_of-more bytes lines held cuts more) ∙ w.1)
-
 -- a next line that is too long, and the lines after it
 abbrev pub TooLongNext : List (List ℕ) → List (List ℕ) → Type 0
 TooLongNext all lines =
@@ -215,12 +197,6 @@ pub lines_of-too_long : (bytes : List ℕ) (lines : List (List ℕ)) (held : Lis
 lines_of-too_long bytes lines held cuts long more =
     too_long_along _ _ lines (ap (lines_with 0) (pieces_of-more bytes lines held cuts more))
     (lines_with-joined_long 0 lines held (pieces_of more) (omega arith) long)
-
-pub complete_lines-too_long : (bytes : List ℕ) (lines : List (List ℕ)) (held : List ℕ) → Cuts bytes lines held
-    → 1024 < length held → (more : List ℕ) → TooLongNext (complete_lines (bytes ++ more)) lines
-complete_lines-too_long bytes lines held cuts long more =
-    too_long_along _ _ lines (ap (lines_with 1024) (pieces_of-more bytes lines held cuts more))
-    (lines_with-joined_long 1024 lines held (pieces_of more) (omega arith) long)
 
 pub line_reading-too_long : (line : List ℕ) → 1024 < length line → line_reading line ≡ Err LineTooLong
 unfolding line_reading
@@ -281,24 +257,6 @@ reading_from-fault read n xs ys fault some =
     reading_from-append read n xs ys
     ∙ ap (λ (f : Option FaultAt). joined first.commands f next) some
     ∙ ap whole (sym some)
-
--- one more line, after lines without a fault
-pub reading_from-command : (read : List ℕ → Result (Option Command) LineFault) (n : ℕ) (lines : List (List ℕ))
-    (line : List ℕ) (command : Command)
-    → (reading_from read n lines).fault ≡ None → read line ≡ Ok (Some command)
-    → reading_from read n (lines ++ line ∷ [])
-    ≡ record { commands = (reading_from read n lines).commands ++ command ∷ []; fault = None }
-reading_from-command read n lines line command none says =
-    reading_from-clean read n lines (line ∷ []) none ∙ rw says refl
-
-pub reading_from-passed : (read : List ℕ → Result (Option Command) LineFault) (n : ℕ) (lines : List (List ℕ))
-    (line : List ℕ) → (reading_from read n lines).fault ≡ None → read line ≡ Ok None
-    → reading_from read n (lines ++ line ∷ []) ≡ reading_from read n lines
-reading_from-passed read n lines line none says =
-    let first = reading_from read n lines in
-    let whole : Option FaultAt → Reading = λ (f : Option FaultAt). record { commands = first.commands; fault = f } in
-    reading_from-clean read n lines (line ∷ []) none
-    ∙ rw (says, append-nil first.commands) (ap whole (sym none))
 
 -- the first fault ends the reading
 pub reading_from-stops : (read : List ℕ → Result (Option Command) LineFault) (n : ℕ) (lines : List (List ℕ))
