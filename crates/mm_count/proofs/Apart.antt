@@ -73,10 +73,60 @@ seen objects base v begins =
       exact = λ e. ap (λ (z : ObjectView). z.sticky) m.is ∙ e;
     }
 
+pub counted-none : (objects : StoredObjects) (outside : ℕ → ℕ) → AreCountsApart [] objects outside
+    → IsCountedBy objects outside
+counted-none objects outside apart =
+    record {
+      exact = λ base v begins counted exact.
+          let t = seen objects base v begins in
+          counts_of-begins objects base t.object t.begins
+          ∙ apart.exact base t.object t.begins (t.counted counted) (t.exact exact)
+          ∙ ap (λ os. count_at (views_of os) outside base) (without_dead-none objects);
+      few = λ base v begins counted exact.
+          let t = seen objects base v begins in
+          let is = counts_of-begins objects base t.object t.begins in
+          let most = apart.few base t.object t.begins (t.counted counted) (t.exact exact) in
+          omega arith;
+    }
+
+-- what is left began there
+left_begins : {X : Type 0} (bases : List ℕ) (entries : List (Option X)) (base : ℕ) (x : X)
+    → Begins (changed (unless_dead bases) entries) base x → Begins entries base x
+left_begins {X} bases entries base x begins =
+    record {
+      grain = begins.grain;
+      aligned = begins.aligned;
+      is = split (slice_get entries begins.grain)
+          (sym (get-changed (unless_dead bases) entries begins.grain) ∙ begins.is);
+    }
+  where
+    inner : (y : X) (b : Bool) → ◌≡◌ {A = Option (Option X)} (Some (cond b None (Some y))) (Some (Some x))
+        → ◌≡◌ {A = Option (Option X)} (Some (Some y)) (Some (Some x))
+    inner y true e = cc
+    inner y false e = e
+
     split : (e : Option (Option X)) → change_told (unless_dead bases) begins.grain e ≡ Some (Some x) → e ≡ Some (Some x)
     split None e = cc
     split (Some None) e = cc
     split (Some (Some y)) e = inner y (lists bases (16 * begins.grain)) e
+
+-- once they are gone, the counts are right
+pub counted-without_dead : (dead : List ℕ) (objects : StoredObjects) (outside : ℕ → ℕ)
+    → AreCountsApart dead objects outside → IsCountedBy (without_dead dead objects) outside
+counted-without_dead dead objects outside apart =
+    record {
+      exact = λ base v begins counted exact.
+          let t = seen (without_dead dead objects) base v begins in
+          counts_of-begins (without_dead dead objects) base t.object t.begins
+          ∙ apart.exact base t.object (left_begins dead objects base t.object t.begins) (t.counted counted)
+          (t.exact exact);
+      few = λ base v begins counted exact.
+          let t = seen (without_dead dead objects) base v begins in
+          let is = counts_of-begins (without_dead dead objects) base t.object t.begins in
+          let most = apart.few base t.object (left_begins dead objects base t.object t.begins) (t.counted counted)
+          (t.exact exact) in
+          omega arith;
+    }
 
 -- one more is left out
 without-more : {X : Type 0} (base : ℕ) (bases : List ℕ) (entries : List (Option X)) (x : X) → Begins entries base x
