@@ -79,11 +79,6 @@ scanning-drained old k cost now next before middle after s below n =
           (writes-on before middle after s.log [] s.written n.written);
     }
 
-    whole : sum (take (length s.log - 1) (costs s.log)) < k → ViewIsEnough k s.log now
-    whole below =
-        let so_far = s.costs_are in
-        ViewIsEnough.Cost_reached (omega (arith, so_far, reached)) below
-
 -- what one more part costs is paid for after what was paid before
 pub paid-on : (before after : Marking) (spent steps bound cost more : ℕ) → IsPaid before spent bound
     → ((stale : ℕ) → HasFewStale before stale → IsPaid after steps (spent + cost + 8 * stale)) → bound + cost ≤ more

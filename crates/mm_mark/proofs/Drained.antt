@@ -135,11 +135,6 @@ white-was words objects base object begins white = split from.shaded
           (none (sym (ap (λ (v : ObjectView). v.colour) is) ∙ white));
     }
 
-    split : IsShaded words base object to.new → Begins (with_grayed_objects words objects) base object
-    split (IsShaded.Is_grayed w named is) = absurd (dark w)
-    split (IsShaded.Is_spared none is) = subst (λ (v : ObjectView). Begins (with_grayed_objects words objects) base v)
-        is to.begins
-
 -- and what is black afterwards was so before
 pub black-was : (words : List ℕ) (objects : ObjectsByBase) (base : ℕ) (object : ObjectView)
     → Begins (with_grayed_objects words objects) base object → object.colour ≡ Black → Begins objects base object
