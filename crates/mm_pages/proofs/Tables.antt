@@ -1,9 +1,9 @@
 -- A table after one of its words was written.
-use Rattle.std.proofs.Common.{◌≡◌, ℕ, ◌+◌, ◌-◌, ◌*◌, ◌<◌, ◌≤◌, List, ◌++◌, length, take, drop, slice_range, set}
-use Rattle.std.proofs.Common.{arith, sym, ◌∙◌, ap, refl}
-use Rattle.std.proofs.lemmas.List.{length-set, drop-set-lt, drop-set-add, take-set-le, length-append, length-drop}
-use Rattle.std.proofs.lemmas.List.{length-take-le, take_all, take-append-le, take-take, drop-append-le, drop_at}
-use Rattle.std.proofs.lemmas.List.{take_at, drop-take}
+use Rattle.std.proofs.Common.{◌≡◌, ℕ, ◌+◌, ◌-◌, ◌*◌, ◌<◌, ◌≤◌, List, length, take, drop, slice_range, set}
+use Rattle.std.proofs.Common.{arith, sym, ◌∙◌, ap}
+use Rattle.std.proofs.lemmas.List.{length-set, drop-set-lt, drop-set-add, take-set-le, length-drop}
+use Rattle.std.proofs.lemmas.List.{length-take-le}
+use Rattle.std.proofs.lemmas.List.{drop-take}
 use Rattle.std.proofs.Math.Seq.{take-set-lt}
 use Rattle.mm_words.specs.Piece.{Piece, with_words}
 use Rattle.mm_words.specs.Writes.{written}

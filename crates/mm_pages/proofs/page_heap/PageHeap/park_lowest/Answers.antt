@@ -1,5 +1,5 @@
 -- What was noted as out is noted as parked at once.
-use Rattle.std.proofs.Common.{◌≡◌, ℕ, ◌≤◌, ◌<◌, set, slice_index, ◌∙◌, ap, sym, arith, subst}
+use Rattle.std.proofs.Common.{◌≡◌, ℕ, set, slice_index, ◌∙◌, ap, sym, arith, subst}
 use Rattle.mm_pages.specs.Pages.{Pages, Run, with_parked, with_out, IsSoundHeap}
 use Rattle.mm_pages.specs.Parked.{AreParked}
 use Rattle.mm_pages.proofs.Parked.{parked-taken, free-within, IsSized, IsSized-taken, AreParked-vacant, AreParked-taken}
