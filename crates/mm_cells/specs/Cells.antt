@@ -69,7 +69,7 @@ pub record IsRunOfCells (v : Cells) (page : ℕ) : Type 0 where
   pub needed : 4096 * (page + slice_index v.runs page) < base + cell.extent + 4096
 
 -- Each cell lies on the grid of its size in the pages from 1 on. No two overlap, and those that share a page have one
--- size. Each lies in the run that begins at its page, and there are no other runs.
+-- size. Each lies in a run that begins at its page, and there are no other runs.
 pub record IsSoundCells (v : Cells) : Type 0 where
   pub two : 2 ≤ v.pages
   pub most : v.pages ≤ 4096
@@ -81,6 +81,7 @@ pub record IsSoundCells (v : Cells) : Type 0 where
   pub flags : (base : ℕ) (cell : Taken) → Begins v base cell → IsFlags cell.flags
   pub in_run : (base : ℕ) (cell : Taken) → Begins v base cell
       → base + cell.extent ≤ 4096 * (base / 4096 + slice_index v.runs (base / 4096))
+  pub has_run : (base : ℕ) (cell : Taken) → Begins v base cell → 0 < slice_index v.runs (base / 4096)
   pub runs : (page : ℕ) → 0 < slice_index v.runs page → IsRunOfCells v page
 
 -- no cell is taken

@@ -64,6 +64,7 @@ impl Cells {
         requires most { pages ≤ 4096 }
         requires room { table_size pages ≤ length table.words }
         ensures value { result ≡ fresh (location_of table) pages }
+        ensures empty { HasNoCell result }
         ensures parked { (heap : Pages) → heap.pages ≤ pages → AreParked result.runs heap }
         ensures sound { IsSoundCells result }
     {

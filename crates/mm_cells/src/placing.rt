@@ -62,6 +62,7 @@ impl Cells {
         requires parked { AreParked self.old.runs pages.old }
         ensures gone { self.new ≡ record (with_cell self.old base None) { runs = self.new.runs } }
         ensures page { LeavesPage self.old self.new pages.old (base / 4096) pages.new }
+        ensures rest { pages.new ≡ record pages.old { parked = pages.new.parked } }
         ensures parked { AreParked self.new.runs pages.new }
         ensures others { (runs : List ℕ) → slice_index runs (base / 4096) ≡ 0 → AreParked runs pages.old
             → AreParked runs pages.new }

@@ -1,6 +1,6 @@
 -- What a page heap keeps true of its fields, as its calls change them.
 use Rattle.std.proofs.Common.{◌≡◌, ℕ, ◌+◌, ◌-◌, ◌*◌, ◌^◌, ◌<◌, ◌≤◌, ◌⊎◌, inl, inr, Bool, true, false, nat_lt, ◌&&◌}
-use Rattle.std.proofs.Common.{List, length, slice_index, set, replicate, arith, sym, ◌∙◌, ap, subst, refl}
+use Rattle.std.proofs.Common.{zero, suc, List, length, slice_index, set, replicate, arith, sym, ◌∙◌, ap, subst, refl}
 use Rattle.std.proofs.lemmas.Bool.{cases_lt, cases_eq, lt-ltb, le-ltb, and_left}
 use Rattle.std.proofs.lemmas.List.{length-set, get_or-set_same, get_or-set_other, get_or-replicate}
 use Rattle.std.proofs.lemmas.List.{length-replicate, get_or_past}
@@ -9,7 +9,7 @@ use Rattle.mm_pages.specs.Tree.{Shows}
 use Rattle.mm_words.specs.Location.{Location}
 use Rattle.mm_pages.specs.Entries.{Entries, BeginsEmpty}
 use Rattle.mm_pages.specs.Pages.{Pages, Run, run_at, unused, is_free_page, count_below, IsFreePage, IsFreeRun}
-use Rattle.mm_pages.specs.Pages.{IsLowestRun, IsOut, IsUsed, IsHighestUsed, EndsBy, IsSoundHeap}
+use Rattle.mm_pages.specs.Pages.{IsLowestRun, IsOut, IsUsed, IsHighestUsed, HasNoRun, EndsBy, IsSoundHeap}
 use Rattle.mm_pages.specs.Kept.{pages_of, KeepsTree}
 use Rattle.mm_pages.proofs.Joins.{clash}
 use Rattle.mm_pages.proofs.Trees.{Shows-same}
@@ -384,6 +384,23 @@ IsHighestUsed-last v span m l r s u wide some =
             absurd (clash ((u.right_free (span - r) (omega arith)).each q (omega arith) (omega arith)) taken)
       ];
     }
+
+-- where no page but page 0 is used there are no runs
+pub HasNoRun-unused : (v : Pages) (top : ℕ) → IsSoundHeap v → IsHighestUsed v top → top ≡ 0 → HasNoRun v
+HasNoRun-unused v top s highest is =
+    record {
+      none_out = λ p. none p (slice_index v.out p) (λ some.
+          highest.highest p (inr (inl (record { first = p; begins = omega arith; reaches = omega (arith, some) }))))
+          (omega arith);
+      none_parked = λ p. none p (slice_index v.parked p) (λ some.
+          highest.highest p (inr (inr (record { first = p; begins = omega arith; reaches = omega (arith, some) }))))
+          (omega arith);
+    }
+  where
+    none : (p n : ℕ) → (0 < n → p ≤ top) → n ≤ run_at v p → n ≡ 0
+    none p zero low some = refl
+    none zero (suc n) low some = absurd (omega (arith, s.off_zero, some))
+    none (suc p) (suc n) low some = absurd (omega (arith, low (omega arith)))
 
 -- the length of a run that is out
 pub out-whole : (e : Entries) (limit free : ℕ) (run : Run) → KeepsTree e limit free → IsOut (pages_of e limit) run →

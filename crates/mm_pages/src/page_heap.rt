@@ -210,6 +210,7 @@ impl PageHeap {
     pub fn top(&self) -> u32
         ensures some { 0 < result }
         ensures highest { IsHighestUsed self.now (result - 1) }
+        ensures none { result ≡ 1 → HasNoRun self.now }
         ensures sound { IsSoundHeap self.now }
     {
         self.table.span() - self.table.last_run()

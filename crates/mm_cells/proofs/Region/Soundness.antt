@@ -163,6 +163,15 @@ cell-in_run m base cell kept (whole page count w) =
     ap (slice_index (runs_of m)) at ∙ run-at m page (omega (arith, i.some, i.within)) ∙ ap run_of i.used in
     omega (arith, i.begins, i.extent)
 
+-- a cell has bytes
+cell-some : (m : Map) (base : ℕ) (cell : Taken) → KeepsCells m → IsCellOf m base cell → 0 < cell.extent
+cell-some m base cell kept (small page class number s) =
+    let i = in_class m page class number base cell kept s in
+    omega (arith, i.extent, class_size-least class i.known)
+cell-some m base cell kept (whole page count w) =
+    let i = in_pages m page count base cell kept w in
+    omega (arith, i.extent, i.some)
+
 -- where a run begins
 run-within : (m : Map) (page : ℕ) → 0 < slice_index (runs_of m) page → page < m.pages
 run-within m page some = elim (cases_lt page m.pages) [
@@ -232,6 +241,9 @@ IsSoundCells-kept m kept =
           };
       flags = λ base cell begins. cell-flags m base cell (Begins-cell m base cell begins);
       in_run = λ base cell begins. cell-in_run m base cell kept (Begins-cell m base cell begins);
+      has_run = λ base cell begins.
+          let of = Begins-cell m base cell begins in
+          omega (arith, cell-in_run m base cell kept of, cell-some m base cell kept of);
       runs = λ page some.
           let within = run-within m page some in
           used-run m page (use_at m page) kept within refl (omega (arith, run-at m page within));

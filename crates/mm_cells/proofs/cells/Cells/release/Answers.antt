@@ -6,6 +6,7 @@ use Rattle.mm_cells.specs.Map.{use_at}
 use Rattle.mm_cells.specs.Cells.{Cells, with_cell, with_run, IsTaken}
 use Rattle.mm_cells.specs.Kept.{cells_of}
 use Rattle.mm_cells.specs.Placing.{Page_stays}
+use Rattle.mm_cells.proofs.Region.Empty.{rest-left}
 use Rattle.mm_cells.proofs.Region.Parking.{run-parked, gone-seen, gone-seen_run, own-runs, LeavesPage-goes}
 use Rattle.mm_cells.proofs.Region.Parking.{AreParked-goes}
 use Rattle.mm_cells.proofs.Region.Places.{run-taken, parked-below, AreAllParked-left}
@@ -72,6 +73,9 @@ returns-then-release_cell-clause-page g c =
     LeavesPage-goes c.args.self.now (cells_of c.release_cell.new.table) c.args.pages.now c.free_parked.new.self
     c.args.base (c.args.base / 4096) is c.free_parked.ensures.freed (c.release_cell.ensures.none c.if-release_cell.true)
 
+pub returns-then-release_cell-clause-rest : goal.returns-then-release_cell-clause-rest
+returns-then-release_cell-clause-rest g c = rest-left _ _ _ _ _ (returns-then-release_cell-clause-page g c)
+
 pub returns-then-release_cell-clause-parked : goal.returns-then-release_cell-clause-parked
 returns-then-release_cell-clause-parked g c =
     let is : cells_of c.release_cell.new.table ≡ with_run (with_cell c.args.self.now c.args.base None)
@@ -137,6 +141,9 @@ returns-in-First-clause-page g c =
     LeavesPage-goes c.args.self.now (cells_of c.release_pages.new.table) c.args.pages.now
     c.free_parked-in-First.new.self c.args.base (c.args.base / 4096) is c.free_parked-in-First.ensures.freed
     c.release_pages.ensures.goes
+
+pub returns-in-First-clause-rest : goal.returns-in-First-clause-rest
+returns-in-First-clause-rest g c = rest-left _ _ _ _ _ (returns-in-First-clause-page g c)
 
 pub returns-in-First-clause-parked : goal.returns-in-First-clause-parked
 returns-in-First-clause-parked g c =

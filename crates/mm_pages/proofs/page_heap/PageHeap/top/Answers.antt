@@ -1,7 +1,8 @@
-use Rattle.std.proofs.Common.{arith}
+use Rattle.std.proofs.Common.{arith, subst}
 use Rattle.std.proofs.lemmas.Nat.{pow_pos}
+use Rattle.mm_pages.specs.Pages.{IsSoundHeap}
 use Rattle.mm_pages.specs.Kept.{pages_of}
-use Rattle.mm_pages.proofs.Kept.{IsHighestUsed-last, last_run-short}
+use Rattle.mm_pages.proofs.Kept.{IsHighestUsed-last, HasNoRun-unused, last_run-short}
 use Rattle.mm_pages.proofs.Trees.{Shows-head}
 use Rattle.mm_pages.proofs.page_heap.PageHeap.top.Goals as goal
 
@@ -28,3 +29,8 @@ returns-clause-highest c = rw (c.span.ensures, c.last_run.ensures, ← c.self.vi
     (IsHighestUsed-last (pages_of c.self.inside.table c.self.inside.limit) _ _ _ _ c.self.invariant.sound
     (Shows-head c.self.inside.table.height _ c.self.inside.table.tree c.self.invariant.shows)
     (omega (arith, c.self.invariant.wide, c.self.invariant.sound.limit)) (pow_pos c.self.inside.table.height))
+
+pub returns-clause-none : goal.returns-clause-none
+returns-clause-none c = λ one.
+    HasNoRun-unused c.args.self.now _ (subst IsSoundHeap c.self.view_is c.self.invariant.sound)
+    (returns-clause-highest c) (omega (arith, one))

@@ -1,14 +1,14 @@
 -- The tables stay where they are.
 use Rattle.std.proofs.Common.{◌≡◌, ap, arith, ◌∙◌}
 use Rattle.mm_words.specs.Location.{Location}
+use Rattle.mm_pages.specs.Pages.{Pages}
 use Rattle.mm_cells.specs.Cells.{Cells}
-use Rattle.mm_cells.proofs.Region.Empty.{table-left}
 use Rattle.mm_cells.proofs.tests.cells.Trial.release.Goals as goal
 
 pub invariant_of-self : goal.invariant_of-self
 invariant_of-self g c =
     let heap : c.release.new.pages.table ≡ c.args.self.now.heap.table =
-    table-left _ _ _ _ _ c.release.ensures.page in
+    ap (λ (h : Pages). h.table) c.release.ensures.rest in
     let cells = ap (λ (v : Cells). v.table) c.release.ensures.gone in
     record {
       parked = c.release.ensures.parked;
