@@ -16,16 +16,6 @@ use Rattle.mm_cells.specs.Kept.{cells_of, KeepsCells}
 use Rattle.mm_cells.specs.Placing.{IsFreeCell, LeavesPage, Page_stays, Page_goes}
 use Rattle.mm_cells.proofs.Region.Soundness.{IsSoundCells-kept}
 
-pub run-some : (v : Cells) (base : ℕ) (cell : Taken) → IsSoundCells v → Begins v base cell →
-    0 < slice_index v.runs (base / 4096)
-run-some v base cell sound begins =
-    let inside = sound.inside base cell begins in
-    let some : 0 < cell.extent = elim inside.placed [
-      | inl small ↦ omega (arith, (class_bounds cell.extent small.class).least)
-      | inr whole ↦ whole.some
-    ] in
-    omega (arith, sound.in_run base cell begins, some)
-
 pub seen-sound : (m : Map) (v : Cells) → cells_of m ≡ v → KeepsCells m → IsSoundCells v
 seen-sound m v is kept = subst IsSoundCells is (IsSoundCells-kept m kept)
 
@@ -33,7 +23,7 @@ seen-sound m v is kept = subst IsSoundCells is (IsSoundCells-kept m kept)
 pub run-taken : (m : Map) (v : Cells) (base : ℕ) → cells_of m ≡ v → KeepsCells m → IsTaken v base →
     0 < slice_index v.runs (base / 4096)
 run-taken m v base is kept taken =
-    run-some v base taken.0 (seen-sound m v is kept) taken.1
+    (seen-sound m v is kept).has_run base taken.0 taken.1
 
 -- no cell begins at the base, but one may
 pub record IsOpen (v : Cells) (base : ℕ) : Type 0 where
@@ -69,7 +59,7 @@ open-page v heap page count sound parked some free within = record {
   vacant = λ cell begins.
       let at : 4096 * page / 4096 ≡ page = omega arith in
       let run : 0 < slice_index v.runs page =
-      subst (λ (p : ℕ). 0 < slice_index v.runs p) at (run-some v (4096 * page) cell sound begins) in
+      subst (λ (p : ℕ). 0 < slice_index v.runs p) at (sound.has_run (4096 * page) cell begins) in
       absurd (omega (
         arith,
         run,
