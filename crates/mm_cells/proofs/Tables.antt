@@ -5,8 +5,8 @@ pub mod Maps
 pub mod Marked
 pub mod Placed
 pub mod Rooms
-pub mod Spans
 pub mod TakenBlocks
 pub mod Untaken
 pub mod Untouched
+pub mod Uses
 pub mod Whitened

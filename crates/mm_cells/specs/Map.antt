@@ -1,5 +1,5 @@
 -- The parts of a table of cells, and what the calls on them change.
-use Rattle.std.specs.Prelude.{◌≡◌, ◌≢◌, ◌+◌, ◌*◌, ◌<◌, ◌≤◌, ◌⊎◌, ℕ, Bool, false, List, length, slice_index, take, drop}
+use Rattle.std.specs.Prelude.{◌≡◌, ◌≢◌, ◌+◌, ◌*◌, ◌<◌, ◌≤◌, ◌⊎◌, ℕ, Bool, false, List, length, take, drop}
 use Rattle.mm_words.specs.Piece.{Piece}
 use Rattle.mm_words.specs.Location.{Location, location_of}
 use Rattle.mm_sets.specs.Set.{set_size, members, IsSet}
@@ -8,7 +8,7 @@ use Rattle.mm_cells.specs.declared.page_use.PageUse.TheVariants.{Unused}
 use Rattle.mm_cells.specs.declared.marks.Mark.{Mark}
 use Rattle.mm_cells.specs.declared.marks.Mark.TheVariants.{Free}
 use Rattle.mm_cells.specs.Marks.{mark_of_cell, whitened_mark}
-use Rattle.mm_cells.specs.Uses.{use_of}
+use Rattle.mm_cells.specs.Uses.{use_in}
 
 -- where the table lies, how many pages it is for, the words of the pages' uses, those of their cells' marks, and those
 -- of the sets of pages that have room, one for each class
@@ -36,7 +36,7 @@ map_of p pages =
 
 -- what a page is used for
 abbrev pub use_at : Map → ℕ → PageUse
-use_at m page = use_of (slice_index m.uses page)
+use_at m page = use_in m.uses page
 
 -- the mark of a cell of a page
 abbrev pub mark_at : Map → ℕ → ℕ → Mark

@@ -81,8 +81,8 @@ impl Cells {
                     pages.free_parked(page, steps);
                 }
             }
-            PageUse::First(count) => {
-                release_pages(&mut self.table, page, count);
+            PageUse::First(_) => {
+                release_pages(&mut self.table, page);
                 pages.free_parked(page, steps);
             }
             PageUse::Unused | PageUse::Later(_) => unreachable!(),

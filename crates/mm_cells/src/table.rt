@@ -2,13 +2,14 @@
 ghost use Rattle.std.specs.Prelude.{◌≡◌, ◌≢◌, ℕ, ◌+◌, ◌*◌, ◌<◌, ◌≤◌, length, MatchOption};
 ghost use Rattle.mm_sets.specs.Set.{members, IsSet, Admits};
 ghost use Rattle.mm_cells.specs.Marks.{IsMark, NoneFree, IsLowestFree, NoneSought, IsLowestSought};
-ghost use Rattle.mm_cells.specs.Uses.{IsUse};
+ghost use Rattle.mm_cells.specs.Uses.{use_in_whole, IsUse, StandsAlone};
+ghost use Rattle.mm_cells.specs.Spans.{SetsUses, AreUnused, AreWhole};
 ghost use Rattle.mm_cells.specs.Map.{use_at, mark_at, room_at, SetsUse, SetsMark, FreesPage, WhitensPage, SetsRoom};
 ghost use Rattle.mm_cells.specs.Map.{NoPageWithRoom, IsLowestRoom};
 
-use crate::marks;
 use crate::marks::{Mark, Sought};
-use crate::page_use::{PageUse, decode, encode};
+use crate::page_use::PageUse;
+use crate::{marks, page_use};
 use mm_sets::{insert, lowest, remove, set_words};
 use mm_words::Words;
 use std::marker::Model;
@@ -86,19 +87,42 @@ impl Table {
     }
 
     /// What a page is used for.
+    #[inline]
     pub fn use_at(&self, page: u32) -> PageUse
         requires { page < self.now.pages }
         ensures { result ≡ use_at self.now page }
     {
-        decode(self.words.get(page))
+        page_use::use_in(self.words.part(0, self.pages), page)
     }
 
+    /// Gives a page by itself another use.
     pub fn set_use(&mut self, page: u32, page_use: PageUse)
         requires within { page < self.old.pages }
         requires small { IsUse page_use }
+        requires was_alone { StandsAlone (use_at self.old page) }
+        requires alone { StandsAlone page_use }
         ensures { SetsUse self.old self.new page page_use }
     {
-        self.words.set(page, encode(page_use));
+        page_use::set_use(self.words.part_mut(0, self.pages), page, page_use);
+    }
+
+    /// Makes so many unused pages those of one cell.
+    pub fn set_whole(&mut self, first: u32, count: u32)
+        requires some { 0 < count }
+        requires within { first + count ≤ self.old.pages }
+        requires unused { AreUnused self.old first count }
+        ensures { SetsUses self.old self.new first count (use_in_whole count) }
+    {
+        page_use::set_whole(self.words.part_mut(0, self.pages), first, count);
+    }
+
+    /// Makes the pages of one cell unused, however many they are.
+    pub fn clear_whole(&mut self, first: u32)
+        requires { first < self.old.pages }
+        ensures { (count : ℕ) → 0 < count → AreWhole self.old first count
+            → SetsUses self.old self.new first count (λ distance. PageUse.Unused) }
+    {
+        page_use::clear_whole(self.words.part_mut(0, self.pages), first);
     }
 
     /// The mark of a cell of a page.

@@ -7,8 +7,7 @@ ghost use Rattle.mm_cells.specs.Map.{use_at, mark_at, IsLowestRoom};
 ghost use Rattle.mm_cells.specs.Marks.{NoneFree};
 ghost use Rattle.mm_model.specs.Lowest.{IsLowest};
 ghost use Rattle.mm_cells.specs.Placing.{IsFreeCell};
-ghost use Rattle.mm_cells.specs.Spans.{use_in_whole, SetsUses, AreUnused};
-ghost use Rattle.mm_cells.specs.Uses.{IsUse};
+ghost use Rattle.mm_cells.specs.Spans.{AreUnused};
 
 use crate::class::{PAGE_BYTES, cells_per_page, extent_of};
 use crate::marks::{Mark, Sought, new_mark};
@@ -26,42 +25,6 @@ fn has_room(table: &Table, page: u32, class: u32, from: u32) -> bool
     match table.lowest_free(page, from, cells_per_page(class)) {
         Some(_) => true,
         None => false,
-    }
-}
-
-/// The use of a page of a cell of whole pages.
-fn use_in_whole(count: u32, distance: u32) -> PageUse
-    requires within { distance < count }
-    requires most { count ≤ 4096 }
-    ensures value { result ≡ use_in_whole count distance }
-    ensures small { IsUse result }
-{
-    if distance == 0 {
-        PageUse::First(count)
-    } else {
-        PageUse::Later(distance)
-    }
-}
-
-/// Notes the uses of the pages of a cell of so many.
-fn fill_uses(table: &mut Table, first: u32, count: u32)
-    requires within { first + count ≤ table.old.pages }
-    requires most { table.old.pages ≤ 4096 }
-    ensures { SetsUses table.old table.new first count (use_in_whole count) }
-{
-    for distance in 0..count {
-        table.set_use(first + distance, use_in_whole(count, distance));
-    }
-}
-
-/// Notes that so many pages are unused.
-fn clear_uses(table: &mut Table, first: u32, count: u32)
-    requires within { first + count ≤ table.old.pages }
-    requires most { table.old.pages ≤ 4096 }
-    ensures { SetsUses table.old table.new first count (λ distance. uses.Unused) }
-{
-    for distance in 0..count {
-        table.set_use(first + distance, PageUse::Unused);
     }
 }
 
@@ -117,7 +80,7 @@ pub(crate) fn take_pages(table: &mut Table, first: u32, count: u32, colour: Colo
         (with_cell (cells_of table.old) (4096 * first) (Some (newly_taken (4096 * count) colour))) first count }
     ensures kept { KeepsCells table.new }
 {
-    fill_uses(table, first, count);
+    table.set_whole(first, count);
     table.set_mark(first, 0, new_mark(colour));
 }
 
@@ -150,13 +113,13 @@ pub(crate) fn release_cell(table: &mut Table, page: u32, class: u32, offset: u32
     }
 }
 
-/// Gives a cell of so many whole pages back.
-pub(crate) fn release_pages(table: &mut Table, first: u32, count: u32)
+/// Gives a cell of whole pages back.
+pub(crate) fn release_pages(table: &mut Table, first: u32)
     requires kept { KeepsCells table.old }
-    requires used { use_at table.old first ≡ uses.First count }
+    requires used { (count : ℕ) × (use_at table.old first ≡ uses.First count) }
     ensures gone { cells_of table.new ≡ with_run (with_cell (cells_of table.old) (4096 * first) None) first 0 }
     ensures kept { KeepsCells table.new }
     ensures goes { (base : ℕ) (cell : Taken) → Begins (cells_of table.new) base cell → base / 4096 ≢ first }
 {
-    clear_uses(table, first, count);
+    table.clear_whole(first);
 }

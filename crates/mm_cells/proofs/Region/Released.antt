@@ -11,7 +11,7 @@ use Rattle.mm_cells.specs.Marks.{NoneSought, IsLowestSought}
 use Rattle.mm_cells.specs.Map.{Map, use_at, mark_at, room_at, SetsUse, SetsMark, SetsRoom}
 use Rattle.mm_cells.specs.Cells.{Taken, IsTaken, with_cell, with_run}
 use Rattle.mm_cells.specs.Kept.{class_size, cells_in, cells_of, KeepsCells}
-use Rattle.mm_cells.specs.Spans.{SetsUses, AreUnused}
+use Rattle.mm_cells.specs.Spans.{SetsUses, AreUnused, AreWhole}
 use Rattle.mm_cells.proofs.Sizes.ClassSizes.{class_size-least, cells_in-most}
 use Rattle.mm_cells.proofs.Sizes.Grains.{div-whole}
 use Rattle.mm_cells.proofs.Region.Begins.{IsCellOf, small, whole, Begins-cell}
@@ -144,7 +144,14 @@ cells_of-goes a b c d page class number base kept used fits begins marked none u
     (λ cell low apart. sym (marked.other_cells cell (omega arith) apart)
     ∙ mark-free (mark_at b page cell) (none cell (omega arith) low))
 
--- the pages of one cell
+-- the pages of one cell are cleared with it
+pub whole-clears : (a b : Map) (first count : ℕ) → KeepsCells a → use_at a first ≡ First count →
+    ((n : ℕ) → 0 < n → AreWhole a first n → SetsUses a b first n (λ distance. Unused)) →
+    SetsUses a b first count (λ distance. Unused)
+whole-clears a b first count kept used clears =
+    clears count (kept.wholes first count used).some
+    (λ distance less. use_in-whole a first count distance kept used less)
+
 pub AreUnused-cleared : (a b : Map) (first count : ℕ) → SetsUses a b first count (λ distance. Unused) →
     AreUnused b first count
 AreUnused-cleared a b first count cleared =

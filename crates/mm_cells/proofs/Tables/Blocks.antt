@@ -1,13 +1,12 @@
 -- Two tables that say the same of all pages but some in a row.
-use Rattle.std.proofs.Common.{◌≡◌, ℕ, ◌+◌, ◌*◌, ◌<◌, ◌≤◌, ◌⊎◌, inl, inr, Bool, List, arith, ◌∙◌, ap, slice_index}
+use Rattle.std.proofs.Common.{◌≡◌, ℕ, ◌+◌, ◌*◌, ◌<◌, ◌≤◌, ◌⊎◌, inl, inr, Bool, List, arith, ◌∙◌, ap}
 use Rattle.std.proofs.lemmas.Bool.{cases_lt}
 use Rattle.mm_cells.specs.declared.page_use.PageUse.{PageUse}
 use Rattle.mm_cells.specs.declared.marks.Mark.{Mark}
-use Rattle.mm_cells.specs.Uses.{use_of}
+use Rattle.mm_cells.specs.Uses.{use_in}
 use Rattle.mm_cells.specs.Marks.{mark_of_cell}
 use Rattle.mm_cells.specs.Map.{Map, use_at, mark_at, room_at, IsSame, SetsUse, SetsMark, FreesPage, SetsRoom}
 use Rattle.mm_cells.specs.Spans.{SetsUses}
-use Rattle.mm_cells.proofs.Tables.Spans.{IsSame-trans}
 
 -- a page isn't one of so many from a page on
 abbrev pub IsOutside : ℕ → ℕ → ℕ → Type 0
@@ -37,7 +36,7 @@ pub record AgreesOff (a b : Map) (first count : ℕ) : Type 0 where
 
 -- one word after another of them is the same
 pub use_at-same : (a b : Map) (page : ℕ) → b.uses ≡ a.uses → use_at b page ≡ use_at a page
-use_at-same a b page e = ap (λ (words : List ℕ). use_of (slice_index words page)) e
+use_at-same a b page e = ap (λ (words : List ℕ). use_in words page) e
 
 pub mark_at-same : (a b : Map) (page cell : ℕ) → b.marks ≡ a.marks → mark_at b page cell ≡ mark_at a page cell
 mark_at-same a b page cell e = ap (λ (words : List ℕ). mark_of_cell words (256 * page + cell)) e
@@ -104,6 +103,10 @@ AgreesOff-uses a b first count uses s = record {
 }
 
 -- one after another
+IsSame-trans : (a b c : Map) → IsSame a b → IsSame b c → IsSame a c
+IsSame-trans a b c first second =
+    record { location = second.location ∙ first.location; pages = second.pages ∙ first.pages }
+
 pub AgreesOff-trans : (a b c : Map) (first count : ℕ) → AgreesOff a b first count → AgreesOff b c first count →
     AgreesOff a c first count
 AgreesOff-trans a b c first count one two = record {

@@ -9,7 +9,7 @@ use Rattle.std.specs.List.{range_with_len}
 use Rattle.mm_cells.specs.declared.page_use.PageUse.{PageUse}
 use Rattle.mm_cells.specs.declared.page_use.PageUse.TheVariants.{Unused, Class, First, Later}
 use Rattle.mm_cells.specs.declared.marks.Mark.{Mark}
-use Rattle.mm_cells.specs.Uses.{use_of}
+use Rattle.mm_cells.specs.Uses.{use_in}
 use Rattle.mm_cells.specs.Map.{Map, use_at, mark_at, IsSame}
 use Rattle.mm_cells.specs.Cells.{Taken, Cells, with_cell}
 use Rattle.mm_cells.specs.Kept.{class_size, cells_in, taken_as, taken_in, taken_at, run_of, runs_of, cells_of}
@@ -61,7 +61,7 @@ runs-changed a b page count pages within others here =
 pub runs-same : (a b : Map) → b.pages ≡ a.pages → b.uses ≡ a.uses → runs_of b ≡ runs_of a
 runs-same a b pages uses =
     ap (λ (n : ℕ). map (λ p. run_of (use_at b p)) (range_with_len 0 n)) pages
-    ∙ ap (λ (words : List ℕ). map (λ p. run_of (use_of (slice_index words p))) (range_with_len 0 a.pages)) uses
+    ∙ ap (λ (words : List ℕ). map (λ p. run_of (use_in words p)) (range_with_len 0 a.pages)) uses
 
 -- the cell at one place of one page is another one, or none
 pub record ChangesPlace (a b : Map) (page place : ℕ) (cell : Option Taken) : Type 0 where

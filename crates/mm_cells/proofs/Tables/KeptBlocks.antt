@@ -1,13 +1,15 @@
 -- What a table keeps where some pages in a row change together.
 use Rattle.std.proofs.Common.{◌≡◌, ◌≢◌, ℕ, ◌+◌, ◌-◌, ◌<◌, ◌≤◌, ◌⊎◌, inl, inr, Bool, true, false, refl, arith, sym, ◌∙◌}
 use Rattle.std.proofs.Common.{ap, subst}
-use Rattle.std.specs.Prelude.{◌↔◌, if◌then◌else◌}
-use Rattle.std.proofs.lemmas.Bool.{cases_eq, ne_eqb}
+use Rattle.std.specs.Prelude.{◌↔◌}
+use Rattle.std.proofs.lemmas.Bool.{cases_eq}
 use Rattle.mm_cells.specs.declared.page_use.PageUse.TheVariants.{Unused, Class, First, Later}
 use Rattle.mm_cells.specs.declared.marks.Mark.TheVariants as marks
 use Rattle.mm_cells.specs.Map.{Map, use_at, mark_at, room_at}
 use Rattle.mm_cells.specs.Kept.{cells_in, KeepsCells, HasTaken, HasFree, IsWhole, IsLater}
-use Rattle.mm_cells.specs.Spans.{use_in_whole, AreUnused}
+use Rattle.mm_cells.specs.Uses.{use_in_whole}
+use Rattle.mm_cells.specs.Spans.{AreUnused}
+use Rattle.mm_cells.proofs.Tables.Uses.{later-at}
 use Rattle.mm_cells.proofs.Sizes.ClassSizes.{cells_in-most}
 use Rattle.mm_cells.proofs.Tables.Blocks.{IsOutside, IsInside, outside_or_inside, AgreesOff}
 
@@ -151,7 +153,7 @@ use_in-whole m first count distance kept used within = elim (cases_eq distance 0
   | inl e ↦ ap (λ (d : ℕ). use_at m (first + d)) e ∙ ap (use_at m) (omega arith) ∙ used
       ∙ sym (ap (λ (d : ℕ). use_in_whole count d) e)
   | inr ne ↦ (kept.wholes first count used).later distance (omega arith) within
-      ∙ sym (ap (λ (test : Bool). if test then First count else Later distance) (ne_eqb distance 0 ne))
+      ∙ sym (later-at count distance ne)
 ]
 
 pub IsClosed-whole : (m : Map) (first count : ℕ) → KeepsCells m → use_at m first ≡ First count → IsClosed m first count
@@ -255,7 +257,7 @@ KeepsPages-whole m first count some ends uses taken no_room =
     let first_is : use_at m first ≡ First count = ap (use_at m) (omega arith) ∙ uses 0 some in
     let later_is : (distance : ℕ) → 0 < distance → distance < count → use_at m (first + distance) ≡ Later distance =
     λ distance off within. uses distance within
-    ∙ ap (λ (test : Bool). if test then First count else Later distance) (ne_eqb distance 0 (omega arith)) in
+    ∙ later-at count distance (omega arith) in
     let first_or_later : (page : ℕ) → IsInside first count page →
     (page ≡ first) ⊎ ((0 < page - first) × (use_at m page ≡ Later (page - first))) =
     λ page inside. elim (cases_eq page first) [

@@ -1,15 +1,92 @@
--- The parts of a table after the words of its marks were written.
+-- The parts of a table after the words of its uses or of its marks were written.
 use Rattle.std.proofs.Common.{◌≡◌, ◌≢◌, ℕ, ◌+◌, ◌-◌, ◌*◌, ◌<◌, ◌≤◌, ◌⊎◌, List, length, take, drop, slice_range, inl}
-use Rattle.std.proofs.Common.{inr, sym, ap, ◌∙◌, refl, arith}
+use Rattle.std.proofs.Common.{inr, sym, ap, subst, ◌∙◌, refl, arith}
 use Rattle.std.proofs.lemmas.Bool.{cases_eq, cases_lt}
 use Rattle.mm_words.specs.Piece.{Piece, with_words}
 use Rattle.mm_words.specs.Writes.{written}
 use Rattle.mm_words.proofs.Writes.{length-written, take-written, drop-written, drop-written_behind}
+use Rattle.mm_sets.specs.Set.{IsSet}
 use Rattle.mm_pages.proofs.Tables.{length-part}
 use Rattle.mm_cells.specs.declared.marks.Mark.{Mark}
 use Rattle.mm_cells.specs.declared.marks.Mark.TheVariants.{Free}
-use Rattle.mm_cells.specs.Map.{Map, map_of, mark_at, FitsTable, SetsMark, FreesPage, WhitensPage}
+use Rattle.mm_cells.specs.declared.page_use.PageUse.{PageUse}
+use Rattle.mm_cells.specs.Map.{Map, map_of, room_set, mark_at, FitsTable, SetsUse, SetsMark, FreesPage, WhitensPage}
+use Rattle.mm_cells.specs.Uses.{use_in, ChangesUses}
+use Rattle.mm_cells.specs.Spans.{SetsUses}
 use Rattle.mm_cells.specs.Marks.{mark_of_cell, page_marks, whitened_mark}
+
+-- the words of the uses, as the program lends them
+pub record AreUses (p : Piece) (pages : ℕ) (uses : List ℕ) : Type 0 where
+  pub is : uses ≡ (map_of p pages).uses
+  pub sized : length uses ≡ pages
+
+pub uses_lent : (p : Piece) (pages : ℕ) (uses : List ℕ) → FitsTable p pages →
+    uses ≡ slice_range p.words 0 (0 + pages) → AreUses p pages uses
+uses_lent p pages uses room lent = record {
+  is = lent ∙ ap (λ n. take n p.words) (omega arith);
+  sized = ap length lent ∙ length-part 0 pages p.words (omega (arith, room.room));
+}
+
+-- the piece with other uses
+abbrev pub with_uses : Piece → List ℕ → Piece
+with_uses p ws = with_words p (written 0 ws p.words)
+
+map_of-with_uses : (p : Piece) (pages : ℕ) (ws : List ℕ) → FitsTable p pages → length ws ≡ pages →
+    map_of (with_uses p ws) pages ≡ record (map_of p pages) { uses = ws }
+map_of-with_uses p pages ws room sized =
+    let fits : 0 + length ws ≤ length p.words = omega (arith, room.room) in
+    let size : length (written 0 ws p.words) ≡ length p.words = length-written 0 ws p.words in
+    let uses : take pages (written 0 ws p.words) ≡ ws =
+    ap (λ n. take n (written 0 ws p.words)) (sym sized) ∙ drop-written 0 ws p.words fits in
+    let marks : drop pages (written 0 ws p.words) ≡ drop pages p.words =
+    drop-written_behind 0 ws p.words fits pages (omega arith) in
+    let rooms : drop (33 * pages) (written 0 ws p.words) ≡ drop (33 * pages) p.words =
+    drop-written_behind 0 ws p.words fits (33 * pages) (omega arith) in
+    cc
+
+pub FitsTable-with_uses : (p : Piece) (pages : ℕ) (uses ws : List ℕ) → FitsTable p pages → AreUses p pages uses →
+    length ws ≡ length uses → FitsTable (with_uses p ws) pages
+FitsTable-with_uses p pages uses ws room lent size = record {
+  two = room.two;
+  most = room.most;
+  room = omega (arith, length-written 0 ws p.words, room.room);
+  sets = λ class small. subst (λ (m : Map). IsSet pages (room_set m class))
+      (sym (map_of-with_uses p pages ws room (size ∙ lent.sized))) (room.sets class small);
+}
+
+-- the use of a page that stands by itself changes, and those of the pages of a cell
+pub SetsUse-with_uses : (p : Piece) (pages page : ℕ) (page_use : PageUse) (uses ws : List ℕ) → FitsTable p pages →
+    AreUses p pages uses → length ws ≡ length uses → use_in ws page ≡ page_use →
+    ((other : ℕ) → other ≢ page → use_in ws other ≡ use_in uses other) →
+    SetsUse (map_of p pages) (map_of (with_uses p ws) pages) page page_use
+SetsUse-with_uses p pages page page_use uses ws room lent size here others =
+    let after = map_of-with_uses p pages ws room (size ∙ lent.sized) in
+    let now : (map_of (with_uses p ws) pages).uses ≡ ws = ap (λ (m : Map). m.uses) after in
+    record {
+      same = record { location = ap (λ (m : Map). m.location) after; pages = refl };
+      here = ap (λ (s : List ℕ). use_in s page) now ∙ here;
+      others = λ other apart. ap (λ (s : List ℕ). use_in s other) now ∙ others other apart
+          ∙ ap (λ (s : List ℕ). use_in s other) lent.is;
+      marks = ap (λ (m : Map). m.marks) after;
+      rooms = ap (λ (m : Map). m.rooms) after;
+    }
+
+pub SetsUses-with_uses : (p : Piece) (pages first count : ℕ) (page_uses : ℕ → PageUse) (uses ws : List ℕ) →
+    FitsTable p pages → AreUses p pages uses → length ws ≡ length uses →
+    ChangesUses uses ws first count page_uses →
+    SetsUses (map_of p pages) (map_of (with_uses p ws) pages) first count page_uses
+SetsUses-with_uses p pages first count page_uses uses ws room lent size changes =
+    let after = map_of-with_uses p pages ws room (size ∙ lent.sized) in
+    let now : (map_of (with_uses p ws) pages).uses ≡ ws = ap (λ (m : Map). m.uses) after in
+    record {
+      same = record { location = ap (λ (m : Map). m.location) after; pages = refl };
+      here = λ distance within.
+          ap (λ (s : List ℕ). use_in s (first + distance)) now ∙ changes.here distance within;
+      others = λ other outside. ap (λ (s : List ℕ). use_in s other) now ∙ changes.others other outside
+          ∙ ap (λ (s : List ℕ). use_in s other) lent.is;
+      marks = ap (λ (m : Map). m.marks) after;
+      rooms = ap (λ (m : Map). m.rooms) after;
+    }
 
 -- the words of the marks, as the program lends them
 pub record IsMarks (p : Piece) (pages : ℕ) (table : List ℕ) : Type 0 where

@@ -11,7 +11,8 @@ use Rattle.mm_cells.specs.Map.{Map, use_at, mark_at, room_at, SetsUse, SetsMark,
 use Rattle.mm_cells.specs.Cells.{with_cell, with_run}
 use Rattle.mm_cells.specs.Indexes.{in_class}
 use Rattle.mm_cells.specs.Kept.{class_size, cells_in, taken_as, cells_of, KeepsCells, HasTaken, HasFree}
-use Rattle.mm_cells.specs.Spans.{use_in_whole, SetsUses, AreUnused}
+use Rattle.mm_cells.specs.Uses.{use_in_whole}
+use Rattle.mm_cells.specs.Spans.{SetsUses, AreUnused}
 use Rattle.mm_cells.proofs.Sizes.ClassSizes.{cells_in-most}
 use Rattle.mm_cells.proofs.Tables.Blocks.{AgreesOff, AgreesOff-mark, AgreesOff-free, AgreesOff-use, AgreesOff-room}
 use Rattle.mm_cells.proofs.Tables.Blocks.{AgreesOff-uses, AgreesOff-trans, AgreesOff-first, use_at-same, mark_at-same}

@@ -2,7 +2,7 @@
 use Rattle.std.proofs.Common.{◌≡◌, ℕ, ◌+◌, ◌-◌, ◌*◌, ◌/◌, ◌%◌, ◌<◌, ◌≤◌, ◌==◌, ◌&&◌, inl, inr, Bool, true, false}
 use Rattle.std.proofs.Common.{nat_lt, set, refl, arith, sym, ◌∙◌, ap}
 use Rattle.std.specs.Prelude.{if◌then◌else◌, Option, None}
-use Rattle.std.proofs.lemmas.Bool.{cases_lt, and_parts, eqb-true, ltb-true, ne_eqb}
+use Rattle.std.proofs.lemmas.Bool.{cases_lt, and_parts, eqb-true, ltb-true}
 use Rattle.mm_cells.specs.declared.page_use.PageUse.{PageUse}
 use Rattle.mm_cells.specs.declared.page_use.PageUse.TheVariants.{Unused, Class, First, Later}
 use Rattle.mm_cells.specs.declared.marks.Mark.{Mark}
@@ -10,7 +10,9 @@ use Rattle.mm_cells.specs.declared.marks.Mark.TheVariants as marks
 use Rattle.mm_cells.specs.Map.{Map, use_at, mark_at}
 use Rattle.mm_cells.specs.Cells.{with_cell, with_run}
 use Rattle.mm_cells.specs.Kept.{class_size, cells_in, taken_as, taken_in, run_of, runs_of, cells_of}
-use Rattle.mm_cells.specs.Spans.{use_in_whole, AreUnused}
+use Rattle.mm_cells.specs.Uses.{use_in_whole}
+use Rattle.mm_cells.specs.Spans.{AreUnused}
+use Rattle.mm_cells.proofs.Tables.Uses.{later-at}
 use Rattle.mm_cells.proofs.Sizes.ClassSizes.{class_size-least, cells_in-fit, cell-units}
 use Rattle.mm_cells.proofs.Sizes.Grains.{cell-fits, whole-div}
 use Rattle.mm_cells.proofs.Region.Begins.{taken_in-class_here}
@@ -115,11 +117,6 @@ cells_of-emptied a b page class number base known agrees within low small begins
       pages = λ other any below apart wide.
           taken_in-outside a b page 1 other (16 * any) known agrees (other-outside page other apart);
     }) (omega arith)
-
--- a later page of a cell
-later-at : (count distance : ℕ) → (distance ≡ 0 → ⊥) → use_in_whole count distance ≡ Later distance
-later-at count distance apart =
-    ap (λ (test : Bool). if test then First count else Later distance) (ne_eqb distance 0 apart)
 
 whole-later : (m : Map) (first count page offset : ℕ) →
     ((distance : ℕ) → distance < count → use_at m (first + distance) ≡ use_in_whole count distance) →

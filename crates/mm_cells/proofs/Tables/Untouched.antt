@@ -1,6 +1,6 @@
 -- A table whose uses and sets are zeros is one of unused pages.
 use Rattle.std.proofs.Common.{◌≡◌, ℕ, ◌+◌, ◌*◌, ◌<◌, ◌≤◌, List, length, take, drop}
-use Rattle.std.proofs.Common.{◌-◌, get_or, sym, ap, subst, ◌∙◌, refl, arith}
+use Rattle.std.proofs.Common.{◌-◌, sym, ap, subst, ◌∙◌, refl, arith}
 use Rattle.std.proofs.lemmas.List.{drop-take, take-take, take-replicate, drop-replicate}
 use Rattle.mm_words.specs.Piece.{Piece, with_words}
 use Rattle.mm_words.specs.Location.{location_of}
@@ -9,7 +9,7 @@ use Rattle.mm_sets.specs.Set.{set_size, members, IsSet}
 use Rattle.mm_sets.proofs.Zeros.{zeros, length-zeros, get_or-zeros, members-zeros, IsSet-zeros}
 use Rattle.mm_words.proofs.Writes.{length-written, take-written, drop-written}
 use Rattle.mm_cells.specs.Map.{map_of, room_set, table_size, FitsTable, IsUntouched}
-use Rattle.mm_cells.specs.Uses.{use_of}
+use Rattle.mm_cells.specs.Uses.{use_of, meant, use_in}
 use Rattle.mm_cells.proofs.Tables.Rooms.{set_within}
 
 -- a run of a list that begins with zeros
@@ -101,7 +101,8 @@ IsUntouched-filled p pages room =
           (length-filled pages p.words room);
       same_pages = refl;
       unused = λ page.
-          ap (λ (s : List ℕ). use_of (get_or s page 0)) zeroed.uses ∙ ap use_of (get_or-zeros pages page);
+          ap (λ (s : List ℕ). use_in s page) zeroed.uses
+          ∙ ap (λ (code : ℕ). meant (zeros pages) page (use_of code)) (get_or-zeros pages page);
       no_room = λ class page small within.
           ap (λ (s : List ℕ). members s page)
           (room_set-zeroed (with_words p (filled pages p.words)) pages class zeroed small)

@@ -206,3 +206,34 @@ fn work_pages<L: Ledger, R: Abort>(rt: &R, alloc: Global, blank: Blank) -> Resul
 fn a_page_goes_with_its_last_cell(rt: HostRuntime) -> Result<(), Fail> {
     work_pages::<Brand, HostRuntime>(&rt, rt.alloc(), Blank::new(1))
 }
+
+fn work_again<L: Ledger, R: Abort>(rt: &R, alloc: Global, blank: Blank) -> Result<(), Fail>
+    requires name { blank.name ≡ L.name }
+    requires parts { blank.parts ≡ L.parts }
+    requires shared { 0 < L.parts }
+{
+    let mut steps: Steps<L> = Steps::open(blank);
+    let mut trial = Trial::open(alloc, 5)?;
+    assert_eq!(rt; trial.place(12288, &mut steps), Some(4096));
+    assert_eq!(rt; trial.base_of(16383, &mut steps), Some(4096));
+    assert!(rt; trial.release(4096, &mut steps));
+    assert_eq!(rt; trial.base_of(8192, &mut steps), None);
+    assert_eq!(rt; trial.place(16, &mut steps), Some(4096));
+    assert_eq!(rt; trial.base_of(8192, &mut steps), None);
+    assert!(rt; trial.release(4096, &mut steps));
+    assert_eq!(rt; trial.place(8192, &mut steps), Some(4096));
+    assert_eq!(rt; trial.base_of(12287, &mut steps), Some(4096));
+    assert_eq!(rt; trial.base_of(12288, &mut steps), None);
+    assert_eq!(rt; trial.place(2048, &mut steps), Some(12288));
+    assert_eq!(rt; trial.base_of(12288, &mut steps), Some(12288));
+    for base in [4096, 12288] {
+        assert!(rt; trial.release(base, &mut steps));
+    }
+    trial.close(rt, &mut steps);
+    Ok(())
+}
+
+#[test]
+fn a_page_of_a_released_cell_can_be_used_again(rt: HostRuntime) -> Result<(), Fail> {
+    work_again::<Brand, HostRuntime>(&rt, rt.alloc(), Blank::new(1))
+}

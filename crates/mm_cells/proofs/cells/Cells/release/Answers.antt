@@ -44,13 +44,13 @@ free_parked-requires-in-First g c =
     let within : c.args.base / 4096 < c.self.inside.table.pages =
     IsTaken-within c.self.inside.table c.args.base c.self.invariant
     (subst (λ (v : Cells). IsTaken v c.args.base) (sym c.self.view_is) c.requires.taken) in
-    let used : use_at c.self.inside.table (c.args.base / 4096) ≡ First c.in-First.count =
+    let used : use_at c.self.inside.table (c.args.base / 4096) ≡ First c.in-First.field-0 =
     sym c.use_at-page_use.ensures ∙ c.in-First.is in
-    let some : 0 < c.in-First.count =
-    (c.self.invariant.wholes (c.args.base / 4096) c.in-First.count used).some in
+    let some : 0 < c.in-First.field-0 =
+    (c.self.invariant.wholes (c.args.base / 4096) c.in-First.field-0 used).some in
     omega (
       arith,
-      run-parked c.self.inside.table c.args.self.now c.args.pages.now (c.args.base / 4096) (First c.in-First.count)
+      run-parked c.self.inside.table c.args.self.now c.args.pages.now (c.args.base / 4096) (First c.in-First.field-0)
           c.self.view_is within used some c.requires.parked,
     )
 
@@ -116,10 +116,10 @@ returns-else-release_cell-clause-sound g c = IsSoundCells-kept c.release_cell.ne
 -- a cell of whole pages begins where its first page does
 pub returns-in-First-clause-gone : goal.returns-in-First-clause-gone
 returns-in-First-clause-gone g c =
-    let used : use_at c.self.inside.table (c.args.base / 4096) ≡ First c.in-First.count =
+    let used : use_at c.self.inside.table (c.args.base / 4096) ≡ First c.in-First.field-0 =
     sym c.use_at-page_use.ensures ∙ c.in-First.is in
     let at : 4096 * (c.args.base / 4096) ≡ c.args.base =
-    sym (IsTaken-first c.self.inside.table c.args.base c.in-First.count c.self.invariant
+    sym (IsTaken-first c.self.inside.table c.args.base c.in-First.field-0 c.self.invariant
     (subst (λ (v : Cells). IsTaken v c.args.base) (sym c.self.view_is) c.requires.taken) used) in
     let is : cells_of c.release_pages.new.table ≡ with_run (with_cell c.args.self.now c.args.base None)
     (c.args.base / 4096) 0 =
@@ -129,10 +129,10 @@ returns-in-First-clause-gone g c =
 
 pub returns-in-First-clause-page : goal.returns-in-First-clause-page
 returns-in-First-clause-page g c =
-    let used : use_at c.self.inside.table (c.args.base / 4096) ≡ First c.in-First.count =
+    let used : use_at c.self.inside.table (c.args.base / 4096) ≡ First c.in-First.field-0 =
     sym c.use_at-page_use.ensures ∙ c.in-First.is in
     let at : 4096 * (c.args.base / 4096) ≡ c.args.base =
-    sym (IsTaken-first c.self.inside.table c.args.base c.in-First.count c.self.invariant
+    sym (IsTaken-first c.self.inside.table c.args.base c.in-First.field-0 c.self.invariant
     (subst (λ (v : Cells). IsTaken v c.args.base) (sym c.self.view_is) c.requires.taken) used) in
     let is : cells_of c.release_pages.new.table ≡ with_run (with_cell c.args.self.now c.args.base None)
     (c.args.base / 4096) 0 =
@@ -147,10 +147,10 @@ returns-in-First-clause-rest g c = rest-left _ _ _ _ _ (returns-in-First-clause-
 
 pub returns-in-First-clause-parked : goal.returns-in-First-clause-parked
 returns-in-First-clause-parked g c =
-    let used : use_at c.self.inside.table (c.args.base / 4096) ≡ First c.in-First.count =
+    let used : use_at c.self.inside.table (c.args.base / 4096) ≡ First c.in-First.field-0 =
     sym c.use_at-page_use.ensures ∙ c.in-First.is in
     let at : 4096 * (c.args.base / 4096) ≡ c.args.base =
-    sym (IsTaken-first c.self.inside.table c.args.base c.in-First.count c.self.invariant
+    sym (IsTaken-first c.self.inside.table c.args.base c.in-First.field-0 c.self.invariant
     (subst (λ (v : Cells). IsTaken v c.args.base) (sym c.self.view_is) c.requires.taken) used) in
     let is : cells_of c.release_pages.new.table ≡ with_run (with_cell c.args.self.now c.args.base None)
     (c.args.base / 4096) 0 =
