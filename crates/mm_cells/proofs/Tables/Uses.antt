@@ -17,7 +17,8 @@ if_false : {A : Type 0} (test : Bool) (x y : A) → test ≡ false → (if test 
 if_false test x y e = rw e
 
 -- the words after one was written
-pub told-here : (uses : List ℕ) (page code : ℕ) → page < length uses → told_at (slice_set uses page code) page ≡ use_of code
+pub told-here : (uses : List ℕ) (page code : ℕ) → page < length uses →
+    told_at (slice_set uses page code) page ≡ use_of code
 told-here uses page code within = ap use_of (get_or-set_same uses page code 0 within)
 
 pub told-other : (uses : List ℕ) (page code other : ℕ) → other ≢ page →
@@ -31,7 +32,8 @@ later-at count distance apart =
 
 -- a cell that reaches a page, and one that doesn't
 behind-reached : (count distance : ℕ) → distance < count → behind (First count) distance ≡ Later distance
-behind-reached count distance less = if_true (nat_lt distance count) (Later distance) Unused (lt-ltb distance count less)
+behind-reached count distance less =
+    if_true (nat_lt distance count) (Later distance) Unused (lt-ltb distance count less)
 
 behind-past : (first : PageUse) (distance : ℕ) → ((count : ℕ) → first ≡ First count → count ≤ distance) →
     behind first distance ≡ Unused

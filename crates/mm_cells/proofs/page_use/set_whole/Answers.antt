@@ -15,7 +15,9 @@ loop-distance-preserved c =
     let page = c.args.first + c.loop-distance.distance in
     record {
       later = λ k off less. elim (cases_eq k c.loop-distance.distance) [
-        | inl e ↦ ap (λ (d : ℕ). told_at (slice_set before page c.encode.result) (c.args.first + d)) e ∙ told-here before page c.encode.result
+        | inl e ↦
+            ap (λ (d : ℕ). told_at (slice_set before page c.encode.result) (c.args.first + d)) e
+            ∙ told-here before page c.encode.result
             (omega (arith, c.requires.within, c.loop-distance-test.true, c.loop-distance.auto.uses))
             ∙ c.encode.ensures ∙ ap Later (sym e)
         | inr ne ↦ told-other before page c.encode.result (c.args.first + k) (λ e. omega arith)

@@ -7,8 +7,8 @@ pub invariant_of-self : goal.invariant_of-self
 invariant_of-self c =
     let lent = uses_lent c.self.inside.words c.self.inside.pages c.part_mut.result.now c.self.invariant
     c.part_mut.ensures.value in
-    FitsTable-with_uses c.self.inside.words c.self.inside.pages c.part_mut.result.now c.set_whole.new.uses c.self.invariant
-    lent c.set_whole.auto.uses
+    FitsTable-with_uses c.self.inside.words c.self.inside.pages c.part_mut.result.now c.set_whole.new.uses
+    c.self.invariant lent c.set_whole.auto.uses
 
 pub returns : goal.returns
 returns c =
