@@ -1,5 +1,5 @@
 -- The table stays right where an object is made whose composite word is 0.
-use Rattle.std.proofs.Common.{◌≡◌, ◌≢◌, ⊎_elim, ℕ, ◌*◌, ◌/◌, ◌≤◌, true, Some, None, Option, refl, sym, ap, ◌∙◌}
+use Rattle.std.proofs.Common.{◌≡◌, ◌≢◌, ⊎_elim, ℕ, ◌/◌, true, Some, None, Option, refl, sym, ap, ◌∙◌}
 use Rattle.std.proofs.Common.{subst, arith}
 use Rattle.std.specs.Prelude.{slice_get, slice_set}
 use Rattle.std.proofs.lemmas.Bool.{cases_eq}
@@ -8,7 +8,7 @@ use Rattle.mm_model.proofs.Lists.Replaced.{get-set_same, get-set_other}
 use Rattle.mm_object.specs.Object.{StoredObject, StoredObjects}
 use Rattle.mm_object.specs.Heap.{Heap}
 use Rattle.mm_count.specs.Composite.{IsComposite, composite_in}
-use Rattle.mm_count.specs.Table.{Table, composite_of, IsEntry, IsSpelled, IsRight}
+use Rattle.mm_count.specs.Table.{Table, composite_of, IsSpelled, IsRight}
 use Rattle.mm_count.proofs.Composites.{clash}
 
 blank-composite : IsComposite (composite_in 0)

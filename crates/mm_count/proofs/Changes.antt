@@ -1,7 +1,7 @@
 -- What a composite that is written makes of the heap and of the table.
-use Rattle.std.proofs.Common.{◌≡◌, ◌≢◌, ℕ, ◌-◌, ◌<◌, ◌≤◌, Bool, true, false, cond, [], ◌∷◌, ◌++◌, length, Some, refl}
+use Rattle.std.proofs.Common.{◌≡◌, ◌≢◌, ℕ, ◌-◌, ◌<◌, ◌≤◌, Bool, true, false, [], ◌∷◌, ◌++◌, length, Some, refl}
 use Rattle.std.proofs.Common.{sym, ap, ◌∙◌, subst, arith}
-use Rattle.std.specs.Prelude.{slice_get, slice_index, ◌==◌, ◌&&◌, not}
+use Rattle.std.specs.Prelude.{slice_get, slice_index, ◌==◌}
 use Rattle.std.proofs.lemmas.Option.{slice_get_within, slice_get-get_or}
 use Rattle.mm_object.specs.Object.{StoredObject, StoredObjects}
 use Rattle.mm_object.specs.Heap.{Heap, with_object}
@@ -9,7 +9,7 @@ use Rattle.mm_count.specs.declared.composite.Composite.{Composite}
 use Rattle.mm_count.specs.Composite.{word_of, FitsWord, IsComposite}
 use Rattle.mm_count.specs.Table.{Table, with_entries, without_place, composite_of, IsCountedAt, IsEntry, IsRight}
 use Rattle.mm_count.specs.Counts.{composite_told, composite_at, raised, lowered, entered, left, with_pin, changed_at}
-use Rattle.mm_count.specs.Counts.{unplaced, without_places, table_left, table_raised, table_lowered}
+use Rattle.mm_count.specs.Counts.{unplaced, without_places}
 use Rattle.mm_count.specs.Kept.{gives, with_entry_word, HasGap}
 use Rattle.mm_count.proofs.Entries.{entry_at-begins, length-without_place}
 use Rattle.mm_count.proofs.Places.{gives-changed, kept-changed, gives-same}

@@ -1,11 +1,14 @@
--- How many counted slots hold a base once one object has changed.
-use Rattle.std.proofs.Common.{◌≡◌, ℕ, zero, suc, ◌+◌, ◌/◌, List, [], ◌∷◌, Option, Some, None, ap, arith}
+-- How many counted slots hold a base.
+use Rattle.std.proofs.Common.{◌≡◌, ◌≢◌, ℕ, zero, suc, ◌+◌, ◌/◌, List, [], ◌∷◌, Option, Some, None, cond, eqb-true, false}
+use Rattle.std.proofs.Common.{refl, ap, ◌∙◌, arith}
 use Rattle.std.specs.Prelude.{slice_get, slice_set, ◌==◌}
 use Rattle.std.specs.List.{sum_by, count_by}
 use Rattle.std.proofs.lemmas.List.Sums.{sum_by-cons}
 use Rattle.mm_model.specs.ByBase.{Begins, Based, with_entry, based_from, based}
 use Rattle.mm_model.specs.ObjectView.{ObjectView, ObjectsByBase, counted_words_of, references_in}
+use Rattle.mm_model.proofs.Lists.Keyed.{refuted}
 use Rattle.mm_model.proofs.Lists.KeyedSums.{count-flat_map}
+use Rattle.mm_model.proofs.View.Entries.{begins_at}
 use Rattle.mm_model.proofs.View.ReplacedEntries.{begins_get}
 
 module _ {X : Type 0} (g : X → ℕ) where
@@ -79,3 +82,33 @@ references-cleared objects base x begins b =
     let sums = sum-clear (λ (v : ObjectView). references_of v b) 0 objects (base / 16) x
     (begins_get objects base x begins) in
     omega arith
+
+-- none of the words is the base
+pub count-other : (words : List ℕ) (base : ℕ) → ((n word : ℕ) → slice_get words n ≡ Some word → word ≢ base)
+    → count_by (λ word. word == base) words ≡ 0
+count-other [] base other = refl
+count-other (word ∷ words) base other =
+    let first = sum_by-cons (λ w. cond (w == base) 1 0) word words in
+    let rest = count-other words base (λ n. other (suc n)) in
+    let apart : (word == base) ≡ false = refuted (word == base) (λ e. other 0 word refl (eqb-true word base e)) in
+    let one : ◌≡◌ {A = ℕ} (cond (word == base) 1 0) 0 = ap (λ b. cond b 1 0) apart in
+    omega (arith, first, one, rest)
+
+pub sum-zero : {X : Type 0} (f : X → ℕ) (xs : List X) → ((n : ℕ) (x : X) → slice_get xs n ≡ Some x → f x ≡ 0)
+    → sum_by f xs ≡ 0
+sum-zero f [] none = refl
+sum-zero f (x ∷ xs) none =
+    let first = sum_by-cons f x xs in
+    let rest = sum-zero f xs (λ n. none (suc n)) in
+    let here = none 0 x refl in
+    omega (arith, first, rest, here)
+
+-- none holds a base that no word of theirs is
+pub references-unnamed : (objects : ObjectsByBase) (base : ℕ)
+    → ((holder : ℕ) (object : ObjectView) → Begins objects holder object
+    → (s word : ℕ) → slice_get (counted_words_of object) s ≡ Some word → word ≢ base)
+    → references_in objects base ≡ 0
+references-unnamed objects base other =
+    references-sum objects base
+    ∙ sum-zero (λ (o : Based ObjectView). references_of o.value base) (based objects)
+    (λ n o is. count-other (counted_words_of o.value) base (other o.base o.value (begins_at objects n o is)))

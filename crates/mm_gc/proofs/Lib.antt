@@ -27,7 +27,7 @@ pub mod MadeObjects
 pub mod MadeWeak
 pub mod Marked
 pub mod Meaning
-pub mod Newborn
+pub mod Unheld
 pub mod Numbered
 pub mod Outlined
 pub mod Outlines

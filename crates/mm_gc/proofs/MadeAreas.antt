@@ -25,7 +25,8 @@ use Rattle.mm_gc.specs.Regions.{IsSameRegion}
 use Rattle.mm_gc.specs.Showing.{IsShowing}
 use Rattle.mm_gc.proofs.Births.{area-shows}
 use Rattle.mm_gc.proofs.Made.{keeps-objects}
-use Rattle.mm_gc.proofs.Newborn.{count-other, counted-zero}
+use Rattle.mm_count.proofs.References.{count-other}
+use Rattle.mm_count.proofs.Newborn.{counted-zero}
 use Rattle.mm_gc.proofs.Reaching.{place_in_reach-is}
 
 -- one more area adds what it has

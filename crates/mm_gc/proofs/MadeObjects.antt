@@ -38,8 +38,8 @@ use Rattle.mm_gc.specs.Showing.{IsShowing}
 use Rattle.mm_gc.proofs.Births.{object-shows}
 use Rattle.mm_gc.proofs.FewStale.{birth-black, none-seen, few-born}
 use Rattle.mm_gc.proofs.Made.{AreFlagged, settled-entered, freed-most, made, rooms-made, pieces-made}
-use Rattle.mm_gc.proofs.Newborn.{IsBlank, IsBornOr, born-or, views-born, counted-born, listed-born, unpinned-born}
-use Rattle.mm_gc.proofs.Newborn.{references-none, outside-none}
+use Rattle.mm_count.proofs.Newborn.{IsBlank, IsBornOr, born-or, views-born, counted-born, listed-born, unpinned-born}
+use Rattle.mm_gc.proofs.Unheld.{references-none, outside-none}
 use Rattle.mm_gc.proofs.Reaching.{place_in_reach-is}
 use Rattle.mm_gc.proofs.Shown.{showing-good}
 

@@ -49,8 +49,9 @@ use Rattle.mm_gc.proofs.Births.{weak-shows}
 use Rattle.mm_gc.proofs.FewStale.{birth-black, none-seen, few-born, few-recast}
 use Rattle.mm_gc.proofs.Made.{freed-most, made, rooms-made, pieces-made}
 use Rattle.mm_gc.proofs.MadeObjects.{birth_colour-not_gray, gray-born}
-use Rattle.mm_gc.proofs.Newborn.{IsBlank, IsBornOr, born-or, begins-still, views-born, counted-born, listed-born}
-use Rattle.mm_gc.proofs.Newborn.{unpinned-born, references-none, outside-none, listed-uncounted}
+use Rattle.mm_count.proofs.Newborn.{IsBlank, IsBornOr, born-or, begins-still, views-born, counted-born, listed-born}
+use Rattle.mm_count.proofs.Newborn.{unpinned-born, listed-uncounted}
+use Rattle.mm_gc.proofs.Unheld.{references-none, outside-none}
 use Rattle.mm_gc.proofs.Reaching.{place_in_reach-is}
 use Rattle.mm_gc.proofs.Shown.{showing-good}
 

@@ -3,7 +3,7 @@ use Rattle.mm_model.specs.declared.object.Kind.{Kind}
 use Rattle.mm_model.specs.declared.object.Kind.TheVariants.{Traced, Leaf, Weak}
 use Rattle.mm_model.specs.Object.{is_counted}
 use Rattle.mm_count.proofs.Null.{keeps-same}
-use Rattle.mm_gc.proofs.Newborn.{listed-uncounted}
+use Rattle.mm_count.proofs.Newborn.{listed-uncounted}
 use Rattle.mm_gc.proofs.search.enter_newborn.Goals as goal
 
 uncounted : (kind : Kind) → (kind ≡ Traced) ⊎ ((kind ≡ Leaf) ⊎ (kind ≡ Weak)) → is_counted kind ≡ false
