@@ -1,5 +1,4 @@
 pub mod Contained
-pub mod Counts
 pub mod Empty
 pub mod Ends
 pub mod FreeCells

@@ -1,5 +1,5 @@
 -- What stat tells is what the view has.
-use Rattle.std.proofs.Common.{◌≡◌, ℕ, ◌-◌, ◌*◌, [], length, sym, ap, ◌∙◌, subst}
+use Rattle.std.proofs.Common.{◌≡◌, ℕ, ◌-◌, ◌*◌, [], Bool, length, sym, ap, ◌∙◌, subst}
 use Rattle.std.specs.List.{count_by, fold, range_with_len}
 use Rattle.mm_model.specs.declared.command.Command.TheVariants as commands
 use Rattle.mm_model.specs.declared.reply.Reply.TheVariants as replies
@@ -8,7 +8,7 @@ use Rattle.mm_model.specs.Place.{page_end, is_vacant}
 use Rattle.mm_model.specs.View.{View}
 use Rattle.mm_model.specs.ViewEffect.{view_stat, view_free_pages}
 use Rattle.mm_model.specs.ViewWords.{view_region_pages, outside_references}
-use Rattle.mm_pages.specs.Pages.{is_free_page, count_below}
+use Rattle.mm_pages.specs.Pages.{Pages, TellsFreePages}
 use Rattle.mm_object.specs.Heap.{cells_in}
 use Rattle.mm_fixed.specs.Cells.{cells_of}
 use Rattle.mm_gc.specs.declared.region.Region.{Region}
@@ -16,10 +16,15 @@ use Rattle.mm_gc.specs.Gc.{Gc, areas_in, pieces_in, view_of_gc}
 use Rattle.mm_gc.specs.Kept.{KeepsGc}
 use Rattle.mm_gc.specs.Pieces.{IsRegion}
 use Rattle.mm_gc.specs.Rows.{Answers}
-use Rattle.mm_gc.proofs.Placing.Counts.{free_count}
+use Rattle.mm_gc.proofs.Placing.Vacant.{vacant_tells}
 use Rattle.mm_gc.proofs.Rows.Reading.{stat-row}
 use Rattle.mm_gc.proofs.Shown.{row-of}
 use Rattle.mm_gc.proofs.ZeroCount.{entries_are_zero_count}
+
+-- so many pages pass each test that tells which of them are free
+abbrev pub AreFreePages : Pages → ℕ → Type 0
+AreFreePages pages free =
+    (test : ℕ → Bool) → TellsFreePages pages test → free ≡ count_by test (range_with_len 1 (pages.limit - 1))
 
 -- the pages and pieces of a region make one
 abbrev pub IsShownRegion : Region → Type 0
@@ -35,10 +40,11 @@ module _ (gc : Gc) (keeps : KeepsGc gc) where
       keeps.settled.keeps.limit ∙ keeps.settled.size
       ∙ ap (λ (least : ℕ). fold page_end least (pieces_in gc.region)) keeps.rooms.least
 
-  free_are : IsShownRegion gc.region
-      → count_below (is_free_page gc.region.pages) gc.region.pages.pages ≡ view_free_pages view
-  free_are region =
-      free_count gc.region.pages (cells_in gc.region.heap) (cells_of gc.region.areas.fixed) (pieces_in gc.region) region
+  free_are : (free : ℕ) → IsShownRegion gc.region → AreFreePages gc.region.pages free → free ≡ view_free_pages view
+  free_are free region counted =
+      counted (λ page. is_vacant (pieces_in gc.region) (4096 * page) 4096)
+      (vacant_tells gc.region.pages (cells_in gc.region.heap) (cells_of gc.region.areas.fixed) (pieces_in gc.region)
+      region)
       ∙ ap
       (λ (pages : ℕ).
       count_by (λ page. is_vacant (pieces_in gc.region) (4096 * page) 4096) (range_with_len 1 (pages - 1)))
@@ -56,10 +62,10 @@ module _ (gc : Gc) (keeps : KeepsGc gc) where
 
   pub stat-answers : (listed areas free : ℕ) → IsShownRegion gc.region → listed ≡ length gc.table.entries
       → areas ≡ length (areas_in gc.region)
-      → free ≡ count_below (is_free_page gc.region.pages) gc.region.pages.pages
+      → AreFreePages gc.region.pages free
       → Answers gc gc commands.Stat
       (replies.Stat (record { objects = gc.born - gc.freed; zero = listed; areas = areas; free = free }))
   stat-answers listed areas free region entries numbers pages =
       subst (λ (stat : Stat). Answers gc gc commands.Stat (replies.Stat stat))
-      (sym (stat_is listed areas free entries numbers (pages ∙ free_are region)))
+      (sym (stat_is listed areas free entries numbers (free_are free region pages)))
       (row-of view view commands.Stat [] (replies.Stat (view_stat view)) (stat-row view))

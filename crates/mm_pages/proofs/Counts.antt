@@ -1,7 +1,10 @@
 -- How many pages pass a test.
 use Rattle.std.proofs.Common.{◌≡◌, ℕ, zero, suc, ◌+◌, ◌-◌, ◌<◌, ◌≤◌, Bool, true, false, if◌then◌else◌, arith, sym}
 use Rattle.std.proofs.Common.{◌∙◌, ap, refl, inl, inr, add-zero}
+use Rattle.std.proofs.Common.{cond}
 use Rattle.std.proofs.lemmas.Bool.{cases_Bool}
+use Rattle.std.proofs.lemmas.List.Sums.{sum_by-cons}
+use Rattle.std.specs.List.{count_by, range_with_len}
 use Rattle.mm_pages.specs.Free.{Marks, beyond, marked}
 use Rattle.mm_pages.specs.Pages.{count_below}
 use Rattle.mm_pages.proofs.Marks.{marked-in, marked-below, marked-above}
@@ -77,3 +80,18 @@ count_below-le a (suc n) = elim (cases_Bool (a n)) [
   | inl t ↦ omega (arith, ap (λ (x : Bool). (if x then 1 else 0) + count_below a n) t, count_below-le a n)
   | inr f ↦ omega (arith, ap (λ (x : Bool). (if x then 1 else 0) + count_below a n) f, count_below-le a n)
 ]
+
+-- the same of a list of pages
+pub count_by-range : (test : ℕ → Bool) (from n : ℕ)
+    → count_by test (range_with_len from n) ≡ count_below (beyond from test) n
+count_by-range test from zero = refl
+count_by-range test from (suc n) =
+    let step = sum_by-cons (λ x. cond (test x) 1 0) from (range_with_len (from + 1) n) in
+    let rest = count_by-range test (from + 1) n in
+    let next : 1 + n ≡ suc n = omega arith in
+    let split = count_below-add (beyond from test) 1 n in
+    let first : count_below (beyond from test) 1 ≡ cond (test from) 1 0 =
+    add-zero (cond (test (from + 0)) 1 0) ∙ ap (λ (i : ℕ). cond (test i) 1 0) (add-zero from) in
+    let behind = count_below-same (beyond 1 (beyond from test)) (beyond (from + 1) test) n
+    (λ i h. let place : from + (1 + i) ≡ from + 1 + i = omega arith in ap test place) in
+    step ∙ omega (arith, rest, first, behind, split) ∙ ap (count_below (beyond from test)) next

@@ -1,7 +1,8 @@
 -- What a page heap keeps true of its fields, as its calls change them.
 use Rattle.std.proofs.Common.{◌≡◌, ℕ, ◌+◌, ◌-◌, ◌*◌, ◌^◌, ◌<◌, ◌≤◌, ◌⊎◌, inl, inr, Bool, true, false, nat_lt, ◌&&◌}
 use Rattle.std.proofs.Common.{zero, suc, List, length, slice_index, set, replicate, arith, sym, ◌∙◌, ap, subst, refl}
-use Rattle.std.proofs.lemmas.Bool.{cases_lt, cases_eq, lt-ltb, le-ltb, and_left}
+use Rattle.std.proofs.lemmas.Bool.{cases_lt, cases_eq, lt-ltb, ltb-true, le-ltb, and_left, and_parts, and_from}
+use Rattle.std.specs.List.{count_by, range_with_len}
 use Rattle.std.proofs.lemmas.List.{length-set, get_or-set_same, get_or-set_other, get_or-replicate}
 use Rattle.std.proofs.lemmas.List.{length-replicate, get_or_past}
 use Rattle.mm_pages.specs.Free.{Marks, AllFree, IsFreeButFirst, LowestFit, Sums, beyond, marked}
@@ -10,13 +11,14 @@ use Rattle.mm_words.specs.Location.{Location}
 use Rattle.mm_pages.specs.Entries.{Entries, BeginsEmpty}
 use Rattle.mm_pages.specs.Pages.{Pages, Run, run_at, unused, is_free_page, count_below, IsFreePage, IsFreeRun}
 use Rattle.mm_pages.specs.Pages.{IsLowestRun, IsOut, IsUsed, IsHighestUsed, HasNoRun, EndsBy, IsSoundHeap}
+use Rattle.mm_pages.specs.Pages.{TellsFreePages}
 use Rattle.mm_pages.specs.Kept.{pages_of, KeepsTree}
 use Rattle.mm_pages.proofs.Joins.{clash}
 use Rattle.mm_pages.proofs.Trees.{Shows-same}
 use Rattle.mm_pages.proofs.Unused.{reached, used-to, used-from, unused-above, unused-off_zero, unused-from}
-use Rattle.mm_pages.proofs.Unused.{unused-ext, unused-taken, unused-given}
+use Rattle.mm_pages.proofs.Unused.{unused-ext, unused-taken, unused-given, not_true, same_tests}
 use Rattle.mm_pages.proofs.Counts.{count_below-same, count_below-all, count_below-none, count_below-add}
-use Rattle.mm_pages.proofs.Counts.{count_below-taken, count_below-given, count_below-le}
+use Rattle.mm_pages.proofs.Counts.{count_below-taken, count_below-given, count_below-le, count_below-split, count_by-range}
 use Rattle.mm_pages.proofs.Sound.{Changes, Clear, Clear-free, Clear-none, Clear-run, IsSoundHeap-changes, here_at}
 use Rattle.mm_pages.proofs.Sound.{others_at}
 
@@ -329,6 +331,35 @@ count_below-free e limit free kept =
     count_below-same (is_free_page v) (unused (run_at v)) limit
     (λ i h. ap (λ (b : Bool). b && unused (run_at v) i) (lt-ltb i limit h)) in
     omega (arith, kept.counted)
+
+-- the page heap's test says which pages are free
+is_free_page-IsFreePage : (v : Pages) (p : ℕ) → is_free_page v p ≡ true → IsFreePage v p
+is_free_page-IsFreePage v p e =
+    let both = and_parts (nat_lt p v.limit) (unused (run_at v) p) e in
+    IsFreePage-unused v p both.1 (ltb-true p v.limit both.0)
+
+IsFreePage-is_free_page : (v : Pages) (p : ℕ) → IsSoundHeap v → IsFreePage v p → is_free_page v p ≡ true
+IsFreePage-is_free_page v p s free =
+    and_from (nat_lt p v.limit) (unused (run_at v) p) (lt-ltb p v.limit free.below_limit) (unused-IsFreePage v p s free)
+
+-- so free pages are counted by any test that tells them
+pub count_by-free : (v : Pages) (test : ℕ → Bool) → IsSoundHeap v → TellsFreePages v test →
+    count_below (is_free_page v) v.pages ≡ count_by test (range_with_len 1 (v.limit - 1))
+count_by-free v test s tells =
+    let few : ℕ = v.limit - 1 in
+    let whole = count_below-split (is_free_page v) 1 few v.pages (omega (arith, s.two, s.limit)) in
+    let first : count_below (is_free_page v) 1 ≡ 0 = count_below-none (is_free_page v) 1
+    (λ i h. not_true (is_free_page v i) (λ e. omega (arith, (is_free_page-IsFreePage v i e).off_zero))) in
+    let last : count_below (beyond (1 + few) (is_free_page v)) (v.pages - (1 + few)) ≡ 0 =
+    count_below-none (beyond (1 + few) (is_free_page v)) (v.pages - (1 + few))
+    (λ i h. and_left (nat_lt (1 + few + i) v.limit) (unused (run_at v) (1 + few + i))
+    (le-ltb (1 + few + i) v.limit (omega (arith, s.two)))) in
+    let middle : count_below (beyond 1 (is_free_page v)) few ≡ count_below (beyond 1 test) few =
+    count_below-same (beyond 1 (is_free_page v)) (beyond 1 test) few (λ i h.
+    let iff = tells (1 + i) (omega arith) (omega (arith, s.two)) in
+    same_tests (is_free_page v (1 + i)) (test (1 + i)) (λ e. iff.1 (is_free_page-IsFreePage v (1 + i) e))
+    (λ e. IsFreePage-is_free_page v (1 + i) s (iff.0 e))) in
+    omega (arith, whole, first, last, middle, count_by-range test 1 few)
 
 -- a page that the tree shows as taken is used
 pub IsUsed-taken : (v : Pages) (p : ℕ) → IsSoundHeap v → unused (run_at v) p ≡ false → IsUsed v p

@@ -1,5 +1,5 @@
 use Rattle.std.specs.Prelude.{◌≡◌, ℕ, zero, suc, ◌+◌, ◌*◌, ◌^◌, ◌<◌, ◌≤◌, ◌⊎◌, Bool, false, ◌&&◌, ◌||◌, not, nat_lt}
-use Rattle.std.specs.Prelude.{if◌then◌else◌, List, length, replicate, slice_index, slice_set}
+use Rattle.std.specs.Prelude.{if◌then◌else◌, List, length, replicate, slice_index, slice_set, IsTrue, ◌↔◌}
 use Rattle.mm_words.specs.Location.{Location}
 use Rattle.mm_pages.specs.Free.{Marks}
 
@@ -56,6 +56,10 @@ pub record IsFreePage (v : Pages) (p : ℕ) : Type 0 where
   pub below_limit : p < v.limit
   pub not_out : ¬ Covers v.out p
   pub not_parked : ¬ Covers v.parked p
+
+-- the test tells of each page that may be free whether it is
+abbrev pub TellsFreePages : Pages → (ℕ → Bool) → Type 0
+TellsFreePages v test = (p : ℕ) → 0 < p → p < v.limit → IsTrue (test p) ↔ IsFreePage v p
 
 -- the k pages from page p on are free
 abbrev pub IsFreeRun : Pages → ℕ → ℕ → Type 0

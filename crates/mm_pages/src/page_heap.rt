@@ -1,10 +1,11 @@
 // The pages of a region: which are free, and the runs that are out or parked.
 ghost use Rattle.std.specs.Prelude.{◌≡◌, ◌↔◌, ℕ, ◌-◌, ◌*◌, ◌^◌, ◌<◌, ◌≤◌};
-ghost use Rattle.std.specs.Prelude.{length, slice_index, IfOk, OnErr, IsTrue};
+ghost use Rattle.std.specs.Prelude.{length, slice_index, IfOk, OnErr, IsTrue, Bool};
+ghost use Rattle.std.specs.List.{count_by, range_with_len};
 ghost use Rattle.mm_words.specs.Location.{location_of};
 ghost use Rattle.mm_pages.specs.Pages.{fresh, with_out, with_parked, run_of, is_free_page, count_below, table_size};
 ghost use Rattle.mm_pages.specs.Pages.{IsFreePage, IsFreeRun, IsLowestRun, IsOut, HasNoRun, IsHighestUsed};
-ghost use Rattle.mm_pages.specs.Pages.{EndsBy, IsSoundHeap, IsQuick};
+ghost use Rattle.mm_pages.specs.Pages.{EndsBy, IsSoundHeap, IsQuick, TellsFreePages};
 
 use crate::node::span_of;
 use crate::page_run::PageRun;
@@ -182,7 +183,9 @@ impl PageHeap {
 
     /// How many pages are free.
     pub fn free_pages(&self) -> u32
-        ensures { result ≡ count_below (is_free_page self.now) self.now.pages }
+        ensures value { result ≡ count_below (is_free_page self.now) self.now.pages }
+        ensures count { (test : ℕ → Bool) → TellsFreePages self.now test
+            → result ≡ count_by test (range_with_len 1 (self.now.limit - 1)) }
     {
         self.free - (self.table.span() - self.limit)
     }

@@ -14,7 +14,6 @@ use Rattle.mm_pages.specs.Pages.{Pages, IsSoundHeap}
 use Rattle.mm_pages.specs.Parked.{AreParked}
 use Rattle.mm_cells.specs.Cells.{Taken, Cells, Begins, IsSoundCells}
 use Rattle.mm_cells.specs.Placing.{IsFreeCell, IsPageOf}
-use Rattle.mm_cells.proofs.Sizes.Grains.{whole-div}
 use Rattle.mm_gc.specs.Pieces.{piece_in, ArePieces}
 use Rattle.mm_gc.proofs.Placing.Contained.{IsOccupied, some_passes, any-contained, vacant-none, vacant-from}
 use Rattle.mm_gc.proofs.Placing.Contained.{apart-contained, piece-inside, piece-some}
@@ -138,7 +137,8 @@ module _ (pages : Pages) (pieces : List Piece) (heap : IsSoundHeap pages) (place
           elim inside.placed [
             | inl cell ↦
                 let grid : p.base % 4096 % extent ≡ 0 = ap (λ (n : ℕ). p.base % 4096 % n) (sym same) ∙ cell.grid in
-                let offset = whole-div (p.base % 4096) extent grid in
+                let offset : p.base % 4096 ≡ p.base % 4096 / extent * extent =
+                omega (arith, grid, div-add-mod' (p.base % 4096) extent) in
                 record {
                   number = p.base % 4096 / extent;
                   at = omega (arith, offset);

@@ -4,7 +4,7 @@ use Rattle.std.proofs.lemmas.Bool.{cases_lt, cases_eq}
 use Rattle.std.specs.Prelude.{◌↔◌}
 use Rattle.mm_model.specs.Place.{Family, Objects, Areas, Piece, is_vacant}
 use Rattle.mm_pages.specs.Pages as heaps
-use Rattle.mm_pages.specs.Pages.{Pages, IsFreePage, IsFreeRun}
+use Rattle.mm_pages.specs.Pages.{Pages, IsFreePage, IsFreeRun, TellsFreePages}
 use Rattle.mm_pages.specs.Parked.{AreParked}
 use Rattle.mm_cells.specs.Cells.{Cells, IsSoundCells}
 use Rattle.mm_gc.specs.Pieces.{piece_in, ArePieces, IsRegion}
@@ -85,6 +85,11 @@ module _ (pages : Pages) (objects blocks : Cells) (pieces : List Piece)
           not_parked = λ c. vacant-none pieces (4096 * p) 4096 h.2 (occupied-covers p c);
         },
   )
+
+  pub vacant_tells : TellsFreePages pages (λ page. is_vacant pieces (4096 * page) 4096)
+  vacant_tells p some below =
+      let iff = free_is_vacant p in
+      ((λ vacant. iff.1 (some, below, vacant)), (λ free. (iff.0 free).2))
 
   -- where a piece lies among whole pages, it lies in one of them
   page-occupied : (page count : ℕ) (o : IsOccupied pieces (4096 * page) (4096 * count)) → 0 < count

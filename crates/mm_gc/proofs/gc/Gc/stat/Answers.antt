@@ -22,5 +22,5 @@ returns c =
           c.self.view_is
           (stat-answers gc c.self.invariant c.len.result c.live.result c.free_pages.result
           (region-shown gc.region c.self.invariant.settled.keeps) c.len.ensures
-          (c.live.ensures.views gc.region.heap.raw) c.free_pages.ensures);
+          (c.live.ensures.views gc.region.heap.raw) c.free_pages.ensures.count);
     }
