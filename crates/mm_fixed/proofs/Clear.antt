@@ -14,7 +14,6 @@ use Rattle.mm_pages.specs.Parked.{AreParked, HaveNoCommonRun}
 use Rattle.mm_cells.specs.Cells.{Cells, IsSoundCells}
 use Rattle.mm_cells.specs.Placing.{IsFreeCell, IsFreePages, IsPlaceFor, run_length, LeavesPage, Page_stays, Page_goes}
 use Rattle.mm_cells.specs.Sizes.{IsSize}
-use Rattle.mm_cells.proofs.Region.Places.{run-some}
 
 zero_unless : (n : ℕ) → (0 < n → ⊥) → n ≡ 0
 zero_unless zero h = refl
@@ -47,7 +46,7 @@ page-clear v extent base runs sound free clear =
       | inr whole ↦ omega (arith, whole.some, of.same)
     ] in
     let page : base / 4096 ≡ free.page = omega (arith, free.at, free.whole, some) in
-    ap (slice_index runs) (page ∙ sym of.inside) ∙ clear (of.base / 4096) (run-some v of.base of.cell sound of.begins)
+    ap (slice_index runs) (page ∙ sym of.inside) ∙ clear (of.base / 4096) (sound.has_run of.base of.cell of.begins)
 
 place-clear : (v : Cells) (heap : heaps.Pages) (size : Size) (base : ℕ) (runs : List ℕ) → IsSoundCells v →
     0 < run_length size → IsPlaceFor v heap size (Some base) → AreParked runs heap → HaveNoCommonRun v.runs runs →

@@ -126,6 +126,7 @@ impl Fixed {
         requires parked { AreParked self.old.runs pages.old }
         ensures gone { self.new ≡ record (with_block self.old block.base None) { runs = self.new.runs } }
         ensures page { LeavesPage (cells_of self.old) (cells_of self.new) pages.old (block.base / 4096) pages.new }
+        ensures pages_rest { pages.new ≡ record pages.old { parked = pages.new.parked } }
         ensures parked { AreParked self.new.runs pages.new }
         ensures others { (runs : List ℕ) → HaveNoCommonRun self.old.runs runs → AreParked runs pages.old
             → AreParked runs pages.new }

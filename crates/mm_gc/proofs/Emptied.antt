@@ -9,8 +9,6 @@ use Rattle.mm_model.specs.ByBase.{with_entry}
 use Rattle.mm_pages.specs.Pages.{Pages, HasNoRun}
 use Rattle.mm_pages.specs.Parked.{AreParked, AreAllParked}
 use Rattle.mm_cells.specs.Cells.{Cells, IsNextTaken, NoneTakenFrom, HasNoCell}
-use Rattle.mm_cells.specs.Placing.{LeavesPage, Page_stays, Page_goes}
-use Rattle.mm_cells.proofs.Region.Places.{run-some}
 use Rattle.mm_object.specs.Object.{StoredObject, StoredObjects}
 use Rattle.mm_object.specs.Heap.{Heap, IsSound, FitsHeap, cell_of, cells_in}
 use Rattle.mm_sweep.proofs.Erased.{IsLeft, left-begins}
@@ -22,12 +20,6 @@ use Rattle.mm_roots.specs.Areas.{Areas, HasNoArea, OwnsAll, IsSoundAreas, Remove
 use Rattle.mm_gc.specs.Emptied.{HasNoneBelow, HasPassed, AreParkedBeside, IsUnparked, AreInPlace}
 use Rattle.mm_gc.proofs.Placing.Pieces.{object-cell, cell-object}
 use Rattle.mm_gc.proofs.Placing.Empty.{no_run}
-
--- a page that is left changes nothing but what is parked
-pub left-unparked : (before after : Cells) (heap : Pages) (page : ℕ) (left : Pages)
-    → LeavesPage before after heap page left → IsUnparked heap left
-left-unparked before after heap page left (Page_stays base cell begins inside same) = refl
-left-unparked before after heap page left (Page_goes none gone) = refl
 
 pub unparked-again : (before now after : Pages) → IsUnparked before now → IsUnparked now after
     → IsUnparked before after
@@ -92,8 +84,7 @@ module _ (before after : Heap) (from base : ℕ) (found : IsNextObject before fr
       → ((runs : List ℕ) → AreAllParked before.runs runs pages → AreAllParked after.runs runs left)
       → FitsHeap after left → AreParkedBeside others before pages → AreParkedBeside others after left
   parked-still pages left others stays all fits was =
-      let run = run-some (cells_in before) base (cell_of found.object) sound.cells
-      (object-cell before base found.object found.begins) in
+      let run = sound.cells.has_run base (cell_of found.object) (object-cell before base found.object found.begins) in
       record {
         fits = fits;
         others_parked = stays others
@@ -102,48 +93,32 @@ module _ (before after : Heap) (from base : ℕ) (found : IsNextObject before fr
         all_parked = all others was.all_parked;
       }
 
--- nothing but blocks and what is parked changes where an area is removed, if there is one
-pub record IsRemoved (old new : Areas) (pages left : Pages) : Type 0 where
-  pub unparked : IsUnparked pages left
-  pub place : AreInPlace old new
-
-module _ (old new : Areas) (pages left : Pages) (a : ℕ) where
-  removed-none : (new ≡ old) × (left ≡ pages) → IsRemoved old new pages left
-  removed-none same =
-      record {
-        unparked = same.1 ∙ ap (λ (v : Pages). record pages { parked = v.parked }) (sym same.1);
-        place = record {
-          table = ap (λ (v : Areas). v.table) same.0;
-          fixed = ap (λ (v : Areas). v.fixed.table) same.0;
-        };
-      }
-
+-- An area is removed, if there is one: tables stay where they are.
+module _ (old new : Areas) (a : ℕ) where
   removed-area : (area : AreaShape) → new ≡ with_area (over new.fixed old) a None
       → new.fixed ≡ record (with_block old.fixed area.base None) { runs = new.fixed.runs }
-      → LeavesPage (cells_of old.fixed) (cells_of new.fixed) pages (area.base / 4096) left
-      → IsRemoved old new pages left
-  removed-area area is block page =
+      → AreInPlace old new
+  removed-area area is block =
       record {
-        unparked = left-unparked (cells_of old.fixed) (cells_of new.fixed) pages (area.base / 4096) left page;
-        place = record {
-          table = ap (λ (v : Areas). v.table) is;
-          fixed = ap (λ (v : Fixed). v.table) block;
-        };
+        table = ap (λ (v : Areas). v.table) is;
+        fixed = ap (λ (v : Fixed). v.table) block;
       }
 
-  pub removed : (result : Result Unit AreaRefusal) → RemoveCause old a result
+  pub in-place-removed : (pages left : Pages) (result : Result Unit AreaRefusal) → RemoveCause old a result
       → IfOk result (λ _. new ≡ with_area (over new.fixed old) a None)
       → IfOk result (λ _. (area : AreaShape) → area_at old a ≡ Some area
       → new.fixed ≡ record (with_block old.fixed area.base None) { runs = new.fixed.runs })
-      → IfOk result (λ _. (area : AreaShape) → area_at old a ≡ Some area
-      → LeavesPage (cells_of old.fixed) (cells_of new.fixed) pages (area.base / 4096) left)
-      → OnErr result ((new ≡ old) × (left ≡ pages)) → IsRemoved old new pages left
-  removed (Ok done) lives is block page same = split (area_at old a) refl
+      → OnErr result ((new ≡ old) × (left ≡ pages)) → AreInPlace old new
+  in-place-removed pages left (Ok done) lives is block same = split (area_at old a) refl
     where
-      split : (found : Option AreaShape) → area_at old a ≡ found → IsRemoved old new pages left
+      split : (found : Option AreaShape) → area_at old a ≡ found → AreInPlace old new
       split None none = absurd (lives none)
-      split (Some area) found = removed-area area is (block area found) (page area found)
-  removed (Err refused) cause is block page same = removed-none same
+      split (Some area) found = removed-area area is (block area found)
+  in-place-removed pages left (Err refused) cause is block same =
+      record {
+        table = ap (λ (v : Areas). v.table) same.0;
+        fixed = ap (λ (v : Areas). v.fixed.table) same.0;
+      }
 
 pub in-place-again : (old now new : Areas) → AreInPlace old now → AreInPlace now new → AreInPlace old new
 in-place-again old now new first second =

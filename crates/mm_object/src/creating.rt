@@ -99,6 +99,7 @@ impl Heap {
           raw = self.new.raw;
         } }
         ensures page { LeavesPage (cells_in self.old) (cells_in self.new) pages.old (base / 4096) pages.new }
+        ensures pages_rest { pages.new ≡ record pages.old { parked = pages.new.parked } }
         ensures raw { (object : StoredObject) → Begins self.old.objects base object
             → LeavesWords self.old.raw self.new.raw base object.extent }
         ensures fits { FitsHeap self.new pages.new }

@@ -3,11 +3,9 @@ use Rattle.std.proofs.Common.{◌≡◌, ℕ, ◌+◌, ◌-◌, ◌*◌, ◌/◌
 use Rattle.std.proofs.Common.{arith}
 use Rattle.std.specs.Prelude.{slice_get}
 use Rattle.std.proofs.lemmas.Bool.{cases_lt}
-use Rattle.mm_model.specs.ByBase.{Begins}
 use Rattle.mm_pages.specs.Pages.{Pages, IsSoundHeap}
 use Rattle.mm_pages.specs.Parked.{AreParked, HaveNoCommonRun}
-use Rattle.mm_object.specs.Object.{StoredObject}
-use Rattle.mm_object.specs.Heap.{Heap, IsSound, FitsHeap, TakesWords, LeavesWords}
+use Rattle.mm_object.specs.Heap.{Heap, IsSound, FitsHeap, TakesWords}
 use Rattle.mm_roots.specs.Areas.{Areas, IsSoundAreas, IsBeside}
 use Rattle.mm_roots.specs.Views.{views_of_areas}
 use Rattle.mm_roots.proofs.Blocks.{ShareNoPage-parked, parked-within}

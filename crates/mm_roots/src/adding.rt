@@ -71,6 +71,7 @@ fn free_block<L: Ledger>(fixed: &mut Fixed, pages: &mut PageHeap, base: u32, ste
     requires parked { AreParked fixed.old.runs pages.old }
     ensures gone { fixed.new ≡ record (with_block fixed.old base None) { runs = fixed.new.runs } }
     ensures page { LeavesPage (cells_of fixed.old) (cells_of fixed.new) pages.old (base / 4096) pages.new }
+    ensures pages_rest { pages.new ≡ record pages.old { parked = pages.new.parked } }
     ensures parked { AreParked fixed.new.runs pages.new }
     ensures others { (runs : List ℕ) → HaveNoCommonRun fixed.old.runs runs → AreParked runs pages.old
         → AreParked runs pages.new }
@@ -170,6 +171,7 @@ impl Areas {
             record (with_block self.old.fixed area.base None) { runs = self.new.fixed.runs }) }
         ensures page { IfOk result (λ _. (area : AreaShape) → area_at self.old a ≡ Some area →
             LeavesPage (cells_of self.old.fixed) (cells_of self.new.fixed) pages.old (area.base / 4096) pages.new) }
+        ensures pages_rest { pages.new ≡ record pages.old { parked = pages.new.parked } }
         ensures views { IfOk result (λ _. (raw : List (Option ℕ)) → views_of_areas self.new raw ≡
             filter (λ area. not (area.number == a)) (views_of_areas self.old raw)) }
         ensures unchanged { OnErr result ((self.new ≡ self.old) × (pages.new ≡ pages.old)) }

@@ -16,7 +16,6 @@ use Rattle.mm_pages.specs.Pages.{Pages, IsSoundHeap, run_at}
 use Rattle.mm_pages.specs.Parked.{AreParked, AreAllParked}
 use Rattle.mm_cells.specs.Cells as cells
 use Rattle.mm_cells.specs.Cells.{Cells, IsSoundCells}
-use Rattle.mm_cells.proofs.Region.Places.{run-some}
 use Rattle.mm_gc.specs.Pieces.{ArePieces, IsRegion}
 use Rattle.mm_gc.proofs.Placing.Contained.{each-contained}
 
@@ -117,7 +116,7 @@ module _ (pages : Pages) (pieces : List Piece) (heap : IsSoundHeap pages)
     lies : (p : Piece) → Contains pieces p → p.family ≡ family → LiesInRun pages v p
     lies p within same =
         let has = are.back p within same in
-        let some = run-some v p.base has.cell sound has.begins in
+        let some = sound.has_run p.base has.cell has.begins in
         record {
           some = some;
           is = omega (arith, none_out (p.base / 4096), parked.parked (p.base / 4096) some);

@@ -1,7 +1,6 @@
-use Rattle.std.proofs.Common.{◌/◌, subst}
+use Rattle.std.proofs.Common.{subst}
 use Rattle.mm_cells.specs.Cells.{Cells, NoneTakenFrom}
-use Rattle.mm_object.specs.Heap.{cells_in}
-use Rattle.mm_gc.proofs.Emptied.{left-unparked, none-below, next-object, passed, parked-still}
+use Rattle.mm_gc.proofs.Emptied.{none-below, next-object, passed, parked-still}
 use Rattle.mm_gc.proofs.closing.erase_next.Goals as goal
 
 pub returns-in-None-clause-passed : goal.returns-in-None-clause-passed
@@ -28,8 +27,3 @@ returns-clause-parked g c = λ others.
     c.in-Some.ensures.base in
     parked-still c.args.heap.now c.erase.new.self c.args.from c.in-Some.base found c.cells.ensures.sound
     c.args.pages.now c.erase.new.pages others c.erase.ensures.others c.erase.ensures.all_parked c.erase.ensures.fits
-
-pub returns-clause-pages : goal.returns-clause-pages
-returns-clause-pages g c =
-    left-unparked (cells_in c.args.heap.now) (cells_in c.erase.new.self) c.args.pages.now (c.in-Some.base / 4096)
-    c.erase.new.pages c.erase.ensures.page

@@ -6,7 +6,6 @@ use Rattle.mm_pages.specs.Parked.{HaveNoCommonRun, AreAllParked}
 use Rattle.mm_fixed.specs.Fixed.{Fixed, OutBlock, block_out, with_block}
 use Rattle.mm_fixed.specs.Cells.{cells_of}
 use Rattle.mm_fixed.specs.Kept.{fixed_of}
-use Rattle.mm_cells.proofs.Region.Places.{run-some}
 use Rattle.mm_fixed.proofs.Clear.{left-clear}
 use Rattle.mm_fixed.proofs.Kept.{keeps, taken-kept, gone-kept, page-kept, sound-shown}
 use Rattle.mm_fixed.proofs.Shown.{kept-shown, shown-kept}
@@ -56,7 +55,7 @@ returns-clause-others g c = λ runs clear parked.
     (subst (λ (b : ℕ). Begins c.args.self.now.blocks b (block_out c.args.block.extent)) base c.requires.out.begins) in
     c.release.ensures.others runs
     (own (c.block.inside.base / 4096)
-    (run-some c.self.inside.cells c.block.inside.base _ c.self.invariant.sound begins)) parked
+    (c.self.invariant.sound.has_run c.block.inside.base _ begins)) parked
 
 pub returns-clause-apart : goal.returns-clause-apart
 returns-clause-apart g c = λ runs clear.

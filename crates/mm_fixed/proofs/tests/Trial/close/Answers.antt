@@ -1,6 +1,5 @@
 -- No page above page 0 is used.
-use Rattle.std.proofs.Common.{◌-◌, arith}
-use Rattle.mm_cells.proofs.Region.Empty.{HasNoRun-unused}
+use Rattle.std.proofs.Common.{arith}
 use Rattle.mm_fixed.proofs.Left.{HasNoBlock-unused}
 use Rattle.mm_fixed.proofs.tests.Trial.close.Goals as goal
 
@@ -12,10 +11,8 @@ close-requires g c = λ base cell begins.
 pub close-requires-in-None : goal.close-requires-in-None
 close-requires-in-None g c =
     HasNoBlock-unused c.args.self.fixed c.args.self.heap c.args.self.in_runs c.args.self.fixed_parked
-    (HasNoRun-unused c.args.self.heap (c.top.result - 1) c.top.ensures.sound c.top.ensures.highest
-    (omega (arith, c.if-top-ne1.false)))
+    (c.top.ensures.none (omega (arith, c.if-top-ne1.false)))
 
 pub close-requires-in-None-2 : goal.close-requires-in-None-2
 close-requires-in-None-2 g c =
-    HasNoRun-unused c.args.self.heap (c.top.result - 1) c.top.ensures.sound c.top.ensures.highest
-    (omega (arith, c.if-top-ne1.false))
+    c.top.ensures.none (omega (arith, c.if-top-ne1.false))

@@ -1,7 +1,7 @@
 -- The tables stay where they are, and the other blocks that are out stay out.
 use Rattle.std.proofs.Common.{◌≡◌, ap, arith, ◌∙◌}
 use Rattle.mm_words.specs.Location.{Location}
-use Rattle.mm_cells.proofs.Region.Empty.{table-left}
+use Rattle.mm_pages.specs.Pages.{Pages}
 use Rattle.mm_fixed.specs.Fixed.{Fixed}
 use Rattle.mm_fixed.proofs.Left.{run-block, freed-beside, AreAllParked-swap, HaveNoCommonRun-all}
 use Rattle.mm_fixed.proofs.tests.Trial.free.Goals as goal
@@ -9,7 +9,7 @@ use Rattle.mm_fixed.proofs.tests.Trial.free.Goals as goal
 pub invariant_of-self : goal.invariant_of-self
 invariant_of-self g c =
     let heap : c.free.new.pages.table ≡ c.args.self.now.heap.table =
-    table-left _ _ _ _ _ c.free.ensures.page in
+    ap (λ (p : Pages). p.table) c.free.ensures.pages_rest in
     let fixed = ap (λ (v : Fixed). v.table) c.free.ensures.gone in
     let all = AreAllParked-swap c.args.self.now.cells.runs c.args.self.now.fixed.runs c.args.self.now.heap
     c.args.self.now.all_parked in

@@ -1,9 +1,8 @@
 -- The tables stay where they are, and the page of a cell has no block.
 use Rattle.std.proofs.Common.{◌≡◌, ◌/◌, ap, arith, subst, ◌∙◌}
 use Rattle.mm_words.specs.Location.{Location}
+use Rattle.mm_pages.specs.Pages.{Pages}
 use Rattle.mm_cells.specs.Cells.{Cells, Begins}
-use Rattle.mm_cells.proofs.Region.Empty.{table-left}
-use Rattle.mm_cells.proofs.Region.Places.{run-some}
 use Rattle.mm_fixed.proofs.Left.{HaveNoCommonRun-all}
 use Rattle.mm_fixed.proofs.tests.Trial.release.Goals as goal
 
@@ -12,7 +11,7 @@ invariant_of-self g c =
     let found = c.in-Some.ensures.cell in
     let begins = subst (λ b. Begins c.args.self.now.cells b found.0) c.if-cell-base.true found.1.begins in
     let heap : c.release.new.pages.table ≡ c.args.self.now.heap.table =
-    table-left _ _ _ _ _ c.release.ensures.page in
+    ap (λ (p : Pages). p.table) c.release.ensures.rest in
     let cells = ap (λ (v : Cells). v.table) c.release.ensures.gone in
     let clear = HaveNoCommonRun-all c.args.self.now.cells.runs c.args.self.now.fixed.runs c.args.self.now.heap
     c.args.self.now.cells_parked c.args.self.now.all_parked in
@@ -21,7 +20,7 @@ invariant_of-self g c =
       cells_parked = c.release.ensures.parked;
       fixed_parked = c.release.ensures.others c.args.self.now.fixed.runs
           (clear (c.args.base / 4096)
-          (run-some c.args.self.now.cells c.args.base found.0 c.resolve.ensures.sound begins))
+          (c.resolve.ensures.sound.has_run c.args.base found.0 begins))
           c.args.self.now.fixed_parked;
       all_parked = c.release.ensures.all_parked c.args.self.now.fixed.runs c.args.self.now.all_parked;
       heap_own = ap (λ (p : Location). p.arena) heap ∙ c.args.self.now.heap_own;

@@ -2,7 +2,6 @@
 use Rattle.std.proofs.Common.{◌-◌, arith, subst}
 use Rattle.mm_model.specs.ByBase.{Begins}
 use Rattle.mm_fixed.specs.Fixed.{Fixed}
-use Rattle.mm_cells.proofs.Region.Empty.{HasNoRun-unused}
 use Rattle.mm_mark.proofs.tests.Trial.close.Goals as goal
 
 pub close-requires : goal.close-requires
@@ -17,5 +16,4 @@ close-requires-in-None g c = λ base block begins.
 
 pub close-requires-in-None-4 : goal.close-requires-in-None-4
 close-requires-in-None-4 g c =
-    HasNoRun-unused c.args.self.pages (c.top.result - 1) c.top.ensures.sound c.top.ensures.highest
-    (omega (arith, c.if-top-ne1.false))
+    c.top.ensures.none (omega (arith, c.if-top-ne1.false))

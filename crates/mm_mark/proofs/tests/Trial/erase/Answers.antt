@@ -1,7 +1,7 @@
 -- What the heap and the page heap stand on lies where it did.
 use Rattle.std.proofs.Common.{◌≡◌, Bool, true, false, ap, ◌∙◌, arith}
 use Rattle.mm_words.specs.Location.{Location}
-use Rattle.mm_cells.proofs.Region.Empty.{table-left}
+use Rattle.mm_pages.specs.Pages.{Pages}
 use Rattle.mm_object.specs.Heap.{Heap}
 use Rattle.mm_mark.proofs.tests.Trial.erase.Goals as goal
 
@@ -11,7 +11,7 @@ no-cycle told running same idle runs = cc
 pub invariant_of-self : goal.invariant_of-self
 invariant_of-self g c =
     let self = c.args.self.now in
-    let pages : c.erase.new.pages.table ≡ self.pages.table = table-left _ _ _ _ _ c.erase.ensures.page in
+    let pages : c.erase.new.pages.table ≡ self.pages.table = ap (λ (p : Pages). p.table) c.erase.ensures.pages_rest in
     let table : c.erase.new.self.table ≡ self.heap.table = ap (λ (h : Heap). h.table) c.erase.ensures.erased in
     let memory : c.erase.new.self.memory ≡ self.heap.memory = ap (λ (h : Heap). h.memory) c.erase.ensures.erased in
     record {

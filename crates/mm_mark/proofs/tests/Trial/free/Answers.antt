@@ -8,7 +8,7 @@ use Rattle.mm_model.specs.ObjectView.{ObjectView, ObjectsByBase, scanned_words_o
 use Rattle.mm_model.specs.View.{PartlyScannedView}
 use Rattle.mm_model.proofs.View.Entries.{begins_same}
 use Rattle.mm_words.specs.Location.{Location}
-use Rattle.mm_cells.proofs.Region.Empty.{table-left}
+use Rattle.mm_pages.specs.Pages.{Pages}
 use Rattle.mm_object.specs.Object.{StoredObjects, views_of}
 use Rattle.mm_object.specs.Heap.{Heap}
 use Rattle.mm_mark.specs.Marker.{Marker, IsUnderScan}
@@ -100,7 +100,7 @@ forget_freed-requires-clause-partly g c =
 pub invariant_of-self : goal.invariant_of-self
 invariant_of-self g c =
     let self = c.args.self.now in
-    let pages : c.erase.new.pages.table ≡ self.pages.table = table-left _ _ _ _ _ c.erase.ensures.page in
+    let pages : c.erase.new.pages.table ≡ self.pages.table = ap (λ (p : Pages). p.table) c.erase.ensures.pages_rest in
     let table : c.erase.new.self.table ≡ self.heap.table = ap (λ (h : Heap). h.table) c.erase.ensures.erased in
     let memory : c.erase.new.self.memory ≡ self.heap.memory = ap (λ (h : Heap). h.memory) c.erase.ensures.erased in
     let queue = same-queue self.marker c.forget_freed.new.self (views_of c.erase.new.self.objects)

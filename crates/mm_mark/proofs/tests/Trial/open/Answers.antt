@@ -7,7 +7,6 @@ use Rattle.mm_words.specs.Piece.{Piece}
 use Rattle.mm_pages.specs.Pages.{Pages}
 use Rattle.mm_pages.specs.Parked.{AreParked}
 use Rattle.mm_cells.specs.Cells.{Cells}
-use Rattle.mm_cells.proofs.Region.Places.{run-some}
 use Rattle.mm_object.specs.Heap.{Heap}
 use Rattle.mm_fixed.specs.Fixed.{Fixed, HasNoBlock}
 use Rattle.mm_fixed.proofs.Left.{index-zeros}
@@ -25,11 +24,7 @@ no-cycle : (marker : Marker) → marker.running ≡ false → marker.running ≡
 no-cycle marker idle runs = cc
 
 pub make-requires-4-clause-empty : goal.make-requires-4-clause-empty
-make-requires-4-clause-empty c = λ base cell begins.
-    let some = run-some c.make-3.result base cell c.make-3.ensures.sound begins in
-    let runs = ap (λ (v : Cells). slice_index v.runs (base / 4096)) c.make-3.ensures.value in
-    let none = index-zeros 4 (base / 4096) in
-    absurd (omega (arith, some, runs, none))
+make-requires-4-clause-empty c = c.make-3.ensures.empty
 
 pub invariant_of-result-clause-fits : goal.invariant_of-result-clause-fits
 invariant_of-result-clause-fits c =

@@ -1,6 +1,5 @@
 -- No cell is taken at 0 or above, and no page above page 0 is used.
 use Rattle.std.proofs.Common.{◌-◌, arith}
-use Rattle.mm_cells.proofs.Region.Empty.{HasNoRun-unused}
 use Rattle.mm_weak.proofs.tests.Trial.close.Goals as goal
 
 pub close-requires : goal.close-requires
@@ -10,5 +9,4 @@ close-requires g c = λ base cell begins.
 
 pub close-requires-in-None : goal.close-requires-in-None
 close-requires-in-None g c =
-    HasNoRun-unused c.args.self.pages (c.top.result - 1) c.top.ensures.sound c.top.ensures.highest
-    (omega (arith, c.if-top-ne1.false))
+    c.top.ensures.none (omega (arith, c.if-top-ne1.false))

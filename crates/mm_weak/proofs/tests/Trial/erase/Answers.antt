@@ -1,14 +1,14 @@
 -- The tables and the memory stay where they are.
 use Rattle.std.proofs.Common.{◌≡◌, ap, arith, ◌∙◌}
 use Rattle.mm_words.specs.Location.{Location}
-use Rattle.mm_cells.proofs.Region.Empty.{table-left}
+use Rattle.mm_pages.specs.Pages.{Pages}
 use Rattle.mm_object.specs.Heap.{Heap}
 use Rattle.mm_weak.proofs.tests.Trial.erase.Goals as goal
 
 pub invariant_of-self : goal.invariant_of-self
 invariant_of-self g c =
     let pages : c.erase.new.pages.table ≡ c.args.self.now.pages.table =
-    table-left _ _ _ _ _ c.erase.ensures.page in
+    ap (λ (p : Pages). p.table) c.erase.ensures.pages_rest in
     let table = ap (λ (h : Heap). h.table) c.erase.ensures.erased in
     let memory = ap (λ (h : Heap). h.memory) c.erase.ensures.erased in
     record {

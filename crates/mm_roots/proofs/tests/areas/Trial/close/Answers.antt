@@ -4,7 +4,6 @@ use Rattle.std.specs.Prelude.{Option, Some, None}
 use Rattle.mm_pages.specs.Pages.{Pages, HasNoRun}
 use Rattle.mm_pages.specs.Parked.{AreParked}
 use Rattle.mm_cells.specs.Cells as cells
-use Rattle.mm_cells.proofs.Region.Empty.{HasNoRun-unused}
 use Rattle.mm_fixed.specs.Fixed.{Fixed, HasNoBlock, IsSoundFixed, block_parked}
 use Rattle.mm_fixed.proofs.Left.{run-block, HasNoBlock-unused}
 use Rattle.mm_roots.specs.declared.area_shape.AreaShape.{AreaShape}
@@ -27,16 +26,14 @@ no-area a sound clear = λ number.
 pub close-table-requires : goal.close-table-requires
 close-table-requires g c =
     let self = c.args.self in
-    let none = HasNoRun-unused self.pages (c.top.result - 1) c.top.ensures.sound c.top.ensures.highest
-    (omega (arith, c.if-top-ne1.false)) in
+    let none = c.top.ensures.none (omega (arith, c.if-top-ne1.false)) in
     no-area self.areas c.live.ensures.sound
     (no-block self.areas.fixed self.pages c.live.ensures.sound.fixed self.parked none)
 
 pub close-requires : goal.close-requires
 close-requires g c =
     let self = c.args.self in
-    let none = HasNoRun-unused self.pages (c.top.result - 1) c.top.ensures.sound c.top.ensures.highest
-    (omega (arith, c.if-top-ne1.false)) in
+    let none = c.top.ensures.none (omega (arith, c.if-top-ne1.false)) in
     subst HasNoBlock (sym c.close-table.ensures.fixed)
     (no-block self.areas.fixed self.pages c.live.ensures.sound.fixed self.parked none)
 
@@ -49,5 +46,4 @@ close-requires-in-None g c = λ base cell begins.
 
 pub close-requires-in-None-2 : goal.close-requires-in-None-2
 close-requires-in-None-2 g c =
-    HasNoRun-unused c.args.self.pages (c.top.result - 1) c.top.ensures.sound c.top.ensures.highest
-    (omega (arith, c.if-top-ne1.false))
+    c.top.ensures.none (omega (arith, c.if-top-ne1.false))

@@ -7,7 +7,6 @@ use Rattle.mm_words.specs.Arena.{Arena}
 use Rattle.mm_pages.specs.Pages.{Pages}
 use Rattle.mm_pages.specs.Parked.{AreParked}
 use Rattle.mm_cells.specs.Cells.{Cells}
-use Rattle.mm_cells.proofs.Region.Places.{run-some}
 use Rattle.mm_object.specs.Heap.{Heap}
 use Rattle.mm_fixed.specs.Fixed.{Fixed}
 use Rattle.mm_fixed.proofs.Left.{index-zeros}
@@ -15,11 +14,7 @@ use Rattle.mm_roots.specs.Areas.{Areas}
 use Rattle.mm_roots.proofs.tests.areas.Trial.open.Goals as goal
 
 pub make-requires-4-clause-empty : goal.make-requires-4-clause-empty
-make-requires-4-clause-empty c = λ base cell begins.
-    let some = run-some c.make-3.result base cell c.make-3.ensures.sound begins in
-    let runs = ap (λ (v : Cells). slice_index v.runs (base / 4096)) c.make-3.ensures.value in
-    let none = index-zeros c.args.pages (base / 4096) in
-    absurd (omega (arith, some, runs, none))
+make-requires-4-clause-empty c = c.make-3.ensures.empty
 
 pub invariant_of-result : goal.invariant_of-result
 invariant_of-result c =

@@ -3,10 +3,7 @@ use Rattle.std.proofs.Common.{◌≡◌, ◌≢◌, ℕ, ◌/◌, refl, ap, arit
 use Rattle.std.specs.Prelude.{Option, Some, None, Result, Ok, Err, IfOk, OnErr}
 use Rattle.mm_words.specs.Location.{Location}
 use Rattle.mm_pages.specs.Pages.{Pages}
-use Rattle.mm_cells.specs.Placing.{LeavesPage}
-use Rattle.mm_cells.proofs.Region.Empty.{table-left}
 use Rattle.mm_fixed.specs.Fixed.{Fixed, with_block}
-use Rattle.mm_fixed.specs.Cells.{cells_of}
 use Rattle.mm_roots.specs.declared.area_shape.AreaShape.{AreaShape}
 use Rattle.mm_roots.specs.declared.area_shape.AreaRefusal.{AreaRefusal}
 use Rattle.mm_roots.specs.Areas.{Areas, area_at, with_area, over, RemoveCause}
@@ -26,21 +23,20 @@ stay : (result : Result Unit AreaRefusal) (a : ℕ) (before after : Areas) (page
     IfOk result (λ _. after ≡ with_area (over after.fixed before) a None) →
     IfOk result (λ _. (area : AreaShape) → area_at before a ≡ Some area
     → after.fixed ≡ record (with_block before.fixed area.base None) { runs = after.fixed.runs }) →
-    IfOk result (λ _. (area : AreaShape) → area_at before a ≡ Some area
-    → LeavesPage (cells_of before.fixed) (cells_of after.fixed) pages (area.base / 4096) left) →
-    OnErr result ((after ≡ before) × (left ≡ pages)) → Stay before after pages left
-stay (Ok done) a before after pages left cause areas block page still =
+    OnErr result ((after ≡ before) × (left ≡ pages)) → left ≡ record pages { parked = left.parked }
+    → Stay before after pages left
+stay (Ok done) a before after pages left cause areas block still rest =
     let one = there (area_at before a) cause in
     record {
       areas = ap (λ (v : Areas). v.table) areas;
       fixed = ap (λ (v : Fixed). v.table) (block one.0 one.1);
-      pages = table-left _ _ _ _ _ (page one.0 one.1);
+      pages = ap (λ (v : Pages). v.table) rest;
     }
-stay (Err refused) a before after pages left cause areas block page still =
+stay (Err refused) a before after pages left cause areas block still rest =
     record {
       areas = ap (λ (v : Areas). v.table) still.0;
       fixed = ap (λ (v : Areas). v.fixed.table) still.0;
-      pages = ap (λ (v : Pages). v.table) still.1;
+      pages = ap (λ (v : Pages). v.table) rest;
     }
 
 pub invariant_of-self : goal.invariant_of-self
@@ -48,7 +44,7 @@ invariant_of-self g c =
     let self = c.args.self.now in
     let e = c.remove.ensures in
     let same = stay c.remove.result c.args.a self.areas c.remove.new.self self.pages c.remove.new.pages e.cause e.areas
-    e.block e.page e.unchanged in
+    e.block e.unchanged e.pages_rest in
     record {
       parked = e.parked;
       fits = e.fits self.heap c.requires.beside self.fits;
