@@ -1,6 +1,6 @@
 // The words of the cells' table, and what stands where in them.
 ghost use Rattle.std.specs.Prelude.{◌≡◌, ◌≢◌, ℕ, ◌+◌, ◌*◌, ◌<◌, ◌≤◌, length, MatchOption};
-ghost use Rattle.mm_sets.specs.Set.{members, IsSet, Admits};
+ghost use Rattle.mm_sets.specs.Set.{set_size, members, IsSet, Admits};
 ghost use Rattle.mm_cells.specs.Marks.{IsMark, NoneFree, IsLowestFree, NoneSought, IsLowestSought};
 ghost use Rattle.mm_cells.specs.Uses.{use_in_whole, IsUse, StandsAlone};
 ghost use Rattle.mm_cells.specs.Spans.{SetsUses, AreUnused, AreWhole};
@@ -15,12 +15,68 @@ use mm_words::Words;
 use std::marker::Model;
 
 /// How many words the marks of a page take, and how many its use and its marks.
-pub(crate) const MARK_WORDS: u32 = 32;
+const MARK_WORDS: u32 = 32;
 
 pub(crate) const PAGE_WORDS: u32 = 1 + MARK_WORDS;
 
 /// How many size classes there are.
 pub(crate) const CLASSES: u32 = 19;
+
+/// Some words of a table in a row.
+#[derive(Clone, Copy)]
+struct Part {
+    start: u32,
+    len: u32,
+}
+
+/// The words of the pages' uses.
+fn uses_part(pages: u32) -> Part
+    ensures start { result.start ≡ 0 }
+    ensures len { result.len ≡ pages }
+{
+    Part {
+        start: 0,
+        len: pages,
+    }
+}
+
+/// The words of the marks.
+fn marks_part(pages: u32) -> Part
+    requires { pages ≤ 4096 }
+    ensures start { result.start ≡ pages }
+    ensures len { result.len ≡ 32 * pages }
+{
+    Part {
+        start: pages,
+        len: MARK_WORDS * pages,
+    }
+}
+
+/// The words of the sets of pages that have room.
+fn sets_part(pages: u32) -> Part
+    requires { pages ≤ 4096 }
+    ensures start { result.start ≡ 33 * pages }
+    ensures len { result.len ≡ 19 * set_size pages }
+{
+    Part {
+        start: PAGE_WORDS * pages,
+        len: CLASSES * set_words(pages),
+    }
+}
+
+/// The words of the set of a class.
+fn set_part(pages: u32, class: u32) -> Part
+    requires most { pages ≤ 4096 }
+    requires class { class < 19 }
+    ensures start { result.start ≡ 33 * pages + class * set_size pages }
+    ensures len { result.len ≡ set_size pages }
+{
+    let len = set_words(pages);
+    Part {
+        start: sets_part(pages).start + class * len,
+        len,
+    }
+}
 
 /// Makes a page a member of a set, or no member.
 fn set_member(set: &mut [u32], page: u32, is_member: bool)
@@ -64,8 +120,10 @@ impl Table {
         ensures { IsUntouched (location_of words) pages result }
     {
         let mut words = words;
-        words.fill(0, pages, 0);
-        words.fill(PAGE_WORDS * pages, CLASSES * set_words(pages), 0);
+        let uses = uses_part(pages);
+        words.fill(uses.start, uses.len, 0);
+        let sets = sets_part(pages);
+        words.fill(sets.start, sets.len, 0);
         Table { words, pages }
     }
 
@@ -92,7 +150,8 @@ impl Table {
         requires { page < self.now.pages }
         ensures { result ≡ use_at self.now page }
     {
-        page_use::use_in(self.words.part(0, self.pages), page)
+        let part = uses_part(self.pages);
+        page_use::use_in(self.words.part(part.start, part.len), page)
     }
 
     /// Gives a page by itself another use.
@@ -103,7 +162,8 @@ impl Table {
         requires alone { StandsAlone page_use }
         ensures { SetsUse self.old self.new page page_use }
     {
-        page_use::set_use(self.words.part_mut(0, self.pages), page, page_use);
+        let part = uses_part(self.pages);
+        page_use::set_use(self.words.part_mut(part.start, part.len), page, page_use);
     }
 
     /// Makes so many unused pages those of one cell.
@@ -113,7 +173,8 @@ impl Table {
         requires unused { AreUnused self.old first count }
         ensures { SetsUses self.old self.new first count (use_in_whole count) }
     {
-        page_use::set_whole(self.words.part_mut(0, self.pages), first, count);
+        let part = uses_part(self.pages);
+        page_use::set_whole(self.words.part_mut(part.start, part.len), first, count);
     }
 
     /// Makes the pages of one cell unused, however many they are.
@@ -122,7 +183,8 @@ impl Table {
         ensures { (count : ℕ) → 0 < count → AreWhole self.old first count
             → SetsUses self.old self.new first count (λ distance. PageUse.Unused) }
     {
-        page_use::clear_whole(self.words.part_mut(0, self.pages), first);
+        let part = uses_part(self.pages);
+        page_use::clear_whole(self.words.part_mut(part.start, part.len), first);
     }
 
     /// The mark of a cell of a page.
@@ -141,8 +203,9 @@ impl Table {
         requires mark { IsMark mark }
         ensures { SetsMark self.old self.new page cell mark }
     {
+        let part = marks_part(self.pages);
         marks::set_mark(
-            self.words.part_mut(self.pages, MARK_WORDS * self.pages),
+            self.words.part_mut(part.start, part.len),
             256 * page + cell,
             mark,
         );
@@ -153,10 +216,8 @@ impl Table {
         requires { page < self.old.pages }
         ensures { FreesPage self.old self.new page }
     {
-        marks::fill_free(
-            self.words.part_mut(self.pages, MARK_WORDS * self.pages),
-            MARK_WORDS * page,
-        );
+        let part = marks_part(self.pages);
+        marks::fill_free(self.words.part_mut(part.start, part.len), MARK_WORDS * page);
     }
 
     /// Makes the taken ones of the first cells of a page white, whose marks stand in so many words.
@@ -165,8 +226,9 @@ impl Table {
         requires words { words ≤ 32 }
         ensures { WhitensPage self.old self.new page words }
     {
+        let part = marks_part(self.pages);
         marks::whiten(
-            self.words.part_mut(self.pages, MARK_WORDS * self.pages),
+            self.words.part_mut(part.start, part.len),
             MARK_WORDS * page,
             words,
         );
@@ -201,11 +263,8 @@ impl Table {
         requires { class < 19 }
         ensures { MatchOption result (NoPageWithRoom self.now class) (λ page. IsLowestRoom self.now class page) }
     {
-        let size = set_words(self.pages);
-        lowest(
-            self.words
-                .part(PAGE_WORDS * self.pages + class * size, size),
-        )
+        let part = set_part(self.pages, class);
+        lowest(self.words.part(part.start, part.len))
     }
 
     /// Notes whether a page of a class has room.
@@ -214,11 +273,8 @@ impl Table {
         requires page { page < self.old.pages }
         ensures { SetsRoom self.old self.new class page has_room }
     {
-        let size = set_words(self.pages);
-        let set = self
-            .words
-            .part_mut(PAGE_WORDS * self.pages + class * size, size);
-        set_member(set, page, has_room);
+        let part = set_part(self.pages, class);
+        set_member(self.words.part_mut(part.start, part.len), page, has_room);
     }
 }
 
@@ -228,6 +284,7 @@ impl Table {
         ensures sized { length result.now ≡ 32 * self.now.pages }
         ensures most { self.now.pages ≤ 4096 }
     {
-        self.words.part(self.pages, MARK_WORDS * self.pages)
+        let part = marks_part(self.pages);
+        self.words.part(part.start, part.len)
     }
 }

@@ -1,5 +1,5 @@
 -- The parts of a table after the words of its uses or of its marks were written.
-use Rattle.std.proofs.Common.{◌≡◌, ◌≢◌, ℕ, ◌+◌, ◌-◌, ◌*◌, ◌<◌, ◌≤◌, ◌⊎◌, List, length, take, drop, slice_range, inl}
+use Rattle.std.proofs.Common.{◌≡◌, ◌≢◌, ℕ, ◌+◌, ◌*◌, ◌<◌, ◌≤◌, ◌⊎◌, List, length, take, drop, slice_range, inl}
 use Rattle.std.proofs.Common.{inr, sym, ap, subst, ◌∙◌, refl, arith}
 use Rattle.std.proofs.lemmas.Bool.{cases_eq, cases_lt}
 use Rattle.mm_words.specs.Piece.{Piece, with_words}
@@ -15,16 +15,23 @@ use Rattle.mm_cells.specs.Uses.{use_in, ChangesUses}
 use Rattle.mm_cells.specs.Spans.{SetsUses}
 use Rattle.mm_cells.specs.Marks.{mark_of_cell, page_marks, whitened_mark}
 
+-- some words in a row, by where they begin and how many they are
+pub part-lent : (p : Piece) (start len from n : ℕ) (part : List ℕ) → start ≡ from → len ≡ n →
+    part ≡ slice_range p.words start (start + len) → part ≡ take n (drop from p.words)
+part-lent p start len from n part begins sized lent =
+    lent ∙ ap (λ k. take k (drop start p.words)) (omega arith) ∙ ap (λ k. take k (drop start p.words)) sized
+    ∙ ap (λ k. take n (drop k p.words)) begins
+
 -- the words of the uses, as the program lends them
 pub record AreUses (p : Piece) (pages : ℕ) (uses : List ℕ) : Type 0 where
   pub is : uses ≡ (map_of p pages).uses
   pub sized : length uses ≡ pages
 
-pub uses_lent : (p : Piece) (pages : ℕ) (uses : List ℕ) → FitsTable p pages →
-    uses ≡ slice_range p.words 0 (0 + pages) → AreUses p pages uses
-uses_lent p pages uses room lent = record {
-  is = lent ∙ ap (λ n. take n p.words) (omega arith);
-  sized = ap length lent ∙ length-part 0 pages p.words (omega (arith, room.room));
+pub uses_lent : (p : Piece) (pages : ℕ) {start len : ℕ} (uses : List ℕ) → FitsTable p pages → start ≡ 0 → len ≡ pages →
+    uses ≡ slice_range p.words start (start + len) → AreUses p pages uses
+uses_lent p pages {start} {len} uses room begins sized lent = record {
+  is = part-lent p start len 0 pages uses begins sized lent;
+  sized = ap length lent ∙ length-part start len p.words (omega (arith, room.room)) ∙ sized;
 }
 
 -- the piece with other uses
@@ -93,14 +100,12 @@ pub record IsMarks (p : Piece) (pages : ℕ) (table : List ℕ) : Type 0 where
   pub is : table ≡ (map_of p pages).marks
   pub sized : length table ≡ 32 * pages
 
-pub marks_lent : (p : Piece) (pages : ℕ) (table : List ℕ) → FitsTable p pages →
-    table ≡ slice_range p.words pages (pages + 32 * pages) → IsMarks p pages table
-marks_lent p pages table room lent =
-    let size : pages + 32 * pages - pages ≡ 32 * pages = omega arith in
-    record {
-      is = lent ∙ ap (λ n. take n (drop pages p.words)) size;
-      sized = ap length lent ∙ length-part pages (32 * pages) p.words (omega (arith, room.room));
-    }
+pub marks_lent : (p : Piece) (pages : ℕ) {start len : ℕ} (table : List ℕ) → FitsTable p pages → start ≡ pages →
+    len ≡ 32 * pages → table ≡ slice_range p.words start (start + len) → IsMarks p pages table
+marks_lent p pages {start} {len} table room begins sized lent = record {
+  is = part-lent p start len pages (32 * pages) table begins sized lent;
+  sized = ap length lent ∙ length-part start len p.words (omega (arith, room.room)) ∙ sized;
+}
 
 -- the piece with other marks
 abbrev pub with_marks : Piece → ℕ → List ℕ → Piece

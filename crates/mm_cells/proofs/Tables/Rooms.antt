@@ -1,5 +1,5 @@
 -- The set of the pages of one class in a table, and the table after its words were written.
-use Rattle.std.proofs.Common.{◌≡◌, ◌≢◌, ℕ, ◌+◌, ◌-◌, ◌*◌, ◌<◌, ◌≤◌, Bool, List, length, take, drop, slice_range}
+use Rattle.std.proofs.Common.{◌≡◌, ◌≢◌, ℕ, ◌+◌, ◌*◌, ◌<◌, ◌≤◌, Bool, List, length, take, drop, slice_range}
 use Rattle.std.proofs.Common.{Option, Some, None, MatchOption, inl, inr, sym, ap, subst, ◌∙◌, refl, arith}
 use Rattle.std.proofs.Math.Nat.{mul-le-mul_right, add-mul}
 use Rattle.std.proofs.lemmas.Bool.{cases_eq, cases_lt}
@@ -10,6 +10,7 @@ use Rattle.mm_sets.specs.Set.{set_size, members, IsSet, IsEmpty, IsLowest}
 use Rattle.mm_words.proofs.Writes.{length-written, take-written, drop-written, drop-written_behind}
 use Rattle.mm_words.proofs.Writes.{range-written_before}
 use Rattle.mm_pages.proofs.Tables.{length-part}
+use Rattle.mm_cells.proofs.Tables.Maps.{part-lent}
 use Rattle.mm_cells.specs.Map.{Map, map_of, room_set, FitsTable, SetsRoom, NoPageWithRoom, IsLowestRoom}
 
 -- where the words of the set of a class begin
@@ -35,21 +36,15 @@ pub record IsRoomSet (p : Piece) (pages class : ℕ) (set : List ℕ) : Type 0 w
   pub is : set ≡ room_set (map_of p pages) class
   pub sized : length set ≡ set_size pages
 
-pub set_lent : (p : Piece) (pages class size : ℕ) (set : List ℕ) → FitsTable p pages → class < 19 →
-    size ≡ set_size pages →
-    set ≡ slice_range p.words (33 * pages + class * size) (33 * pages + class * size + size) →
+pub set_lent : (p : Piece) (pages class : ℕ) {start len : ℕ} (set : List ℕ) → FitsTable p pages → class < 19 →
+    start ≡ set_start pages class → len ≡ set_size pages → set ≡ slice_range p.words start (start + len) →
     IsRoomSet p pages class set
-set_lent p pages class size set room small sized lent =
-    let left : 33 * pages + class * size + size - (33 * pages + class * size) ≡ size = omega arith in
-    let within = set_within pages class size small in
+set_lent p pages class {start} {len} set room small begins sized lent =
+    let within = set_within pages class (set_size pages) small in
     record {
-      is = lent
-          ∙ ap (λ n. take n (drop (33 * pages + class * size) p.words)) left
-          ∙ ap (λ n. take n (drop (33 * pages + class * n) p.words)) sized
+      is = part-lent p start len (set_start pages class) (set_size pages) set begins sized lent
           ∙ sym (room_set-place p pages class);
-      sized = ap length lent
-          ∙ length-part (33 * pages + class * size) size p.words (omega (arith, room.room))
-          ∙ sized;
+      sized = ap length lent ∙ length-part start len p.words (omega (arith, room.room)) ∙ sized;
     }
 
 pub IsSet-lent : {p : Piece} {pages class : ℕ} {set : List ℕ} → FitsTable p pages → class < 19 →

@@ -62,16 +62,21 @@ IsZeroed-filled pages words room =
           ∙ drop-written (33 * pages) (zeros (19 * set_size pages)) inner fits;
     }
 
+-- the piece with so many zeros from a place on
+abbrev with_zeros : Piece → ℕ → ℕ → Piece
+with_zeros p start len = with_words p (written start (zeros len) p.words)
+
 -- what the two fills make of a piece
-pub filled-piece : (p first second : Piece) (pages size : ℕ) →
-    first ≡ with_words p (written 0 (zeros pages) p.words) → size ≡ set_size pages →
-    second ≡ with_words first (written (33 * pages) (zeros (19 * size)) first.words) →
+pub filled-piece : (p first second : Piece) (pages : ℕ) {uses_start uses_len sets_start sets_len : ℕ} →
+    uses_start ≡ 0 → uses_len ≡ pages → sets_start ≡ 33 * pages → sets_len ≡ 19 * set_size pages →
+    first ≡ with_zeros p uses_start uses_len → second ≡ with_zeros first sets_start sets_len →
     second ≡ with_words p (filled pages p.words)
 unfolding filled
-filled-piece p first second pages size uses sized rooms =
-    rooms
-    ∙ ap (λ n. with_words first (written (33 * pages) (zeros (19 * n)) first.words)) sized
-    ∙ ap (λ (q : Piece). with_words q (written (33 * pages) (zeros (19 * set_size pages)) q.words)) uses
+filled-piece p first second pages {uses_start} {uses_len} {sets_start} {sets_len} from n start len uses rooms =
+    let once : first ≡ with_zeros p 0 pages =
+    uses ∙ ap (λ k. with_zeros p k uses_len) from ∙ ap (λ k. with_zeros p 0 k) n in
+    rooms ∙ ap (λ k. with_zeros first k sets_len) start ∙ ap (λ k. with_zeros first (33 * pages) k) len
+    ∙ ap (λ (q : Piece). with_zeros q (33 * pages) (19 * set_size pages)) once
 
 room_set-zeroed : (p : Piece) (pages class : ℕ) → IsZeroed pages p.words → class < 19 →
     room_set (map_of p pages) class ≡ zeros (set_size pages)

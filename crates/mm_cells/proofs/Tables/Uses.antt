@@ -80,7 +80,8 @@ later-meant uses page distance (Later other) e = elim (cases_lt page other) [
       sym (if_true (nat_lt page other) Unused (behind (told_at uses (page - other)) other) (lt-ltb page other h)) ∙ e in
       absurd (cc)
   | inr h ↦ ap Later (later-behind (told_at uses (page - other)) other distance
-      (sym (if_false (nat_lt page other) Unused (behind (told_at uses (page - other)) other) (le-ltb page other h)) ∙ e))
+      (sym (if_false (nat_lt page other) Unused (behind (told_at uses (page - other)) other) (le-ltb page other h))
+      ∙ e))
 ]
 
 -- a page is used as it was where its word and that of the first page of its cell say what they said

@@ -9,17 +9,16 @@ use Rattle.mm_cells.proofs.table.Table.clear_whole.Goals as goal
 pub invariant_of-self : goal.invariant_of-self
 invariant_of-self c =
     let lent = uses_lent c.self.inside.words c.self.inside.pages c.part_mut.result.now c.self.invariant
-    c.part_mut.ensures.value in
-    FitsTable-with_uses c.self.inside.words c.self.inside.pages c.part_mut.result.now c.clear_whole.new.uses
-    c.self.invariant lent c.clear_whole.auto.uses
+    c.uses_part-part.ensures.start c.uses_part-part.ensures.len c.part_mut.ensures.value in
+    rw c.uses_part-part.ensures.start (FitsTable-with_uses c.self.inside.words c.self.inside.pages c.part_mut.result.now
+    c.clear_whole.new.uses c.self.invariant lent c.clear_whole.auto.uses)
 
 pub returns : goal.returns
 returns c = λ count some whole.
     let lent = uses_lent c.self.inside.words c.self.inside.pages c.part_mut.result.now c.self.invariant
-    c.part_mut.ensures.value in
-    rw (← c.self.view_is) (SetsUses-with_uses c.self.inside.words c.self.inside.pages c.args.first count
-    (λ distance. Unused) c.part_mut.result.now c.clear_whole.new.uses c.self.invariant lent
-    c.clear_whole.auto.uses (c.clear_whole.ensures count some
-    (λ distance less.
-    ap (λ (s : List ℕ). use_in s (c.args.first + distance)) lent.is
-    ∙ ap (λ (m : Map). use_at m (c.args.first + distance)) c.self.view_is ∙ whole distance less)))
+    c.uses_part-part.ensures.start c.uses_part-part.ensures.len c.part_mut.ensures.value in
+    rw (c.uses_part-part.ensures.start, ← c.self.view_is) (SetsUses-with_uses c.self.inside.words c.self.inside.pages
+    c.args.first count (λ distance. Unused) c.part_mut.result.now c.clear_whole.new.uses c.self.invariant lent
+    c.clear_whole.auto.uses (c.clear_whole.ensures count some (λ distance less. ap (λ (s : List ℕ). use_in s
+    (c.args.first + distance)) lent.is ∙ ap (λ (m : Map). use_at m (c.args.first + distance)) c.self.view_is ∙ whole
+    distance less)))

@@ -8,8 +8,8 @@ use Rattle.mm_cells.proofs.table.Table.page_with_room.Goals as goal
 pub returns : goal.returns
 returns c =
     let pages = c.self.inside.pages in
-    let lent = set_lent c.self.inside.words pages c.args.class c.set_words-size.result c.part.result.now
-    c.self.invariant c.requires c.set_words-size.ensures c.part.ensures in
+    let lent = set_lent c.self.inside.words pages c.args.class c.part.result.now c.self.invariant c.requires
+    c.set_part-part.ensures.start c.set_part-part.ensures.len c.part.ensures in
     let found = c.lowest.ensures pages (IsSet-lent c.self.invariant c.requires lent) in
     rw (← c.self.view_is) (lowest_room (map_of c.self.inside.words pages) c.args.class c.lowest.result
     (subst (λ (s : List ℕ). MatchOption c.lowest.result (IsEmpty pages s) (IsLowest pages s)) lent.is found))

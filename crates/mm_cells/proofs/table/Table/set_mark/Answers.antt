@@ -5,7 +5,7 @@ use Rattle.mm_cells.proofs.table.Table.set_mark.Goals as goal
 pub returns : goal.returns
 returns c =
     let lent = marks_lent c.self.inside.words c.self.inside.pages c.part_mut.result.now c.self.invariant
-    c.part_mut.ensures.value in
-    rw (← c.self.view_is) (SetsMark-with_marks c.self.inside.words c.self.inside.pages c.args.page c.args.cell
-    c.args.mark c.part_mut.result.now c.set_mark.new.table c.self.invariant lent c.set_mark.auto.table c.requires.cell
-    c.set_mark.ensures.given c.set_mark.ensures.others)
+    c.marks_part-part.ensures.start c.marks_part-part.ensures.len c.part_mut.ensures.value in
+    rw (c.marks_part-part.ensures.start, ← c.self.view_is) (SetsMark-with_marks c.self.inside.words c.self.inside.pages
+    c.args.page c.args.cell c.args.mark c.part_mut.result.now c.set_mark.new.table c.self.invariant lent
+    c.set_mark.auto.table c.requires.cell c.set_mark.ensures.given c.set_mark.ensures.others)
