@@ -35,7 +35,8 @@ behind (Class class) distance = Unused
 behind (First count) distance = if nat_lt distance count then Later distance else Unused
 behind (Later other) distance = Unused
 
--- What a page is used for whose word says this. It is a later page only where the first page of its cell says so too.
+-- What a page is used for whose word says this. It is a later page only where the word of the page that far before it
+-- tells of a cell that reaches it.
 abbrev pub meant : List ℕ → ℕ → PageUse → PageUse
 meant uses page Unused = Unused
 meant uses page (Class class) = Class class

@@ -12,8 +12,8 @@ pub(crate) enum PageUse {
     Class(u32),
     /// It is the first of so many pages, which one taken cell fills.
     First(u32),
-    /// It is a later page of a cell, whose first page is so many pages before it. Its word says so even after the cell
-    /// is given back, but it counts only as long as the first page's word says that the cell has so many pages.
+    /// It is a later page of a cell, whose first page is so many pages before it. Its word may say so even after the
+    /// cell is given back, but that counts only where the word of the first page tells of a cell that reaches it.
     Later(u32),
 }
 
