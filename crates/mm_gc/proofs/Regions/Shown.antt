@@ -1,5 +1,5 @@
 -- What is kept of a region is a region with its pieces.
-use Rattle.std.proofs.Common.{◌≡◌, List, map, refl, sym, ap, ◌∙◌, subst, arith}
+use Rattle.std.proofs.Common.{◌≡◌, ◌<◌, List, map, inl, inr, refl, sym, ap, ◌∙◌, subst, arith}
 use Rattle.std.specs.Option.{option_map}
 use Rattle.std.proofs.lemmas.List.{length-map}
 use Rattle.std.specs.List.{Contains}
@@ -7,6 +7,7 @@ use Rattle.mm_model.specs.Place.{Objects, Areas, Piece}
 use Rattle.mm_model.specs.ObjectView.{pieces_of_objects}
 use Rattle.mm_model.specs.ViewWords.{piece_of_area}
 use Rattle.mm_model.specs.Good.{IsInside}
+use Rattle.mm_model.proofs.Places.SizeClasses.{class_bounds}
 use Rattle.mm_cells.specs.Cells as cells
 use Rattle.mm_cells.specs.Cells.{Taken, IsSoundCells}
 use Rattle.mm_cells.specs.Marks.{IsFlags}
@@ -45,6 +46,13 @@ cells-sound v sound = record {
   flags = λ base cell begins.
       let of = begins-block v base cell begins in
       subst (λ (c : Taken). IsFlags c.flags) (sym of.is) (omega arith);
+  has_run = λ base cell begins.
+      let of = begins-block v base cell begins in
+      let some : 0 < of.block.extent = elim (sound.inside base of.block of.begins).placed [
+        | inl small ↦ omega (arith, (class_bounds of.block.extent small.class).least)
+        | inr whole ↦ whole.some
+      ] in
+      omega (arith, sound.in_run base of.block of.begins, some);
   in_run = λ base cell begins.
       let of = begins-block v base cell begins in
       omega (arith, sound.in_run base of.block of.begins, ap (λ (c : Taken). c.extent) of.is);
