@@ -1,12 +1,9 @@
 -- A heap of which colours alone change, and the write barrier.
-use Rattle.std.proofs.Common.{◌≡◌, ℕ, ◌+◌, Bool, true, false, not, [], ◌∷◌, map, Option, Some, None, refl}
+use Rattle.std.proofs.Common.{◌≡◌, ℕ, ◌+◌, true, map, Some, None, refl}
 use Rattle.std.proofs.Common.{ap, ◌∙◌}
-use Rattle.std.specs.Prelude.{◌&&◌, if◌then◌else◌}
+use Rattle.std.specs.Prelude.{if◌then◌else◌}
 use Rattle.std.specs.Option.{option_map}
-use Rattle.mm_model.specs.ObjectView.{ObjectView, slot_kind_of}
-use Rattle.mm_model.specs.View.{View, CycleView}
-use Rattle.mm_model.specs.Marking.{is_raw}
-use Rattle.mm_model.specs.ViewStore.{view_barrier, view_is_passed, view_with_grayed}
+use Rattle.mm_model.specs.View.{View}
 use Rattle.mm_object.specs.Object.{views_of}
 use Rattle.mm_object.specs.Heap.{Heap}
 use Rattle.mm_object.specs.Colours.{white_object}

@@ -7,7 +7,6 @@ use Rattle.std.proofs.lemmas.Option.{slice_get-get_or}
 use Rattle.std.specs.Prelude.{◌==◌, ◌&&◌, ◌||◌, IsTrue, if◌then◌else◌, slice_get, slice_index}
 use Rattle.std.specs.List.{position_or_len}
 use Rattle.mm_model.specs.declared.reply.Put.TheVariants.{Tight}
-use Rattle.mm_model.specs.declared.refusal.Refusal.TheVariants as refusals
 use Rattle.mm_model.specs.Words.{CountedSlot}
 use Rattle.mm_model.specs.Store.{is_counted_slot}
 use Rattle.mm_model.specs.ObjectView.{ObjectsByBase}
@@ -26,7 +25,7 @@ use Rattle.mm_count.proofs.Composites.{refutes, decides}
 use Rattle.mm_count.proofs.Stored.{counted-slot, one_if}
 use Rattle.mm_roots.specs.Areas.{Areas}
 use Rattle.mm_roots.specs.Views.{views_of_areas, with_cell}
-use Rattle.mm_gc.specs.AreaCells.{CellParts, AreaStore, ShowsCell, IsCellStored, IsCellRefused, IsReplaced}
+use Rattle.mm_gc.specs.AreaCells.{CellParts, AreaStore, ShowsCell, IsCellStored, IsReplaced}
 use Rattle.mm_gc.specs.AreaCells.{CanReplace}
 use Rattle.mm_gc.specs.AreaCells.{area_stored}
 use Rattle.mm_gc.specs.Counts.{HasCounts}

@@ -13,7 +13,6 @@ use Rattle.mm_object.specs.Object.{StoredObject, StoredObjects}
 use Rattle.mm_object.specs.Heap.{Heap, IsSound, FitsHeap, cell_of, cells_in}
 use Rattle.mm_sweep.proofs.Erased.{IsLeft, left-begins}
 use Rattle.mm_fixed.specs.Fixed.{Fixed, HasNoBlock, IsSoundFixed, with_block}
-use Rattle.mm_fixed.specs.Cells.{cells_of}
 use Rattle.mm_roots.specs.declared.area_shape.AreaShape.{AreaShape}
 use Rattle.mm_roots.specs.declared.area_shape.AreaRefusal.{AreaRefusal}
 use Rattle.mm_roots.specs.Areas.{Areas, HasNoArea, OwnsAll, IsSoundAreas, RemoveCause, area_at, over, with_area}

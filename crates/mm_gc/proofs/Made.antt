@@ -1,5 +1,5 @@
 -- What a heap keeps once something was made at a place in its region, or once it was looked for in vain.
-use Rattle.std.proofs.Common.{◌≡◌, ◌≢◌, ℕ, ◌≤◌, List, ◌++◌, map, length, Option, None, refl, sym, ap, ◌∙◌}
+use Rattle.std.proofs.Common.{◌≡◌, ◌≢◌, ℕ, ◌≤◌, List, ◌++◌, map, length, Option, refl, sym, ap, ◌∙◌}
 use Rattle.std.proofs.Common.{subst, arith}
 use Rattle.std.specs.Prelude.{◌==◌}
 use Rattle.std.specs.List.{count_by, flat_map, fold}
@@ -8,7 +8,6 @@ use Rattle.mm_model.specs.ByBase.{Begins}
 use Rattle.mm_model.specs.ObjectView.{ObjectsByBase, pieces_of_objects}
 use Rattle.mm_model.specs.View.{View, AreaView}
 use Rattle.mm_model.specs.ViewWords.{outside_references, piece_of_area, counted_cells_of}
-use Rattle.mm_model.specs.ViewEffect.{view_full}
 use Rattle.mm_model.proofs.View.GoodCounts.{shown_totals}
 use Rattle.mm_roots.specs.Stack.{Cells}
 use Rattle.mm_object.specs.Object.{StoredObject, StoredObjects, views_of}
@@ -21,13 +20,10 @@ use Rattle.mm_mark.specs.Stale.{HasFewStale}
 use Rattle.mm_model.specs.GoodView.{ArePaired}
 use Rattle.mm_count.proofs.Null.{none_begins}
 use Rattle.mm_weak.specs.Links.{is_linked_target}
-use Rattle.mm_model.specs.declared.reply.Reply.TheVariants as replies
-use Rattle.mm_model.specs.declared.refusal.Refusal.TheVariants as refusals
 use Rattle.mm_gc.specs.declared.wanted.Wanted.{Wanted}
-use Rattle.mm_gc.specs.declared.wanted.Wanted.TheVariants as wanted
 use Rattle.mm_gc.specs.declared.wanted.Made.{Made}
 use Rattle.mm_gc.specs.declared.wanted.Reach.{Reach}
-use Rattle.mm_gc.specs.Making.{effect_of, place_in_reach, IsMade}
+use Rattle.mm_gc.specs.Making.{IsMade}
 use Rattle.mm_gc.specs.Gc.{Region, Gc, view_of_gc, areas_in, objects_in, freed_since}
 use Rattle.mm_gc.specs.Kept.{IsSettled, HasRooms, HasAllPieces, KeepsGc}
 use Rattle.mm_gc.specs.Regions.{IsSameRegion}

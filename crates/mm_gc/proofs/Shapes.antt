@@ -1,10 +1,10 @@
 -- What is wanted has a shape that the layers take.
 use Rattle.std.proofs.Common.{◌≡◌, ◌≤◌, ℕ, Bool, true, false, ◌&&◌, ◌||◌, refl, sym, ap, ◌∙◌, arith}
 use Rattle.std.proofs.lemmas.Bool.Decides.{nat_tests}
-use Rattle.std.specs.Prelude.{nat_lt, ◌==◌}
+use Rattle.std.specs.Prelude.{nat_lt}
 use Rattle.mm_model.specs.declared.object.Shape.{Shape}
 use Rattle.mm_model.specs.Object.{is_leaf, is_weak}
-use Rattle.mm_model.specs.Refusing.{is_bad_shape, is_bad_area, most_slots}
+use Rattle.mm_model.specs.Refusing.{is_bad_shape, most_slots}
 use Rattle.mm_object.specs.Header.{IsShape}
 
 neither : (a b : Bool) → (a || b) ≡ false → (a ≡ false) × (b ≡ false)

@@ -1,8 +1,8 @@
 -- How far a step has come, part by part.
-use Rattle.std.proofs.Common.{◌≡◌, ℕ, ◌+◌, ◌-◌, ◌*◌, ◌<◌, ◌≤◌, ◌⊎◌, ⊎_elim, inl, inr, List, [], ◌∷◌, ◌++◌, take, length}
+use Rattle.std.proofs.Common.{◌≡◌, ℕ, ◌+◌, ◌-◌, ◌*◌, ◌<◌, ◌≤◌, ◌⊎◌, inl, inr, List, [], ◌∷◌, ◌++◌, take, length}
 use Rattle.std.specs.Prelude.{drop}
 use Rattle.std.proofs.lemmas.List.{length-take}
-use Rattle.std.proofs.Common.{sum, refl, sym, ap, subst, append-nil, arith}
+use Rattle.std.proofs.Common.{sum, refl, sym, subst, append-nil, arith}
 use Rattle.mm_model.specs.declared.command.Command.TheVariants as commands
 use Rattle.mm_model.specs.declared.line.Line.{Line}
 use Rattle.mm_model.specs.declared.line.Line.TheVariants as lines
@@ -11,7 +11,7 @@ use Rattle.mm_model.specs.Scan.{costs}
 use Rattle.mm_model.specs.ByBase.{Based}
 use Rattle.mm_model.specs.ObjectView.{ObjectView, scanned_words_of}
 use Rattle.mm_model.specs.View.{View}
-use Rattle.mm_model.specs.ViewStep.{slots_done_in, view_part_slots, ViewScansAll, ViewIsEnough, NoGray}
+use Rattle.mm_model.specs.ViewStep.{slots_done_in, view_part_slots, ViewScansAll, NoGray}
 use Rattle.mm_mark.specs.Marker.{Marking}
 use Rattle.mm_mark.specs.Stale.{HasFewStale, IsPaid}
 use Rattle.mm_gc.specs.Gc.{Gc, view_of_gc}

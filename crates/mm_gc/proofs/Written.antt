@@ -1,6 +1,6 @@
 -- A word is written into a slot of an object.
 use Rattle.std.proofs.Common.{◌≡◌, ◌≢◌, ℕ, ◌+◌, ◌<◌, ◌≤◌, ◌/◌, Bool, true, false, not, cond, List}
-use Rattle.std.proofs.Common.{[], ◌∷◌, ◌++◌, take, length, Option, Some, Ok, refl, sym, ap, ◌∙◌, subst}
+use Rattle.std.proofs.Common.{[], take, length, Option, Some, Ok, refl, sym, ap, ◌∙◌, subst}
 use Rattle.std.proofs.Common.{arith}
 use Rattle.std.proofs.lemmas.Bool.Decides.{nat_tests}
 use Rattle.std.proofs.lemmas.List.{take-set-le}
@@ -32,9 +32,9 @@ use Rattle.mm_object.specs.declared.slot.Slot.TheVariants as slots
 use Rattle.mm_object.specs.Object.{StoredObject, StoredObjects, view_of_stored, views_of, slot_with}
 use Rattle.mm_object.specs.Heap.{Heap, with_object}
 use Rattle.mm_count.specs.declared.composite.Composite.{Composite}
-use Rattle.mm_count.specs.Table.{Table, with_entries, without_place, composite_of, IsSameTable}
+use Rattle.mm_count.specs.Table.{Table, with_entries, composite_of, IsSameTable}
 use Rattle.mm_count.specs.Counts.{IsCountedBy, NamesCounted, HasCountedSlot, HasReference, KeepsObjects}
-use Rattle.mm_count.specs.Counts.{composite_told, composite_at, table_raised, table_lowered, table_left, written_at}
+use Rattle.mm_count.specs.Counts.{composite_told, composite_at, written_at}
 use Rattle.mm_count.specs.Counts.{with_word}
 use Rattle.mm_count.proofs.Composites.{refutes, decides}
 use Rattle.mm_count.proofs.Entries.{entry_at-begins}

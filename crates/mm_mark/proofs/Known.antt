@@ -1,7 +1,7 @@
 -- What a marker knows, as tests and by how it is known.
 use Rattle.std.proofs.Common.{◌≡◌, ℕ, ◌/◌, ◌<◌, Bool, true, false, length, Option, Some, None, refl, sym, ap, subst}
 use Rattle.std.proofs.Common.{◌∙◌, arith, eqb-true}
-use Rattle.std.specs.Prelude.{IfSome, IsTrue, slice_get, ◌||◌, ◌==◌}
+use Rattle.std.specs.Prelude.{IsTrue, slice_get, ◌||◌, ◌==◌}
 use Rattle.std.specs.List.{list_any}
 use Rattle.std.proofs.lemmas.Bool.{eq-eqb}
 use Rattle.mm_model.specs.declared.object.Colour.{Colour}

@@ -1,6 +1,6 @@
 -- The words of areas, which graying leaves as they are.
 use Rattle.std.proofs.Common.{◌≡◌, ℕ, zero, suc, ◌+◌, ◌*◌, ◌/◌, List, [], ◌++◌, length, Option, refl, sym, ap, subst}
-use Rattle.std.proofs.Common.{◌∙◌, arith, append_assoc, append-nil, length-append}
+use Rattle.std.proofs.Common.{◌∙◌, arith, append_assoc, length-append}
 use Rattle.mm_object.specs.Heap.{Heap}
 use Rattle.mm_roots.specs.Areas.{Areas, IsBeside, ShareNoPage}
 use Rattle.mm_roots.specs.Views.{words_from, cell_words, scanned_words_from}

@@ -18,9 +18,7 @@ use Rattle.mm_roots.proofs.Kept.{views-taken}
 use Rattle.mm_gc.specs.declared.region.Region.{Region}
 use Rattle.mm_gc.specs.Gc.{areas_in}
 use Rattle.mm_gc.specs.Kept.{KeepsRegion}
-use Rattle.mm_gc.specs.Regions.{IsSameRegion}
 use Rattle.mm_gc.proofs.Regions.Changed.{StaysBeside, heap-stays, pages-stay, stays-heap, keeps-heap, clear-all_parked}
-use Rattle.mm_gc.proofs.Regions.Changed.{same-changed}
 
 -- one run more is parked, where another family has none
 all_parked-placed : (before others : List ℕ) (heap : Pages) (page count : ℕ) → page < length before

@@ -1,4 +1,4 @@
-use Rattle.std.proofs.Common.{refl, sym, ap, subst, arith}
+use Rattle.std.proofs.Common.{sym, ap, subst, arith}
 use Rattle.mm_model.specs.GoodView.{HoldTight}
 use Rattle.mm_model.specs.declared.object.Shape.{Shape}
 use Rattle.mm_count.proofs.Tables.{same-table}
