@@ -1,21 +1,20 @@
 -- The new object names nothing, and no place holds it, so that counts stay right.
-use Rattle.std.proofs.Common.{◌≡◌, ◌≢◌, ℕ, false, refl, sym, ap, ◌∙◌, subst, arith}
-use Rattle.std.specs.Prelude.{Some, slice_index}
+use Rattle.std.proofs.Common.{ℕ, false, refl, sym, ap, ◌∙◌, subst, arith}
+use Rattle.std.specs.Prelude.{Some}
 use Rattle.mm_model.specs.declared.object.Kind.TheVariants.{Counted}
 use Rattle.mm_model.specs.declared.object.Colour.TheVariants.{White}
 use Rattle.mm_model.specs.ByBase.{Begins, with_entry}
 use Rattle.mm_words.specs.Location.{Location}
 use Rattle.mm_pages.specs.Pages.{Pages}
 use Rattle.mm_object.specs.Object.{StoredObject, StoredObjects, newly_stored}
-use Rattle.mm_object.specs.Heap.{Heap, IsSound, FitsHeap}
+use Rattle.mm_object.specs.Heap.{Heap, FitsHeap}
 use Rattle.mm_count.specs.Table.{Table}
-use Rattle.mm_count.specs.Counts.{IsCountedBy, NamesCounted}
+use Rattle.mm_count.specs.Counts.{IsCountedBy}
 use Rattle.mm_count.specs.Listed.{AllListedBut, NonePinned}
 use Rattle.mm_count.proofs.Born.{right-born}
-use Rattle.mm_count.proofs.Newborn.{IsBlank, unheld, unheld-own, references-vacant, none-there, counted-unheld}
-use Rattle.mm_count.proofs.Newborn.{named-born, counted-born, listed-born, unpinned-born}
-use Rattle.mm_count.proofs.Room.{begins_room}
-use Rattle.mm_count.proofs.Stored.{kept-counted}
+use Rattle.mm_count.proofs.Named.{NameCounted, named-kept, counted-vacant}
+use Rattle.mm_count.proofs.Newborn.{IsBlank, unheld, named-born, listed-born, unpinned-born}
+use Rattle.mm_count.proofs.Room.{bases-some}
 use Rattle.mm_reap.proofs.tests.heap.Trial.create.Goals as goal
 
 abbrev newborn : ℕ → StoredObject
@@ -23,12 +22,6 @@ newborn slots = newly_stored (record { kind = Counted; finalize = false; counted
 
 blank : (slots : ℕ) → IsBlank (newborn slots)
 blank slots = record { slots = slots; words = refl; composite = refl }
-
--- no object begins at 0
-bases-some : (h : Heap) → IsSound h → (b : ℕ) (x : StoredObject) → Begins h.objects b x → b ≢ 0
-bases-some h sound b x begins none =
-    let room = begins_room h sound b x begins in
-    absurd (omega (arith, room.aligned, room.from, none))
 
 pub born-requires-clause-right : goal.born-requires-clause-right
 born-requires-clause-right g c =
@@ -67,42 +60,30 @@ invariant_of-self g c =
 
 pub returns : goal.returns
 returns g c =
-    let slots = c.args.slots in
-    let base : ℕ = c.in-Ok.base in
     let objects : StoredObjects = c.args.self.now.heap.objects in
+    let o = newborn c.args.slots in
+    let is_blank = blank c.args.slots in
+    let base : ℕ = c.in-Ok.base in
     let vacant = c.in-Ok.ensures.was_none in
     let is = ap (λ (h : Heap). h.objects) c.in-Ok.ensures.created in
-    let begins = subst (λ (os : StoredObjects). Begins os base (newborn slots)) is c.in-Ok.ensures.begins in
-    let bases = λ (b : ℕ) (x : StoredObject) (there : Begins (with_entry base (Some (newborn slots)) objects) b x).
+    let begins = subst (λ (os : StoredObjects). Begins os base o) is c.in-Ok.ensures.begins in
+    let bases = λ (b : ℕ) (x : StoredObject) (there : Begins (with_entry base (Some o) objects) b x).
     bases-some c.create.new.self c.create.ensures.sound b x
     (subst (λ (os : StoredObjects). Begins os b x) (sym is) there) in
-    let child = newborn slots in
-    let none_there = none-there objects base child vacant begins (blank slots) in
     let outside = unheld base c.requires.counted.0 in
-    let some : base ≢ 0 = bases base child begins in
     record {
       right = c.born.ensures.right;
-      named = λ b s o there some.
-          let keeps = c.born.ensures.objects in
-          let was = keeps.back b o there in
-          let old : StoredObject = record o { composite = was.0 } in
-          kept-counted c.create.new.self.objects c.born.new.heap.objects keeps (slice_index o.words s)
-          (subst (λ (os : StoredObjects). NamesCounted os (slice_index o.words s)) (sym is)
-          (named-born objects base child vacant begins (blank slots) c.requires.named b s old
-          (subst (λ (os : StoredObjects). Begins os b old) is was.1)) some);
+      named = named-kept c.create.new.self.objects c.born.new.heap.objects c.born.ensures.objects
+          (subst NameCounted (sym is) (named-born objects base o vacant begins is_blank c.requires.named));
       counted = (
         outside,
         c.born.ensures.counts outside
             (subst (λ (os : StoredObjects). IsCountedBy os outside) (sym is)
-            (counted-born objects base child vacant begins (blank slots) outside
-            (counted-unheld objects base child vacant begins (blank slots) c.requires.counted.0 c.requires.counted.1) bases
-            (references-vacant objects base some none_there c.requires.named)
-            (unheld-own base c.requires.counted.0))),
+            (counted-vacant objects base o vacant begins is_blank bases c.requires.named c.requires.counted.0
+            c.requires.counted.1)),
       );
       listed = c.born.ensures.listed
-          (subst (AllListedBut base) (sym is)
-          (listed-born objects base child vacant begins (blank slots) c.requires.listed));
+          (subst (AllListedBut base) (sym is) (listed-born objects base o vacant begins is_blank c.requires.listed));
       unpinned = c.born.ensures.unpinned
-          (subst NonePinned (sym is)
-          (unpinned-born objects base child vacant begins (blank slots) c.requires.unpinned));
+          (subst NonePinned (sym is) (unpinned-born objects base o vacant begins is_blank c.requires.unpinned));
     }
