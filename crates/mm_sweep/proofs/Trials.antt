@@ -21,7 +21,7 @@ use Rattle.mm_object.specs.Object.{StoredObject, StoredObjects, newly_stored, vi
 use Rattle.mm_object.specs.Heap.{Heap}
 use Rattle.mm_count.specs.Table.{Table, IsRight}
 use Rattle.mm_count.specs.Composite.{composite_in}
-use Rattle.mm_count.specs.Counts.{IsCountedBy}
+use Rattle.mm_count.specs.Counts.{IsCountedBy, KeepsObjects}
 use Rattle.mm_count.specs.Listed.{AllListed, NonePinned}
 use Rattle.mm_count.proofs.Born.{spelled-blank}
 use Rattle.mm_weak.specs.Links.{IsLinked, IsWeakMade, partner_of, is_linked_target, unlinked, with_weak, newly_weak}
@@ -193,7 +193,23 @@ linked-written h after base o words begins is linked =
         (subst (λ (q : StoredObject). AreAlike o q) is (record { kind = refl; link = refl; flag = refl }))
     back b y (old there) = alike y there (alike-self y)
 
--- nor do composite words and colours
+-- nor do composite words,
+pub linked-counted : (h after : Heap) → KeepsObjects h.objects after.objects → IsLinked h → IsLinked after
+linked-counted h after keeps linked =
+    linked-kept h after
+    (λ b y begins.
+    let was = keeps.back b y begins in
+    alike (record y { composite = was.0 }) was.1 (record { kind = refl; link = refl; flag = refl }))
+    (λ b x begins.
+    let now = keeps.to b x begins in
+    record {
+      now = record x { composite = now.0 };
+      begins = now.1;
+      alike = record { kind = refl; link = refl; flag = refl };
+    })
+    linked
+
+-- or those and colours
 pub linked-white : (h after : Heap) → KeepsWhitened h.objects after.objects → IsLinked h → IsLinked after
 linked-white h after keeps linked =
     linked-kept h after

@@ -6,6 +6,8 @@ ghost use Rattle.mm_object.specs.Object.{StoredObject};
 ghost use Rattle.mm_object.specs.Heap.{FitsHeap};
 ghost use Rattle.mm_weak.specs.Links.{IsLinked};
 
+mod counted;
+
 use crate::{Finalizer, Journal, release, sweep};
 use mm_cells::{Cells, cells_words};
 use mm_count::ZeroTable;
