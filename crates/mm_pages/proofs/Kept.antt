@@ -18,7 +18,8 @@ use Rattle.mm_pages.proofs.Trees.{Shows-same}
 use Rattle.mm_pages.proofs.Unused.{reached, used-to, used-from, unused-above, unused-off_zero, unused-from}
 use Rattle.mm_pages.proofs.Unused.{unused-ext, unused-taken, unused-given, not_true, same_tests}
 use Rattle.mm_pages.proofs.Counts.{count_below-same, count_below-all, count_below-none, count_below-add}
-use Rattle.mm_pages.proofs.Counts.{count_below-taken, count_below-given, count_below-le, count_below-split, count_by-range}
+use Rattle.mm_pages.proofs.Counts.{count_below-taken, count_below-given, count_below-le, count_below-split}
+use Rattle.mm_pages.proofs.Counts.{count_by-range}
 use Rattle.mm_pages.proofs.Sound.{Changes, Clear, Clear-free, Clear-none, Clear-run, IsSoundHeap-changes, here_at}
 use Rattle.mm_pages.proofs.Sound.{others_at}
 
