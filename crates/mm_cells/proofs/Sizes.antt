@@ -1,3 +1,4 @@
 pub mod ClassSizes
 pub mod Classes
 pub mod Grains
+pub mod Reciprocals

@@ -1,6 +1,7 @@
 -- Where the mark of a cell stands in a table, and which cells begin in a page.
 use Rattle.std.specs.Prelude.{◌≡◌, ◌≢◌, ◌+◌, ◌*◌, ◌/◌, ◌<◌, ◌≤◌, ℕ, ⊤}
 use Rattle.mm_cells.specs.declared.page_use.PageUse.TheVariants.{Class, First}
+use Rattle.mm_cells.specs.declared.cells.Located.{Located}
 use Rattle.mm_cells.specs.declared.marks.Mark.TheVariants as marks
 use Rattle.mm_cells.specs.declared.marks.Sought.{Sought}
 use Rattle.mm_cells.specs.declared.marks.Sought.TheVariants as sought
@@ -33,6 +34,10 @@ pub record IsLocated (m : Map) (word page number base extent : ℕ) : Type 0 whe
   pub covers : Covers (cells_of m) word base cell
   pub sized : cell.extent ≡ extent
   pub index : IsMarkIndex m page number base
+
+-- what is told of a located cell is what its mark tells
+abbrev pub IsTold : Map → Located → Type 0
+IsTold m found = mark_at m found.index.page found.index.number ≡ marks.Taken found.told.colour found.told.flags
 
 -- a taken cell is one that is sought
 abbrev pub IsSuch : Sought → Taken → Type 0

@@ -8,11 +8,11 @@ ghost use Rattle.mm_cells.specs.Marks.{IsFlags, IsSought};
 ghost use Rattle.mm_cells.specs.Cells.{Taken, fresh, with_cell, Begins, IsTaken, Covers, HasNoCell, IsSoundCells};
 ghost use Rattle.mm_cells.specs.Cells.{IsNextTaken, NoneTakenFrom, IsWalk};
 ghost use Rattle.mm_cells.specs.Kept.{class_size, cells_in, cells_of, KeepsCells};
-ghost use Rattle.mm_cells.specs.Indexes.{IsLocated, IsMarkIndex, NoneInPage, IsLowestInPage, IsTakenIn, NoneIn};
+ghost use Rattle.mm_cells.specs.Indexes.{IsLocated, IsTold, IsMarkIndex, NoneInPage, IsLowestInPage, IsTakenIn, NoneIn};
 ghost use Rattle.mm_cells.specs.Indexes.{IsLowestIn};
 
-use crate::class::{PAGE_BYTES, cells_per_page, extent_of};
-use crate::marks::{CellBits, Mark, Sought};
+use crate::class::{PAGE_BYTES, cells_per_page, extent_of, number_at};
+use crate::marks::{CellBits, Mark, ObjectMark, Sought};
 use crate::page_use::PageUse;
 use crate::table::{CLASSES, PAGE_WORDS, Table};
 use mm_model::{Colour, Size};
@@ -83,6 +83,7 @@ impl Cells {
     }
 
     /// The taken cell in which a word falls.
+    #[inline]
     pub fn resolve<L: Ledger>(&self, word: u32, steps: &mut Steps<L>) -> Option<Cell>
         ensures cell { MatchOption result
             ((base : ℕ) (cell : Taken) → Covers self.now word base cell → ⊥)
@@ -98,6 +99,7 @@ impl Cells {
     }
 
     /// The colour of the object in a taken cell.
+    #[inline]
     pub fn colour<L: Ledger>(&self, base: u32, steps: &mut Steps<L>) -> Colour
         requires { IsTaken self.now base }
         ensures colour { (cell : Taken) → Begins self.now base cell → result ≡ cell.colour }
@@ -108,6 +110,7 @@ impl Cells {
         object_mark_at(&self.table, mark_index_of(&self.table, base)).colour
     }
 
+    #[inline]
     pub fn set_colour<L: Ledger>(&mut self, base: u32, colour: Colour, steps: &mut Steps<L>)
         requires { IsTaken self.old base }
         ensures colour { (cell : Taken) → Begins self.old base cell
@@ -120,6 +123,7 @@ impl Cells {
     }
 
     /// The same where there is no counter. It isn't counted.
+    #[inline]
     pub fn paint(&mut self, base: u32, colour: Colour)
         requires { IsTaken self.old base }
         ensures colour { (cell : Taken) → Begins self.old base cell
@@ -127,12 +131,11 @@ impl Cells {
         ensures sound { IsSoundCells self.new }
     {
         let index = mark_index_of(&self.table, base);
-        let told = object_mark_at(&self.table, index);
-        self.table
-            .set_mark(index.page, index.number, Mark::Taken(colour, told.flags));
+        self.table.set_colour(index.page, index.number, colour);
     }
 
     /// What else is told of the object in a taken cell.
+    #[inline]
     pub fn flags<L: Ledger>(&self, base: u32, steps: &mut Steps<L>) -> CellBits
         requires { IsTaken self.now base }
         ensures flags { (cell : Taken) → Begins self.now base cell → result ≡ cell.flags }
@@ -181,36 +184,32 @@ pub(crate) struct MarkIndex {
     pub(crate) number: u32,
 }
 
-/// A taken cell, and where its mark stands.
+/// A taken cell, with where its mark stands and what that tells.
 #[derive(Clone, Copy)]
 pub(crate) struct Located {
     pub(crate) cell: Cell,
     pub(crate) index: MarkIndex,
-}
-
-/// What is told of the object in a taken cell.
-#[derive(Clone, Copy)]
-pub(crate) struct ObjectMark {
-    pub(crate) colour: Colour,
-    pub(crate) flags: CellBits,
+    pub(crate) told: ObjectMark,
 }
 
 /// The taken cell in which a word falls.
+#[inline(always)]
 pub(crate) fn locate(table: &Table, word: u32) -> Option<Located>
     requires { KeepsCells table.now }
     ensures { MatchOption result
         ((base : ℕ) (cell : Taken) → Covers (cells_of table.now) word base cell → ⊥)
-        (λ found. IsLocated table.now word found.index.page found.index.number found.cell.base found.cell.extent) }
+        (λ found. IsLocated table.now word found.index.page found.index.number found.cell.base found.cell.extent
+        × IsTold table.now found) }
 {
     let page = word / PAGE_BYTES;
     if table.pages() <= page {
         return None;
     }
     match table.use_at(page) {
-        PageUse::Unused => None,
         PageUse::Class(class) => small_cell(table, page, class, word % PAGE_BYTES),
-        PageUse::First(count) => Some(whole_cell(page, count)),
+        PageUse::First(count) => Some(whole_cell(table, page, count)),
         PageUse::Later(distance) => Some(cell_from(table, page - distance)),
+        PageUse::Unused => None,
     }
 }
 
@@ -223,36 +222,47 @@ fn small_cell(table: &Table, page: u32, class: u32, offset: u32) -> Option<Locat
     ensures { let number = offset / class_size class in MatchOption result
         (number < cells_in class → mark_at table.now page number ≡ Mark.Free)
         (λ found. IsTakenIn table.now page class number found.cell.base × (found.cell.extent ≡ class_size class)
-        × (found.index.page ≡ page) × (found.index.number ≡ number)) }
+        × (found.index.page ≡ page) × (found.index.number ≡ number) × IsTold table.now found) }
 {
-    let size = extent_of(Size::Small(class));
-    let number = offset / size;
-    if cells_per_page(class) <= number || table.mark_at(page, number) == Mark::Free {
+    let number = number_at(class, offset);
+    if cells_per_page(class) <= number {
         return None;
     }
-    Some(Located {
-        cell: Cell {
-            base: page * PAGE_BYTES + number * size,
-            extent: size,
-        },
-        index: MarkIndex { page, number },
-    })
+    match table.mark_at(page, number) {
+        Mark::Free => None,
+        Mark::Taken(colour, flags) => {
+            let extent = extent_of(Size::Small(class));
+            Some(Located {
+                cell: Cell {
+                    base: page * PAGE_BYTES + number * extent,
+                    extent,
+                },
+                index: MarkIndex { page, number },
+                told: ObjectMark { colour, flags },
+            })
+        }
+    }
 }
 
-/// A cell of whole pages.
-fn whole_cell(page: u32, count: u32) -> Located
-    requires page { page ≤ 4096 }
+/// A cell of so many whole pages.
+fn whole_cell(table: &Table, page: u32, count: u32) -> Located
+    requires within { page < table.now.pages }
+    requires most { table.now.pages ≤ 4096 }
     requires count { count ≤ 4096 }
+    requires taken { mark_at table.now page 0 ≢ Mark.Free }
     ensures base { result.cell.base ≡ 4096 * page }
     ensures extent { result.cell.extent ≡ 4096 * count }
     ensures index { (result.index.page ≡ page) × (result.index.number ≡ 0) }
+    ensures told { IsTold table.now result }
 {
+    let index = MarkIndex { page, number: 0 };
     Located {
         cell: Cell {
             base: page * PAGE_BYTES,
             extent: count * PAGE_BYTES,
         },
-        index: MarkIndex { page, number: 0 },
+        index,
+        told: object_mark_at(table, index),
     }
 }
 
@@ -261,17 +271,20 @@ fn cell_from(table: &Table, page: u32) -> Located
     requires within { page < table.now.pages }
     requires most { table.now.pages ≤ 4096 }
     requires first { (count : ℕ) × (use_at table.now page ≡ PageUse.First count) × (count ≤ 4096) }
+    requires taken { mark_at table.now page 0 ≢ Mark.Free }
     ensures base { result.cell.base ≡ 4096 * page }
     ensures extent { (count : ℕ) → use_at table.now page ≡ PageUse.First count → result.cell.extent ≡ 4096 * count }
     ensures index { (result.index.page ≡ page) × (result.index.number ≡ 0) }
+    ensures told { IsTold table.now result }
 {
     match table.use_at(page) {
-        PageUse::First(count) => whole_cell(page, count),
+        PageUse::First(count) => whole_cell(table, page, count),
         _ => unreachable!(),
     }
 }
 
 /// Where the mark of the taken cell stands that begins at a base.
+#[inline(always)]
 pub(crate) fn mark_index_of(table: &Table, base: u32) -> MarkIndex
     requires kept { KeepsCells table.now }
     requires taken { IsTaken (cells_of table.now) base }
@@ -279,7 +292,7 @@ pub(crate) fn mark_index_of(table: &Table, base: u32) -> MarkIndex
 {
     let page = base / PAGE_BYTES;
     let number = match table.use_at(page) {
-        PageUse::Class(class) => base % PAGE_BYTES / extent_of(Size::Small(class)),
+        PageUse::Class(class) => number_at(class, base % PAGE_BYTES),
         _ => 0,
     };
     MarkIndex { page, number }
@@ -293,10 +306,7 @@ pub(crate) fn object_mark_at(table: &Table, index: MarkIndex) -> ObjectMark
     ensures mark { mark_at table.now index.page index.number ≡ Mark.Taken result.colour result.flags }
     ensures known { IsFlags result.flags }
 {
-    match table.mark_at(index.page, index.number) {
-        Mark::Taken(colour, flags) => ObjectMark { colour, flags },
-        Mark::Free => unreachable!(),
-    }
+    table.object_mark_at(index.page, index.number)
 }
 
 /// The least base at `from` or above of the cells that are sought and begin in a page.

@@ -24,6 +24,12 @@ const CELLS_BY_CLASS: [u32; 19] = [
     256, 128, 85, 64, 51, 42, 36, 32, 25, 21, 16, 12, 9, 8, 6, 5, 4, 3, 2,
 ];
 
+/// 2^24 divided by the bytes of a cell of each class, rounded up.
+const RECIPROCALS: [u32; 19] = [
+    1048576, 524288, 349526, 262144, 209716, 174763, 149797, 131072, 104858, 87382, 65536, 49933,
+    37450, 32768, 24967, 20561, 16384, 12337, 8192,
+];
+
 /// The least class whose cells have at least this many units.
 const CLASS_BY_UNITS: [u8; 129] = [
     0, 0, 1, 2, 3, 4, 5, 6, 7, 8, 8, 9, 9, 10, 10, 10, 10, 11, 11, 11, 11, 11, 12, 12, 12, 12, 12,
@@ -69,4 +75,16 @@ pub fn cells_per_page(class: u32) -> u32
     ensures { result ≡ 4096 / slice_index class_sizes class }
 {
     CELLS_BY_CLASS[class as usize]
+}
+
+/// The number of the cell of a page of this class that has the byte which is so many bytes into the page. It may be
+/// that of a cell which no longer fits into the page.
+#[inline]
+pub(crate) fn number_at(class: u32, offset: u32) -> u32
+    requires class { class < 19 }
+    requires offset { offset < 4096 }
+    ensures { result ≡ offset / slice_index class_sizes class }
+{
+    // This is exact for so few bytes, and no division.
+    offset * RECIPROCALS[class as usize] >> 24
 }

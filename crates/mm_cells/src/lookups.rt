@@ -1,14 +1,12 @@
 // Looking a cell up once, by a word or by its base.
-ghost use Rattle.std.specs.Prelude.{◌≡◌, ◌≢◌, ◌+◌, ◌<◌, ℕ, MatchOption, Some, true, false};
+ghost use Rattle.std.specs.Prelude.{◌≡◌, ◌+◌, ℕ, MatchOption};
 ghost use Rattle.mm_cells.specs.Cells.{Taken, Begins, IsTaken, Covers, IsSoundCells};
-ghost use Rattle.mm_cells.specs.Map.{mark_at, SetsMark};
 ghost use Rattle.mm_cells.specs.Looking.{NoWhite, Shades};
 
-use crate::cells::{Cells, MarkIndex, locate, object_mark_at};
+use crate::cells::{Cells, locate};
 use crate::class::{PAGE_BYTES, extent_of};
-use crate::marks::{CellBits, Mark};
+use crate::marks::CellBits;
 use crate::page_use::PageUse;
-use crate::table::Table;
 use mm_model::{Colour, Size};
 use mm_steps::Steps;
 use std::sync::ledger::Ledger;
@@ -37,6 +35,7 @@ impl Cells {
     }
 
     /// The taken cell in which a word falls, with all that is told of it.
+    #[inline]
     pub fn find<L: Ledger>(&self, word: u32, steps: &mut Steps<L>) -> Option<FoundCell>
         ensures cell { MatchOption result
             ((base : ℕ) (cell : Taken) → Covers self.now word base cell → ⊥)
@@ -47,20 +46,18 @@ impl Cells {
     {
         steps.tick();
         match locate(&self.table, word) {
-            Some(located) => {
-                let told = object_mark_at(&self.table, located.index);
-                Some(FoundCell {
-                    base: located.cell.base,
-                    extent: located.cell.extent,
-                    colour: told.colour,
-                    flags: told.flags,
-                })
-            }
+            Some(located) => Some(FoundCell {
+                base: located.cell.base,
+                extent: located.cell.extent,
+                colour: located.told.colour,
+                flags: located.told.flags,
+            }),
             None => None,
         }
     }
 
     /// Makes the white cell in which a word falls gray, and answers its base.
+    #[inline]
     pub fn shade<L: Ledger>(&mut self, word: u32, steps: &mut Steps<L>) -> Option<u32>
         ensures shaded { MatchOption result (NoWhite self.old word × (self.new ≡ self.old))
             (λ base. Shades self.old self.new word base) }
@@ -69,39 +66,15 @@ impl Cells {
     {
         steps.tick();
         match locate(&self.table, word) {
-            Some(located) => {
-                if shade_at(&mut self.table, located.index) {
+            Some(located) => match located.told.colour {
+                Colour::White => {
+                    let index = located.index;
+                    self.table.make_gray(index.page, index.number);
                     Some(located.cell.base)
-                } else {
-                    None
                 }
-            }
+                Colour::Gray | Colour::Black => None,
+            },
             None => None,
         }
-    }
-}
-
-/// Makes the cell with this mark gray if it is white, and answers whether it was.
-fn shade_at(table: &mut Table, index: MarkIndex) -> bool
-    requires page { index.page < table.old.pages }
-    requires number { index.number < 256 }
-    requires taken { mark_at table.old index.page index.number ≢ Mark.Free }
-    ensures white { result ≡ true → (flags : CellBits)
-        × (mark_at table.old index.page index.number ≡ Mark.Taken Colour.White flags)
-        × SetsMark table.old table.new index.page index.number (Mark.Taken Colour.Gray flags) }
-    ensures other { result ≡ false → (table.new ≡ table.old) × ((flags : CellBits)
-        → mark_at table.old index.page index.number ≢ Mark.Taken Colour.White flags) }
-{
-    let told = object_mark_at(table, index);
-    match told.colour {
-        Colour::White => {
-            table.set_mark(
-                index.page,
-                index.number,
-                Mark::Taken(Colour::Gray, told.flags),
-            );
-            true
-        }
-        Colour::Gray | Colour::Black => false,
     }
 }

@@ -1,7 +1,7 @@
 // The marks of cells in a table of words: four bits for each cell, and those of eight cells in each word.
 ghost use Rattle.std.specs.Prelude.{◌≡◌, ◌≢◌, ℕ, ◌+◌, ◌*◌, ◌/◌, ◌%◌, ◌<◌, ◌≤◌, ◌⊎◌, length, MatchOption};
 ghost use Rattle.mm_cells.specs.Marks.{code_in, code_of, colour_code, no_flags, IsMark, mark_of, mark_in};
-ghost use Rattle.mm_cells.specs.Marks.{whitened_mark};
+ghost use Rattle.mm_cells.specs.Marks.{colour_of, flags_of, whitened_mark};
 ghost use Rattle.mm_cells.specs.Marks.{code_of_cell, mark_of_cell, page_marks};
 ghost use Rattle.mm_cells.specs.Marks.{NoneFree, IsLowestFree, NoneSought, IsLowestSought, IsMaskOf};
 
@@ -50,6 +50,13 @@ impl Flags for CellBits {
 pub(crate) enum Mark {
     Free,
     Taken(Colour, CellBits),
+}
+
+/// What is told of the object in a taken cell.
+#[derive(Clone, Copy)]
+pub(crate) struct ObjectMark {
+    pub(crate) colour: Colour,
+    pub(crate) flags: CellBits,
 }
 
 /// Which taken cells are looked for.
@@ -107,17 +114,40 @@ fn encode(mark: Mark) -> u32
     }
 }
 
+/// The colour that the four bits of a taken cell mean.
+#[inline]
+fn colour_in(code: u32) -> Colour
+    ensures { result ≡ colour_of (code % 4) }
+{
+    match code % 4 {
+        WHITE => Colour::White,
+        BLACK => Colour::Black,
+        _ => Colour::Gray,
+    }
+}
+
+/// What the four bits of a taken cell mean.
+#[inline]
+fn object_mark(code: u32) -> ObjectMark
+    requires { code < 16 }
+    ensures colour { result.colour ≡ colour_of (code % 4) }
+    ensures flags { result.flags ≡ flags_of code }
+{
+    let flags = CellBits((code / 4) as u8);
+    let colour = colour_in(code);
+    ObjectMark { colour, flags }
+}
+
 /// The mark that four bits mean.
 fn decode(code: u32) -> Mark
     requires { code < 16 }
     ensures { result ≡ mark_of code }
 {
-    let flags = CellBits((code / 4) as u8);
-    match code % 4 {
-        WHITE => Mark::Taken(Colour::White, flags),
-        BLACK => Mark::Taken(Colour::Black, flags),
-        GRAY => Mark::Taken(Colour::Gray, flags),
-        _ => Mark::Free,
+    if code % 4 == FREE {
+        Mark::Free
+    } else {
+        let told = object_mark(code);
+        Mark::Taken(told.colour, told.flags)
     }
 }
 
@@ -140,6 +170,30 @@ fn with_mark(word: u32, place: u32, mark: Mark) -> u32
 {
     let shift = 4 * place;
     word - (code_at(word, place) << shift) + (encode(mark) << shift)
+}
+
+/// A word with another colour at one of its places, whose cell is taken.
+#[inline]
+fn with_colour(word: u32, place: u32, colour: Colour) -> u32
+    requires { place < 8 }
+    ensures given { (its : Colour) (flags : CellBits) → mark_in word place ≡ Mark.Taken its flags
+        → mark_in result place ≡ Mark.Taken colour flags }
+    ensures others { (p : ℕ) → p < 8 → p ≢ place → mark_in result p ≡ mark_in word p }
+{
+    let shift = 4 * place;
+    word - ((word >> shift & 3) << shift) + (colour_code(colour) << shift)
+}
+
+/// A word with a gray cell at one of its places, where a white one was.
+#[inline]
+fn gray_word(word: u32, place: u32) -> u32
+    requires place { place < 8 }
+    requires white { (flags : CellBits) × (mark_in word place ≡ Mark.Taken Colour.White flags) }
+    ensures given { (flags : CellBits) → mark_in word place ≡ Mark.Taken Colour.White flags
+        → mark_in result place ≡ Mark.Taken Colour.Gray flags }
+    ensures others { (p : ℕ) → p < 8 → p ≢ place → mark_in result p ≡ mark_in word p }
+{
+    word + (GRAY << (4 * place))
 }
 
 /// The lowest place of a word whose mark says that a cell is free.
@@ -197,6 +251,15 @@ pub(crate) fn mark_at(table: &[u32], cell: u32) -> Mark
     decode(code_at(table[(cell / 8) as usize], cell % 8))
 }
 
+/// What the mark of a taken cell tells.
+pub(crate) fn object_mark_at(table: &[u32], cell: u32) -> ObjectMark
+    requires within { cell / 8 < length table.now }
+    requires taken { mark_of_cell table.now cell ≢ Mark.Free }
+    ensures { mark_of_cell table.now cell ≡ Mark.Taken result.colour result.flags }
+{
+    object_mark(code_at(table[(cell / 8) as usize], cell % 8))
+}
+
 /// Gives a cell another mark.
 pub(crate) fn set_mark(table: &mut [u32], cell: u32, mark: Mark)
     requires within { cell / 8 < length table.old }
@@ -207,6 +270,29 @@ pub(crate) fn set_mark(table: &mut [u32], cell: u32, mark: Mark)
 {
     let word = &mut table[(cell / 8) as usize];
     *word = with_mark(*word, cell % 8, mark);
+}
+
+/// Gives a taken cell another colour.
+pub(crate) fn set_colour(table: &mut [u32], cell: u32, colour: Colour)
+    requires { cell / 8 < length table.old }
+    ensures given { (its : Colour) (flags : CellBits) → mark_of_cell table.old cell ≡ Mark.Taken its flags
+        → mark_of_cell table.new cell ≡ Mark.Taken colour flags }
+    ensures others { (c : ℕ) → c ≢ cell → mark_of_cell table.new c ≡ mark_of_cell table.old c }
+{
+    let word = &mut table[(cell / 8) as usize];
+    *word = with_colour(*word, cell % 8, colour);
+}
+
+/// Makes a white cell gray.
+pub(crate) fn make_gray(table: &mut [u32], cell: u32)
+    requires within { cell / 8 < length table.old }
+    requires white { (flags : CellBits) × (mark_of_cell table.old cell ≡ Mark.Taken Colour.White flags) }
+    ensures given { (flags : CellBits) → mark_of_cell table.old cell ≡ Mark.Taken Colour.White flags
+        → mark_of_cell table.new cell ≡ Mark.Taken Colour.Gray flags }
+    ensures others { (c : ℕ) → c ≢ cell → mark_of_cell table.new c ≡ mark_of_cell table.old c }
+{
+    let word = &mut table[(cell / 8) as usize];
+    *word = gray_word(*word, cell % 8);
 }
 
 /// The lowest free one of the first cells of a page, whose marks begin at that word. Those below `from` are taken.

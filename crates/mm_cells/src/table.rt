@@ -7,9 +7,10 @@ ghost use Rattle.mm_cells.specs.Spans.{SetsUses, AreUnused, AreWhole};
 ghost use Rattle.mm_cells.specs.Map.{use_at, mark_at, room_at, SetsUse, SetsMark, FreesPage, WhitensPage, SetsRoom};
 ghost use Rattle.mm_cells.specs.Map.{NoPageWithRoom, IsLowestRoom};
 
-use crate::marks::{Mark, Sought};
+use crate::marks::{CellBits, Mark, ObjectMark, Sought};
 use crate::page_use::PageUse;
 use crate::{marks, page_use};
+use mm_model::Colour;
 use mm_sets::{insert, lowest, remove, set_words};
 use mm_words::Words;
 use std::marker::Model;
@@ -286,5 +287,46 @@ impl Table {
     {
         let part = marks_part(self.pages);
         self.words.part(part.start, part.len)
+    }
+
+    /// What the mark of a taken cell of a page tells.
+    pub fn object_mark_at(&self, page: u32, cell: u32) -> ObjectMark
+        requires page { page < self.now.pages }
+        requires cell { cell < 256 }
+        requires taken { mark_at self.now page cell ≢ Mark.Free }
+        ensures { mark_at self.now page cell ≡ Mark.Taken result.colour result.flags }
+    {
+        let marks = self.marks();
+        marks::object_mark_at(marks, 256 * page + cell)
+    }
+
+    /// Makes a white cell of a page gray.
+    pub fn make_gray(&mut self, page: u32, cell: u32)
+        requires page { page < self.old.pages }
+        requires cell { cell < 256 }
+        requires white { (flags : CellBits) × (mark_at self.old page cell ≡ Mark.Taken Colour.White flags) }
+        ensures { (flags : CellBits) → mark_at self.old page cell ≡ Mark.Taken Colour.White flags
+            → SetsMark self.old self.new page cell (Mark.Taken Colour.Gray flags) }
+    {
+        let part = marks_part(self.pages);
+        marks::make_gray(
+            self.words.part_mut(part.start, part.len),
+            256 * page + cell,
+        );
+    }
+
+    /// Gives the object in a taken cell of a page another colour.
+    pub fn set_colour(&mut self, page: u32, cell: u32, colour: Colour)
+        requires page { page < self.old.pages }
+        requires cell { cell < 256 }
+        ensures { (its : Colour) (flags : CellBits) → mark_at self.old page cell ≡ Mark.Taken its flags
+            → SetsMark self.old self.new page cell (Mark.Taken colour flags) }
+    {
+        let part = marks_part(self.pages);
+        marks::set_colour(
+            self.words.part_mut(part.start, part.len),
+            256 * page + cell,
+            colour,
+        );
     }
 }

@@ -1,15 +1,16 @@
 // What taking a cell or giving it back changes in the table.
-ghost use Rattle.std.specs.Prelude.{◌≡◌, ◌≢◌, ◌+◌, ◌*◌, ◌/◌, ◌<◌, ◌≤◌, ℕ, Some, None, ◌↔◌, true, false};
+ghost use Rattle.std.specs.Prelude.{◌≡◌, ◌≢◌, ◌+◌, ◌*◌, ◌/◌, ◌<◌, ◌≤◌, ℕ, Some, None, ◌↔◌, Bool, true};
+ghost use Rattle.std.specs.Prelude.{false};
 ghost use Rattle.mm_cells.specs.declared.page_use.PageUse.TheVariants as uses;
 ghost use Rattle.mm_cells.specs.Cells.{Taken, with_cell, with_run, newly_taken, Begins, IsTaken};
 ghost use Rattle.mm_cells.specs.Kept.{class_size, cells_of, KeepsCells, HasFree};
-ghost use Rattle.mm_cells.specs.Map.{use_at, mark_at, IsLowestRoom};
+ghost use Rattle.mm_cells.specs.Map.{use_at, mark_at, room_at, SetsRoom, IsLowestRoom};
 ghost use Rattle.mm_cells.specs.Marks.{NoneFree};
 ghost use Rattle.mm_model.specs.Lowest.{IsLowest};
 ghost use Rattle.mm_cells.specs.Placing.{IsFreeCell};
 ghost use Rattle.mm_cells.specs.Spans.{AreUnused};
 
-use crate::class::{PAGE_BYTES, cells_per_page, extent_of};
+use crate::class::{PAGE_BYTES, cells_per_page, extent_of, number_at};
 use crate::marks::{Mark, Sought, new_mark};
 use crate::page_use::PageUse;
 use crate::table::Table;
@@ -25,6 +26,20 @@ fn has_room(table: &Table, page: u32, class: u32, from: u32) -> bool
     match table.lowest_free(page, from, cells_per_page(class)) {
         Some(_) => true,
         None => false,
+    }
+}
+
+/// Notes that a page of a class which had room has none any more, where that is so. The cells below `from` are taken.
+fn note_full(table: &mut Table, page: u32, class: u32, from: u32)
+    requires class { class < 19 }
+    requires within { page < table.old.pages }
+    requires passed { NoneFree (mark_at table.old page) from }
+    requires had { room_at table.old class page ≡ true }
+    ensures { (has_room : Bool) × SetsRoom table.old table.new class page has_room
+        × ((has_room ≡ true) ↔ HasFree table.old page class) }
+{
+    if !has_room(table, page, class, from) {
+        table.set_room(class, page, false);
     }
 }
 
@@ -44,8 +59,7 @@ pub(crate) fn take_cell(table: &mut Table, page: u32, class: u32, colour: Colour
     match table.lowest_free(page, 0, cells) {
         Some(cell) => {
             table.set_mark(page, cell, new_mark(colour));
-            let has_room = has_room(table, page, class, cell);
-            table.set_room(class, page, has_room);
+            note_full(table, page, class, cell);
             PAGE_BYTES * page + cell * extent_of(Size::Small(class))
         }
         None => unreachable!(),
@@ -99,7 +113,7 @@ pub(crate) fn release_cell(table: &mut Table, page: u32, class: u32, offset: u32
     ensures none { result ≡ true → (base : ℕ) (cell : Taken) → Begins (cells_of table.new) base cell
         → base / 4096 ≢ page }
 {
-    table.set_mark(page, offset / extent_of(Size::Small(class)), Mark::Free);
+    table.set_mark(page, number_at(class, offset), Mark::Free);
     match table.lowest_sought(page, 0, cells_per_page(class), Sought::Taken) {
         Some(_) => {
             table.set_room(class, page, true);

@@ -3,16 +3,17 @@ use Rattle.std.proofs.Common.{◌≡◌, ◌≢◌, ℕ, zero, suc, ◌+◌, ◌
 use Rattle.std.proofs.Common.{get_or, Bool, subst}
 use Rattle.std.proofs.Common.{sym, ap, ◌∙◌, inl, inr, arith}
 use Rattle.std.proofs.Math.Nat.{pow-suc, pow-succ', div-div-eq-div-mul, mul-add-div_right}
-use Rattle.std.proofs.Math.Nat.{mul-add-mod_self_right, one-le-pow, add-mul}
+use Rattle.std.proofs.Math.Nat.{mul-add-mod_self_right, mul-le-mul_right, one-le-pow, add-mul}
 use Rattle.std.proofs.lemmas.Bool.{cases_lt}
 use Rattle.std.proofs.lemmas.Nat.{pow-add, and_mask, shl_whole, div-mul-add, div-add-mod', mod_below, div_below}
 use Rattle.std.proofs.lemmas.Nat.{mul-add-lt}
 use Rattle.std.specs.Prelude.{◌==◌, if◌then◌else◌}
 use Rattle.std.proofs.lemmas.Bool.{cases_Bool}
 use Rattle.mm_model.specs.declared.object.Colour.{Colour}
+use Rattle.mm_model.specs.declared.object.Colour.TheVariants.{White, Gray, Black}
 use Rattle.mm_cells.specs.declared.marks.CellBits.{CellBits}
 use Rattle.mm_cells.specs.declared.marks.Mark.TheVariants.{Free, Taken}
-use Rattle.mm_cells.specs.Marks.{code_in, colour_of, flags_of, mark_of, mark_of_cell, IsFlags}
+use Rattle.mm_cells.specs.Marks.{code_in, colour_of, colour_code, flags_of, mark_of, mark_of_cell, IsFlags}
 
 pub pow-sixteen : (k : ℕ) → 2 ^ (4 * k) ≡ 16 ^ k
 pow-sixteen zero = refl
@@ -140,18 +141,46 @@ code-le word place =
     let split = digits-split place (word / 16 ^ place / 16) (code_in word place) (word % 16 ^ place) in
     omega arith
 
+-- a digit's low two bits are replaced
+pub recolours : (word place low : ℕ) → low < 4 →
+    Replaces word place (code_in word place / 4 * 4 + low)
+    (word - code_in word place % 4 * 16 ^ place + low * 16 ^ place)
+recolours word place low small =
+    let code = code_in word place in
+    let code_small : code < 16 = mod_below (word / 16 ^ place) 16 (omega arith) in
+    let parts : code ≡ code / 4 * 4 + code % 4 = omega arith in
+    let after : word - code % 4 * 16 ^ place + low * 16 ^ place
+    ≡ word - code * 16 ^ place + (code / 4 * 4 + low) * 16 ^ place =
+    omega (
+      arith,
+      code-le word place,
+      ap (λ x. x * 16 ^ place) parts,
+      add-mul (code / 4 * 4) (code % 4) (16 ^ place),
+      add-mul (code / 4 * 4) low (16 ^ place),
+    ) in
+    rw after (replaces word place (code / 4 * 4 + low) (omega arith))
+
+pub low-le : (word place : ℕ) → code_in word place % 4 * 16 ^ place ≤ word
+low-le word place =
+    let code = code_in word place in
+    let part : code % 4 ≤ code = omega arith in
+    omega (arith, code-le word place, mul-le-mul_right (16 ^ place) part)
+
 -- what the program computes of a word and a digit
 pub code_in-mask : (word place : ℕ) → bit_and (word / 2 ^ (4 * place)) 15 ≡ code_in word place
 code_in-mask word place = rw pow-sixteen (and_mask (word / 16 ^ place) 4)
+
+pub low-mask : (word place : ℕ) → bit_and (word / 2 ^ (4 * place)) 3 ≡ code_in word place % 4
+low-mask word place = rw pow-sixteen (and_mask (word / 16 ^ place) 2 ∙ omega arith)
 
 pub code-shifted : (code place : ℕ) → code < 16 → place < 8 → code * 2 ^ (4 * place) % 2 ^ 32 ≡ code * 16 ^ place
 code-shifted code place small within =
     shl_whole code 4 (4 * place) 32 small (omega arith) ∙ ap (λ x. code * x) (pow-sixteen place)
 
 -- the flags of a mark that four bits mean
-pub IsFlags-mark : (code : ℕ) (colour : Colour) (flags : CellBits) → code < 16 → mark_of code ≡ Taken colour flags →
-    IsFlags flags
-IsFlags-mark code colour flags small is = elim (cases_Bool (code % 4 == 3)) [
+flags_of-mark : (code : ℕ) (colour : Colour) (flags : CellBits) → mark_of code ≡ Taken colour flags →
+    flags_of code ≡ flags
+flags_of-mark code colour flags is = elim (cases_Bool (code % 4 == 3)) [
   | inl free ↦
       let none : mark_of code ≡ Free =
       ap (λ (test : Bool). if test then Free else Taken (colour_of (code % 4)) (flags_of code)) free in
@@ -159,9 +188,35 @@ IsFlags-mark code colour flags small is = elim (cases_Bool (code % 4 == 3)) [
   | inr taken ↦
       let some : mark_of code ≡ Taken (colour_of (code % 4)) (flags_of code) =
       ap (λ (test : Bool). if test then Free else Taken (colour_of (code % 4)) (flags_of code)) taken in
-      let same : flags_of code ≡ flags = cc in
-      subst IsFlags same (let low : code / 4 < 4 = omega arith in low)
+      cc
 ]
+
+pub IsFlags-mark : (code : ℕ) (colour : Colour) (flags : CellBits) → code < 16 → mark_of code ≡ Taken colour flags →
+    IsFlags flags
+IsFlags-mark code colour flags small is =
+    subst IsFlags (flags_of-mark code colour flags is) (let low : code / 4 < 4 = omega arith in low)
+
+-- a mark by its low two bits, and by others in their place
+colour_code-lt : (colour : Colour) → colour_code colour < 4
+colour_code-lt White = omega arith
+colour_code-lt Gray = omega arith
+colour_code-lt Black = omega arith
+
+low-coloured : (colour : Colour) (low : ℕ) (flags : CellBits) → low ≡ colour_code colour →
+    (if low == 3 then Free else Taken (colour_of low) flags) ≡ Taken colour flags
+low-coloured White low flags e = rw e refl
+low-coloured Gray low flags e = rw e refl
+low-coloured Black low flags e = rw e refl
+
+pub mark_of-coloured : (code : ℕ) (its colour : Colour) (flags : CellBits) → mark_of code ≡ Taken its flags →
+    mark_of (code / 4 * 4 + colour_code colour) ≡ Taken colour flags
+mark_of-coloured code its colour flags is =
+    let after = code / 4 * 4 + colour_code colour in
+    let small = colour_code-lt colour in
+    let high : after / 4 ≡ code / 4 = omega arith in
+    low-coloured colour (after % 4) (flags_of after) (omega arith)
+    ∙ ap (λ x. Taken colour (record { 0 = x })) high
+    ∙ ap (λ (f : CellBits). Taken colour f) (flags_of-mark code its flags is)
 
 pub IsFlags-cell : (table : List ℕ) (cell : ℕ) (colour : Colour) (flags : CellBits) →
     mark_of_cell table cell ≡ Taken colour flags → IsFlags flags

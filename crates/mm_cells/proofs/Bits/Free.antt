@@ -1,8 +1,8 @@
 -- The free cells of a word, which has a bit set for each of them once the two low bits of each mark are joined.
-use Rattle.std.proofs.Common.{◌≡◌, ℕ, ◌*◌, ◌/◌, ◌%◌, ◌^◌, ◌<◌, ◌==◌, true, false, min, bit_and, refl, sym, ap}
+use Rattle.std.proofs.Common.{◌≡◌, ℕ, ◌-◌, ◌*◌, ◌/◌, ◌%◌, ◌^◌, ◌<◌, ◌==◌, true, false, min, bit_and, refl, sym, ap}
 use Rattle.std.proofs.Common.{◌∙◌, inl, inr, arith}
 use Rattle.std.proofs.Math.Nat.{div-div-eq-div-mul, mul_comm}
-use Rattle.std.proofs.lemmas.Bool.{agree_below_at, cases_eq}
+use Rattle.std.proofs.lemmas.Bool.{agree_below_at, cases_eq, eqb-true}
 use Rattle.std.proofs.lemmas.Bool.Decides.{nat_tests}
 use Rattle.std.proofs.lemmas.Nat.{and_le_r}
 use Rattle.std.proofs.lemmas.Nat.Bits.{bit_at_and, bit_at-zero, bit_at-lt, bit_at-trailing_zeros}
@@ -49,17 +49,10 @@ free_bits-at word i =
     ∙ ap (λ x. min x (bit_at LOWEST_BITS i)) (bit_at_and word (word / 2) i)
 
 -- the mask has the lowest bit of each place, and no other
-pub lowest_bits-at : (place : ℕ) → place < 8 → bit_at LOWEST_BITS (4 * place) ≡ 1
-lowest_bits-at place within =
-    let found : (bit_at LOWEST_BITS (4 * place) == 1) ≡ true =
-    agree_below_at (λ p. bit_at LOWEST_BITS (4 * p) == 1) (λ _. true) 8 place refl within in
-    grind (arith, nat_tests)
-
-pub lowest_bits-off : (i : ℕ) → i < 32 → bit_at LOWEST_BITS i ≡ 1 → i % 4 ≡ 0
-lowest_bits-off i within set =
-    let same : (bit_at LOWEST_BITS i == 1) ≡ (i % 4 == 0) =
-    agree_below_at (λ p. bit_at LOWEST_BITS p == 1) (λ p. p % 4 == 0) 32 i refl within in
-    grind (arith, nat_tests)
+pub lowest_bits : (i : ℕ) → i < 32 → bit_at LOWEST_BITS i ≡ 1 - i % 4
+lowest_bits i within =
+    eqb-true (bit_at LOWEST_BITS i) (1 - i % 4)
+    (agree_below_at (λ p. bit_at LOWEST_BITS p == 1 - p % 4) (λ _. true) 32 i refl within)
 
 -- such a bit is set just where the mark says free
 free_bit : (word place : ℕ) → place < 8 → bit_at (free_bits word) (4 * place) ≡ 1 → mark_in word place ≡ Free
@@ -75,7 +68,7 @@ bit_free word place within free =
       low_bit word place,
       next_bit word place,
       low_bits-free (code_in word place) free,
-      lowest_bits-at place within,
+      lowest_bits (4 * place) (omega arith),
     )
 
 pub NoneFree-word : (word : ℕ) → bit_and (bit_and word (word / 2)) LOWEST_BITS ≡ 0 → NoneFree (mark_in word) 8
@@ -94,7 +87,7 @@ IsLowestFree-word word some =
     let at = trailing_zeros w32 (free_bits word) in
     let bits = free_bits-at word at in
     let lowest : bit_at LOWEST_BITS at ≡ 1 = let one = bit_at-lt LOWEST_BITS at in omega (arith, first.1) in
-    let whole : at ≡ 4 * (at / 4) = let low = lowest_bits-off at first.0 lowest in omega arith in
+    let whole : at ≡ 4 * (at / 4) = let low = lowest_bits at first.0 in omega arith in
     let set : bit_at (free_bits word) (4 * (at / 4)) ≡ 1 = ap (λ i. bit_at (free_bits word) i) (sym whole) ∙ first.1 in
     record {
       within = omega (arith, first.0);

@@ -1,6 +1,6 @@
 -- The cells of a word that are sought, from a place on, by a mask that has a bit set for each of them.
 use Rattle.std.proofs.Common.{◌≡◌, ℕ, ◌+◌, ◌-◌, ◌*◌, ◌/◌, ◌%◌, ◌^◌, ◌<◌, ◌==◌, min, max, bit_and, bit_or, sym}
-use Rattle.std.proofs.Common.{ap, ◌∙◌, inl, inr, refl, arith}
+use Rattle.std.proofs.Common.{ap, ◌∙◌, inl, inr, refl, subst, arith}
 use Rattle.std.specs.Prelude.{if◌then◌else◌}
 use Rattle.std.proofs.lemmas.Bool.{cases_lt, cases_eq}
 use Rattle.std.proofs.Math.Nat.{div-div-eq-div-mul, div-le_self}
@@ -11,13 +11,14 @@ use Rattle.std.specs.Int.{bit_at, bit_not, trailing_zeros, w32}
 use Rattle.mm_model.specs.declared.object.Colour.{Colour}
 use Rattle.mm_model.specs.declared.object.Colour.TheVariants.{White, Gray, Black}
 use Rattle.mm_cells.specs.declared.marks.CellBits.{CellBits}
+use Rattle.mm_cells.specs.declared.marks.Mark.{Mark}
 use Rattle.mm_cells.specs.declared.marks.Mark.TheVariants.{Free, Taken}
 use Rattle.mm_cells.specs.declared.marks.Sought.{Sought}
 use Rattle.mm_cells.specs.declared.marks.Sought.TheVariants as sought
 use Rattle.mm_cells.specs.declared.marks.TheConstants.{LOWEST_BITS}
-use Rattle.mm_cells.specs.Marks.{code_in, colour_of, flags_of, colour_code, mark_in}
+use Rattle.mm_cells.specs.Marks.{code_in, colour_of, flags_of, colour_code, mark_of, mark_in}
 use Rattle.mm_cells.specs.Marks.{IsSought, NoneSought, IsLowestSought, IsMaskOf}
-use Rattle.mm_cells.proofs.Bits.Free.{low_bits-free, free-low_bits, low_bit, next_bit, lowest_bits-at, lowest_bits-off}
+use Rattle.mm_cells.proofs.Bits.Free.{low_bits-free, free-low_bits, low_bit, next_bit, lowest_bits}
 
 pub bit_at-shifted : (n k i : ℕ) → bit_at (n / 2 ^ k) i ≡ bit_at n (k + i)
 bit_at-shifted n k i =
@@ -45,6 +46,11 @@ low-sought colour n flags small is = elim (cases_eq n 0) [
   ]
 ]
 
+pub white-low : (code : ℕ) (flags : CellBits) → mark_of code ≡ Taken White flags → code % 4 ≡ 0
+white-low code flags is =
+    low-sought White (code % 4) (flags_of code) (omega arith)
+    (subst (λ (mark : Mark). IsSought (sought.Of White) mark) (sym is) refl)
+
 -- the bits of a mask are chosen among those of another word
 pub IsMaskOf-bits : (what : Sought) (word bits : ℕ) →
     ((place : ℕ) → place < 8 → bit_at bits (4 * place) ≡ 1 → IsSought what (mark_in word place)) →
@@ -54,15 +60,15 @@ IsMaskOf-bits what word bits set unset = record {
   places = λ i within one.
       let small = bit_at-lt LOWEST_BITS i in
       let first = bit_at-lt bits i in
-      lowest_bits-off i within (omega (arith, bit_at_and bits LOWEST_BITS i));
+      omega (arith, bit_at_and bits LOWEST_BITS i, lowest_bits i within);
   set = λ place within one.
       let first = bit_at-lt bits (4 * place) in
-      set place within (omega (arith, bit_at_and bits LOWEST_BITS (4 * place), lowest_bits-at place within));
+      set place within (omega (arith, bit_at_and bits LOWEST_BITS (4 * place), lowest_bits (4 * place) (omega arith)));
   unset = λ place within is.
       omega (
         arith,
         bit_at_and bits LOWEST_BITS (4 * place),
-        lowest_bits-at place within,
+        lowest_bits (4 * place) (omega arith),
         unset place within is,
       );
 }

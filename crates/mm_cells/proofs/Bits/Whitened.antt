@@ -11,15 +11,10 @@ use Rattle.mm_cells.specs.declared.marks.Mark.TheVariants.{Taken}
 use Rattle.mm_cells.specs.declared.marks.TheConstants.{FLAG_BITS, LOWEST_BITS}
 use Rattle.mm_cells.specs.Marks.{mark_of, colour_of, flags_of, code_in, mark_in, whitened_mark}
 use Rattle.mm_cells.proofs.Bits.Codes.{pow-sixteen}
-use Rattle.mm_cells.proofs.Bits.Free.{free-low_bits, low_bit, next_bit}
+use Rattle.mm_cells.proofs.Bits.Free.{free-low_bits, low_bit, next_bit, lowest_bits}
 use Rattle.mm_cells.proofs.Bits.Sought.{bit_at-shifted}
 
--- the masks, bit by bit
-lowest_bits : (i : ℕ) → i < 32 → bit_at LOWEST_BITS i ≡ 1 - i % 4
-lowest_bits i within =
-    eqb-true (bit_at LOWEST_BITS i) (1 - i % 4)
-    (agree_below_at (λ p. bit_at LOWEST_BITS p == 1 - p % 4) (λ _. true) 32 i refl within)
-
+-- the mask of flags, bit by bit
 flag_bits : (i : ℕ) → i < 32 → bit_at FLAG_BITS i ≡ i % 4 / 2
 flag_bits i within =
     eqb-true (bit_at FLAG_BITS i) (i % 4 / 2)

@@ -1,4 +1,4 @@
-use Rattle.std.proofs.Common.{ℕ, ◌/◌, ◌%◌, sym, ◌∙◌, subst}
+use Rattle.std.proofs.Common.{ℕ, ◌/◌, sym, ◌∙◌, subst}
 use Rattle.mm_cells.specs.Indexes.{IsMarkIndex}
 use Rattle.mm_cells.proofs.Region.Indexes.{taken-page, seat-class, seat-whole}
 use Rattle.mm_cells.proofs.cells.mark_index_of.Goals as goal
@@ -6,14 +6,14 @@ use Rattle.mm_cells.proofs.cells.mark_index_of.Goals as goal
 pub use_at-requires : goal.use_at-requires
 use_at-requires c = taken-page c.args.table.now c.args.base c.requires.taken c.requires.kept
 
-pub extent_of-requires : goal.extent_of-requires
-extent_of-requires c =
+pub number_at-number-requires-clause-class : goal.number_at-number-requires-clause-class
+number_at-number-requires-clause-class c =
     (c.requires.kept.classes (c.args.base / 4096) c.in-Class.class (sym c.in-Class.ensures)).0
 
 pub returns-in-Class : goal.returns-in-Class
 returns-in-Class c =
-    subst (λ (size : ℕ). IsMarkIndex c.args.table.now (c.args.base / 4096) (c.args.base % 4096 / size) c.args.base)
-    (sym c.extent_of.ensures.value)
+    subst (λ (number : ℕ). IsMarkIndex c.args.table.now (c.args.base / 4096) number c.args.base)
+    (sym c.number_at-number.ensures)
     (seat-class c.args.table.now c.args.base c.in-Class.class c.requires.kept c.requires.taken (sym c.in-Class.ensures))
 
 pub returns-in_default : goal.returns-in_default

@@ -1,4 +1,4 @@
-use Rattle.std.proofs.Common.{◌≡◌, ℕ, ◌+◌, ◌*◌, ◌/◌, true, arith, ◌∙◌, ap, subst}
+use Rattle.std.proofs.Common.{ℕ, ◌+◌, ◌*◌, ◌/◌, true, arith, ◌∙◌, subst}
 use Rattle.mm_cells.specs.declared.marks.Mark.TheVariants as marks
 use Rattle.mm_cells.specs.declared.marks.Sought.TheVariants as sought
 use Rattle.mm_cells.specs.Marks.{NoneSought, IsLowestSought}
@@ -12,8 +12,8 @@ use Rattle.mm_cells.proofs.Region.Released.{cells_of-goes, use_at-goes}
 use Rattle.mm_cells.proofs.Region.PageCells.{class-IsPageOf, unused-none_begins}
 use Rattle.mm_cells.proofs.taking.release_cell.Goals as goal
 
-pub extent_of-requires : goal.extent_of-requires
-extent_of-requires c = (c.requires.kept.classes c.args.page c.args.class c.requires.used).0
+pub number_at-requires-clause-class : goal.number_at-requires-clause-class
+number_at-requires-clause-class c = (c.requires.kept.classes c.args.page c.args.class c.requires.used).0
 
 pub cells_per_page-requires : goal.cells_per_page-requires
 cells_per_page-requires c = (c.requires.kept.classes c.args.page c.args.class c.requires.used).0
@@ -30,9 +30,7 @@ set_mark-requires-clause-cell c =
     let number : IsNumberOf c.args.class c.args.offset (c.args.offset / class_size c.args.class) =
     IsTaken-number c.args.table.now c.args.page c.args.class c.args.offset c.requires.kept c.requires.used
     c.requires.inside c.requires.taken in
-    let size : c.args.offset / c.extent_of.result ≡ c.args.offset / class_size c.args.class =
-    ap (λ (n : ℕ). c.args.offset / n) c.extent_of.ensures.value in
-    omega (arith, number.within, cells_in-most c.args.class known)
+    omega (arith, number.within, cells_in-most c.args.class known, c.number_at.ensures)
 
 pub lowest_sought-requires-clause-cells : goal.lowest_sought-requires-clause-cells
 lowest_sought-requires-clause-cells c =
@@ -49,7 +47,7 @@ returns-in-Some-clause-stays c = λ stays.
     c.requires.inside c.requires.taken in
     let place = class-within a c.args.page c.args.class c.requires.kept c.requires.used in
     let marked : SetsMark a b c.args.page (c.args.offset / class_size c.args.class) marks.Free =
-    subst (λ (n : ℕ). SetsMark a b c.args.page (c.args.offset / n) marks.Free) c.extent_of.ensures.value
+    subst (λ (n : ℕ). SetsMark a b c.args.page n marks.Free) c.number_at.ensures
     c.set_mark.ensures in
     cells_of-cell a b c.set_room.new.self c.args.page c.args.class (c.args.offset / class_size c.args.class)
     (4096 * c.args.page + c.args.offset) marks.Free true c.requires.kept known c.requires.used place.1 number.within
@@ -63,7 +61,7 @@ returns-in-Some-clause-kept c =
     IsTaken-number a c.args.page c.args.class c.args.offset c.requires.kept c.requires.used
     c.requires.inside c.requires.taken in
     let marked : SetsMark a b c.args.page (c.args.offset / class_size c.args.class) marks.Free =
-    subst (λ (n : ℕ). SetsMark a b c.args.page (c.args.offset / n) marks.Free) c.extent_of.ensures.value
+    subst (λ (n : ℕ). SetsMark a b c.args.page n marks.Free) c.number_at.ensures
     c.set_mark.ensures in
     let taken : IsLowestSought sought.Taken (mark_at b c.args.page) 0 (cells_in c.args.class) c.in-Some.field-0 =
     subst (λ (n : ℕ). IsLowestSought sought.Taken (mark_at b c.args.page) 0 n c.in-Some.field-0)
@@ -87,7 +85,7 @@ returns-in-None-clause-goes c = λ goes.
     IsTaken-number a c.args.page c.args.class c.args.offset c.requires.kept c.requires.used
     c.requires.inside c.requires.taken in
     let marked : SetsMark a b c.args.page (c.args.offset / class_size c.args.class) marks.Free =
-    subst (λ (n : ℕ). SetsMark a b c.args.page (c.args.offset / n) marks.Free) c.extent_of.ensures.value
+    subst (λ (n : ℕ). SetsMark a b c.args.page n marks.Free) c.number_at.ensures
     c.set_mark.ensures in
     let none : NoneSought sought.Taken (mark_at b c.args.page) 0 (cells_in c.args.class) =
     subst (λ (n : ℕ). NoneSought sought.Taken (mark_at b c.args.page) 0 n) c.cells_per_page.ensures c.in-None.ensures in
@@ -98,7 +96,7 @@ returns-in-None-clause-goes c = λ goes.
 pub returns-in-None-clause-kept : goal.returns-in-None-clause-kept
 returns-in-None-clause-kept c =
     KeepsCells-goes c.args.table.now c.set_mark.new.self c.set_use.new.self c.set_room-in-None.new.self c.args.page
-    c.args.class (c.args.offset / c.extent_of.result) c.requires.kept c.requires.used c.set_mark.ensures
+    c.args.class c.number_at.result c.requires.kept c.requires.used c.set_mark.ensures
     c.set_use.ensures c.set_room-in-None.ensures
 
 pub returns-in-None-clause-none : goal.returns-in-None-clause-none

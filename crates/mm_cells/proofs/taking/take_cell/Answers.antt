@@ -1,9 +1,11 @@
 use Rattle.std.proofs.Common.{ℕ, ◌+◌, ◌*◌, ◌/◌, ◌<◌, arith, sym, ◌∙◌, ap, subst}
+use Rattle.std.proofs.lemmas.Bool.{true_from_ne_false}
 use Rattle.mm_cells.specs.declared.marks.Mark.{Mark}
 use Rattle.mm_cells.specs.Marks.{IsLowestFree, NoneFree}
-use Rattle.mm_cells.specs.Map.{Map, mark_at}
+use Rattle.mm_cells.specs.Map.{Map, mark_at, room_at}
 use Rattle.mm_cells.specs.Cells.{with_cell}
 use Rattle.mm_cells.specs.Kept.{class_size, cells_in, taken_as, cells_of}
+use Rattle.mm_cells.proofs.Tables.Blocks.{room_at-same}
 use Rattle.mm_cells.proofs.Sizes.ClassSizes.{cells_in-most}
 use Rattle.mm_cells.proofs.Tables.Placed.{KeepsCells-cell, cells_of-cell}
 use Rattle.mm_cells.proofs.Region.Released.{class-within}
@@ -18,13 +20,20 @@ pub lowest_free-requires-clause-passed : goal.lowest_free-requires-clause-passed
 lowest_free-requires-clause-passed c = λ cell below. absurd (omega arith)
 
 -- a lower cell was taken, and its mark is what it was
-pub has_room-has_room-requires-clause-passed : goal.has_room-has_room-requires-clause-passed
-has_room-has_room-requires-clause-passed c = λ cell below free.
+pub note_full-requires-clause-passed : goal.note_full-requires-clause-passed
+note_full-requires-clause-passed c = λ cell below free.
     let lowest : IsLowestFree (mark_at c.args.table.now c.args.page) c.cells_per_page-cells.result c.in-Some.cell =
     c.in-Some.ensures in
     let small : cell < 256 =
     omega (arith, lowest.within, c.cells_per_page-cells.ensures, cells_in-most c.args.class c.requires.class) in
     lowest.lowest cell below (sym (c.set_mark.ensures.other_cells cell small (omega arith)) ∙ free)
+
+-- the page had room
+pub note_full-requires-clause-had : goal.note_full-requires-clause-had
+note_full-requires-clause-had c =
+    room_at-same c.args.table.now c.set_mark.new.self c.args.class c.args.page c.set_mark.ensures.same.pages
+    c.set_mark.ensures.rooms
+    ∙ true_from_ne_false (room_at c.args.table.now c.args.class c.args.page) c.requires.lowest.has_room
 
 pub set_mark-requires-clause-cell : goal.set_mark-requires-clause-cell
 set_mark-requires-clause-cell c =
@@ -50,10 +59,10 @@ returns-clause-taken c =
     subst (λ (n : ℕ). IsLowestFree (mark_at a c.args.page) n c.in-Some.cell) c.cells_per_page-cells.ensures
     c.in-Some.ensures in
     let used = IsLowestRoom-class a c.args.class c.args.page c.requires.kept c.requires.class c.requires.lowest in
-    cells_of-cell a c.set_mark.new.self c.set_room.new.self c.args.page c.args.class c.in-Some.cell base
-    c.new_mark.result c.has_room-has_room.result c.requires.kept c.requires.class used.0 c.requires.lowest.within
+    cells_of-cell a c.set_mark.new.self c.note_full.new.table c.args.page c.args.class c.in-Some.cell base
+    c.new_mark.result c.note_full.ensures.0 c.requires.kept c.requires.class used.0 c.requires.lowest.within
     free.within (ap (λ (n : ℕ). 4096 * c.args.page + c.in-Some.cell * n) c.extent_of.ensures.value)
-    c.set_mark.ensures c.set_room.ensures
+    c.set_mark.ensures c.note_full.ensures.1
     ∙ ap (λ (mark : Mark). with_cell (cells_of a) base (taken_as (class_size c.args.class) mark)) c.new_mark.ensures
 
 pub returns-clause-kept : goal.returns-clause-kept
@@ -64,13 +73,13 @@ returns-clause-kept c =
     c.in-Some.ensures in
     let used = IsLowestRoom-class a c.args.class c.args.page c.requires.kept c.requires.class c.requires.lowest in
     let place = class-within a c.args.page c.args.class c.requires.kept used.0 in
-    KeepsCells-cell a c.set_mark.new.self c.set_room.new.self c.args.page c.args.class c.in-Some.cell c.new_mark.result
-    c.has_room-has_room.result c.requires.kept c.requires.class used.0 place.1 place.0 c.set_mark.ensures
+    KeepsCells-cell a c.set_mark.new.self c.note_full.new.table c.args.page c.args.class c.in-Some.cell c.new_mark.result
+    c.note_full.ensures.0 c.requires.kept c.requires.class used.0 place.1 place.0 c.set_mark.ensures
     (record {
       cell = c.in-Some.cell;
       within = free.within;
       taken = λ is. absurd (let e = sym c.new_mark.ensures ∙ sym c.set_mark.ensures.here ∙ is in cc);
-    }) c.set_room.ensures c.has_room-has_room.ensures
+    }) c.note_full.ensures.1 c.note_full.ensures.2
 
 pub returns-clause-here : goal.returns-clause-here
 returns-clause-here c =

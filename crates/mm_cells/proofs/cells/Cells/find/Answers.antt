@@ -1,27 +1,14 @@
 -- What its mark tells is told of the cell.
 use Rattle.mm_cells.proofs.Region.Found.{Covers-marked}
-use Rattle.mm_cells.proofs.Region.Indexes.{seat-taken}
 use Rattle.mm_cells.proofs.Region.Soundness.{IsSoundCells-kept}
 use Rattle.mm_cells.proofs.cells.Cells.find.Goals as goal
-
-pub object_mark_at-told-requires-clause-page : goal.object_mark_at-told-requires-clause-page
-object_mark_at-told-requires-clause-page g c = c.in-Some.ensures.index.page_within
-
-pub object_mark_at-told-requires-clause-number : goal.object_mark_at-told-requires-clause-number
-object_mark_at-told-requires-clause-number g c = c.in-Some.ensures.index.number_within
-
-pub object_mark_at-told-requires-clause-taken : goal.object_mark_at-told-requires-clause-taken
-object_mark_at-told-requires-clause-taken g c =
-    seat-taken c.self.inside.table c.in-Some.located.index.page c.in-Some.located.index.number
-    c.in-Some.located.cell.base c.in-Some.ensures.index
 
 pub returns-in-Some-clause-cell : goal.returns-in-Some-clause-cell
 returns-in-Some-clause-cell g c =
     rw (← c.self.view_is)
     (Covers-marked c.self.inside.table c.args.word c.in-Some.located.index.page c.in-Some.located.index.number
-    c.in-Some.located.cell.base c.in-Some.located.cell.extent c.object_mark_at-told.result.colour
-    c.object_mark_at-told.result.flags
-    c.in-Some.ensures c.object_mark_at-told.ensures.mark)
+    c.in-Some.located.cell.base c.in-Some.located.cell.extent c.in-Some.located.told.colour
+    c.in-Some.located.told.flags c.in-Some.ensures.0 c.in-Some.ensures.1)
 
 pub returns-in-Some-clause-sound : goal.returns-in-Some-clause-sound
 returns-in-Some-clause-sound g c = rw (← c.self.view_is) (IsSoundCells-kept c.self.inside.table c.self.invariant)

@@ -4,7 +4,7 @@ use Rattle.mm_cells.proofs.cells.Cells.resolve.Goals as goal
 
 pub returns-in-Some-clause-cell : goal.returns-in-Some-clause-cell
 returns-in-Some-clause-cell g c =
-    let found = c.in-Some.ensures in
+    let found = c.in-Some.ensures.0 in
     rw (← c.self.view_is) ((found.cell, found.covers, found.sized))
 
 pub returns-in-Some-clause-sound : goal.returns-in-Some-clause-sound
