@@ -1,4 +1,4 @@
-// Which gray object is scanned next.
+// Which gray object is scanned next. The choice is inlined into the scan: its results would go through memory else.
 ghost use Rattle.std.specs.Prelude.{◌≡◌, ◌+◌, ◌*◌, ◌≤◌, length, MatchOption, None, []};
 ghost use Rattle.std.specs.Option.{option_map};
 ghost use Rattle.mm_model.specs.declared.object.Colour.TheVariants.{Gray};
@@ -17,6 +17,7 @@ use std::sync::ledger::Ledger;
 
 impl Marker {
     /// The object that is scanned next, which counts as scanned in part from now on.
+    #[inline(always)]
     pub(crate) fn choose<L: Ledger>(
         &mut self,
         heap: &Heap,
@@ -42,6 +43,7 @@ impl Marker {
     }
 
     /// The same where none is scanned in part.
+    #[inline(always)]
     fn choose_another<L: Ledger>(
         &mut self,
         heap: &Heap,
@@ -75,6 +77,7 @@ impl Marker {
     }
 
     /// The base of a gray object that isn't scanned in part.
+    #[inline(always)]
     fn next_base<L: Ledger>(&mut self, heap: &Heap, steps: &mut Steps<L>) -> Option<u32>
         requires none { self.old.partly ≡ None }
         requires known { AreKnown self.old (views_of heap.now.objects) }
@@ -96,6 +99,7 @@ impl Marker {
     }
 
     /// Takes entries until a gray object begins at one.
+    #[inline(always)]
     fn next_queued<L: Ledger>(&mut self, heap: &Heap, steps: &mut Steps<L>) -> Option<u32>
         requires none { self.old.partly ≡ None }
         requires known { AreKnown self.old (views_of heap.now.objects) }
@@ -120,6 +124,7 @@ impl Marker {
     }
 
     /// After an overflow the gray objects are found by their colour.
+    #[cold]
     fn next_left_out<L: Ledger>(&mut self, heap: &Heap, steps: &mut Steps<L>) -> Option<u32>
         requires none { self.old.partly ≡ None }
         requires empty { self.old.queue ≡ [] }

@@ -1,4 +1,4 @@
-// Scanning a part of one object.
+// Scanning a part of one object. It is inlined into the loop over parts: its results would go through memory else.
 ghost use Rattle.std.specs.Prelude.{◌≡◌, ℕ, ◌+◌, ◌-◌, ◌*◌, ◌≤◌, length, true, Some, None, MatchOption, min, take, drop};
 ghost use Rattle.mm_model.specs.ByBase.{Begins};
 ghost use Rattle.mm_model.specs.declared.object.Colour.TheVariants.{Gray};
@@ -49,6 +49,7 @@ impl Marker {
     }
 
     /// The same, where no view tells what is scanned in part.
+    #[inline(always)]
     pub(crate) fn scan_next<L: Ledger>(
         &mut self,
         heap: &mut Heap,
@@ -76,6 +77,7 @@ impl Marker {
     }
 
     /// Scans the next part of a gray object of which some slots may be done.
+    #[inline(always)]
     fn scan_from<L: Ledger>(
         &mut self,
         heap: &mut Heap,
