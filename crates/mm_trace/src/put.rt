@@ -1,11 +1,11 @@
 // What lines are made of, appended to a buffer. What takes a literal is inlined: its bytes become stores.
-ghost use Rattle.std.specs.Prelude.{◌≡◌, ◌+◌, ◌≤◌, [], ◌∷◌, ◌++◌, length, decimal, map};
+ghost use Rattle.std.specs.Prelude.{◌≡◌, ◌+◌, ◌≤◌, [], ◌∷◌, ◌++◌, length, decimal, map, replicate};
 ghost use Rattle.arrayvec.specs.ArrayVec.{array_vec_len};
 ghost use Rattle.mm_model.specs.Spelling as model;
 ghost use Rattle.mm_model.specs.Spelling.{sentence, kind_word};
 
 use arrayvec::ArrayVec;
-use itoa::Buffer;
+use itoa::write_digits;
 use mm_model::Kind;
 
 /// The buffer that lines are written to.
@@ -49,6 +49,40 @@ fn kind_letter(kind: Kind) -> u8
     }
 }
 
+// Appends as many zeros as a number has digits.
+#[inline(always)]
+fn put_zeros(number: u32, to: &mut Lines)
+    requires { array_vec_len to.old + 10 ≤ 4096 }
+    ensures items { to.new.items ≡ to.old.items ++ replicate (length (decimal number)) 48 }
+    ensures len { array_vec_len to.new ≤ array_vec_len to.old + 10 }
+{
+    match number {
+        0..=9 => put_text(b"0", to),
+        10..=99 => put_text(b"00", to),
+        100..=999 => put_text(b"000", to),
+        1_000..=9_999 => put_text(b"0000", to),
+        10_000..=99_999 => put_text(b"00000", to),
+        100_000..=999_999 => put_text(b"000000", to),
+        1_000_000..=9_999_999 => put_text(b"0000000", to),
+        10_000_000..=99_999_999 => put_text(b"00000000", to),
+        100_000_000..=999_999_999 => put_text(b"000000000", to),
+        _ => put_text(b"0000000000", to),
+    }
+}
+
+// Appends a number. It is long, so it isn't inlined at each number of a line.
+#[inline(never)]
+fn put_digits(number: u32, to: &mut Lines)
+    requires { array_vec_len to.old + 10 ≤ 4096 }
+    ensures items { to.new.items ≡ to.old.items ++ decimal number }
+    ensures len { array_vec_len to.new ≤ array_vec_len to.old + 10 }
+{
+    // The digits are written over zeros, where they stay.
+    put_zeros(number, to);
+    let end = to.len();
+    write_digits(u64::from(number), to.as_mut_slice(), end);
+}
+
 /// Appends a space and a number.
 #[inline(always)]
 pub(crate) fn put_number(number: u32, to: &mut Lines)
@@ -56,9 +90,12 @@ pub(crate) fn put_number(number: u32, to: &mut Lines)
     ensures items { to.new.items ≡ to.old.items ++ 32 ∷ decimal number }
     ensures len { array_vec_len to.new ≤ array_vec_len to.old + 11 }
 {
-    let mut digits = Buffer::new();
     to.push(b' ');
-    put_text(digits.format(number).as_bytes(), to);
+    if number < 10 {
+        to.push(b'0' + number as u8);
+    } else {
+        put_digits(number, to);
+    }
 }
 
 /// Appends a line: a name and then numbers.

@@ -94,7 +94,7 @@ fn put_reply(reply: &Reply, to: &mut Lines)
         Reply::New(base) => put_new(*base, to),
         Reply::Word(word) => put_word(*word, to),
         Reply::Area(area) => put_area(*area, to),
-        Reply::Object(found) => put_object(*found, to),
+        Reply::Object(found) => put_object(found, to),
         Reply::Stat(stat) => put_stat(stat, to),
         Reply::Refused(refusal) => put_refusal(*refusal, to),
     }
@@ -125,9 +125,9 @@ fn put_area(area: AreaAnswer, to: &mut Lines)
 }
 
 #[inline(never)]
-fn put_object(found: Mapped, to: &mut Lines)
+fn put_object(found: &Mapped, to: &mut Lines)
     requires { array_vec_len to.old + 64 ≤ 4096 }
-    ensures { to.new.items ≡ to.old.items ++ model.reply_spelling (Reply.Object found) }
+    ensures { to.new.items ≡ to.old.items ++ model.reply_spelling (Reply.Object found.now) }
 {
     put_text(b"object", to);
     put_number(found.base, to);
