@@ -8,9 +8,9 @@ use Rattle.mm_model.specs.declared.refusal.LineFault.{LineFault}
 use Rattle.mm_model.specs.declared.refusal.LineFault.TheVariants.{LineTooLong}
 use Rattle.mm_model.specs.Trace.{line_reading, complete_lines, lines_of, line_if, FaultAt, Reading, reading_from}
 use Rattle.mm_model.proofs.Text.Traces.{Cuts, Cuts-none, Cuts-byte, Cuts-newline, complete_lines-cuts, lines_of-more}
-use Rattle.mm_model.proofs.Text.Traces.{lines_of-too_long, reading_from-fault, reading_from-stops}
+use Rattle.mm_model.proofs.Text.Traces.{line_reading-too_long, lines_of-too_long, reading_from-fault}
+use Rattle.mm_model.proofs.Text.Traces.{reading_from-stops}
 use Rattle.mmgc.specs.Replaying.{reading_of}
-use Rattle.mmgc.proofs.Replays.{too_long}
 
 -- the lines of bytes, and what is held behind them
 record Cutting (bytes : List ℕ) : Type 0 where
@@ -83,4 +83,5 @@ pub fault_of_front : (front rest : List ℕ) (fault : FaultAt)
     → (reading_of (lines_of (front ++ rest))).fault ≡ Some fault
 fault_of_front front rest fault found =
     let c = cutting front in
-    fault-held line_reading too_long (nat_lt 1024 (length c.held)) front rest c.done c.held fault c.cuts refl found
+    fault-held line_reading line_reading-too_long (nat_lt 1024 (length c.held)) front rest c.done c.held fault c.cuts
+    refl found

@@ -1,15 +1,13 @@
 -- Bytes and lines that are carried out, one after another.
-use Rattle.std.proofs.Common.{◌≡◌, ◌≢◌, ℕ, ◌+◌, ◌<◌, ◌≤◌, true, false, cond, List, [], ◌∷◌, ◌++◌, length, take, drop}
+use Rattle.std.proofs.Common.{◌≡◌, ◌≢◌, ℕ, ◌+◌, ◌<◌, ◌≤◌, false, List, [], ◌∷◌, ◌++◌, length, take, drop}
 use Rattle.std.proofs.Common.{length-append, lt-ltb, Option, Some, None, Result, Ok, Err, refl, sym, ap, ◌∙◌, subst}
 use Rattle.std.proofs.Common.{append-nil, append_assoc, arith}
 use mathlib.Core.Path.{subst₃}
-use Rattle.std.proofs.lemmas.Bool.Decides.{nat_tests}
 use Rattle.std.proofs.lemmas.List.{length_push, length-take-le, take-append-drop, take_rest}
 use Rattle.std.proofs.lemmas.List.Concat.{flat_map-append}
 use Rattle.std.proofs.lemmas.List.Elements.{All-append}
 use Rattle.std.specs.List.{flat_map}
 use Rattle.std.specs.Prelude.{◌-◌, OnOk, IfErr}
-use Rattle.std.specs.Prelude.{nat_lt}
 use Rattle.mm_model.specs.declared.command.Command.{Command}
 use Rattle.mm_model.specs.declared.refusal.LineFault.{LineFault}
 use Rattle.mm_model.specs.declared.refusal.LineFault.TheVariants.{LineTooLong}
@@ -24,12 +22,12 @@ use Rattle.mm_model.specs.View.{Shows}
 use Rattle.mm_model.specs.Step.{IsStep}
 use Rattle.mm_model.specs.After.{after}
 use Rattle.mm_model.specs.Spelling.{spelling, spelling_of}
-use Rattle.mm_model.specs.Trace.{line_reading, words_reading, words_of, is_comment, complete_lines, lines_of, line_if}
+use Rattle.mm_model.specs.Trace.{line_reading, complete_lines, lines_of, line_if}
 use Rattle.mm_model.specs.Trace.{Reading, FaultAt}
 use Rattle.mm_model.proofs.Good.Starting.{empty_is_good}
 use Rattle.mm_model.proofs.Text.Journals.{writes-none, writes-append}
 use Rattle.mm_model.proofs.Text.Traces.{Cuts, Cuts-none, Cuts-newline, with_newline, complete_lines-cuts}
-use Rattle.mm_model.proofs.Text.Traces.{reading_from-stops}
+use Rattle.mm_model.proofs.Text.Traces.{line_reading-too_long, reading_from-stops}
 use Rattle.mm_model.proofs.Text.Faults.{fault_at_end, reading-end-none, reading-end-nothing, reading-end-command}
 use Rattle.mm_model.proofs.Text.Faults.{complete_lines-held, fault_at_newline, reading-next-nothing}
 use Rattle.mm_model.proofs.Text.Faults.{reading-next-command, lines-fewer, commands-fewer}
@@ -190,18 +188,12 @@ progress-more {bytes = bytes} {now = now} more p clean room =
       stopped = p.stopped;
     }
 
--- a line that is too long
-pub too_long : (line : List ℕ) → 1024 < length line → line_reading line ≡ Err LineTooLong
-unfolding line_reading
-too_long line long =
-    let passes : nat_lt 1024 (length line) ≡ true = grind (arith, nat_tests) in
-    ap (λ b. cond b (Err LineTooLong) (cond (is_comment line) (Ok None) (words_reading (words_of line)))) passes
-
 -- nothing was done with a line that is too long
 pub does-too_long : {Unchanged : Type 0} (carried : Command → Type 0) (line : List ℕ) → 1024 < length line →
     Unchanged → DoesLine (line_reading line) (Err LineTooLong) Unchanged carried
 does-too_long {Unchanged} carried line long unchanged =
-    subst (λ r. DoesLine r (Err LineTooLong) Unchanged carried) (sym (too_long line long)) (refl, unchanged)
+    subst (λ r. DoesLine r (Err LineTooLong) Unchanged carried) (sym (line_reading-too_long line long))
+    (refl, unchanged)
 
 stopped-too_long : {start : Start} {bytes : List ℕ} {now : Moment} (more : List ℕ) →
     Progress start bytes now → IsWithinLine more → 1024 < length now.held + length more →
@@ -214,7 +206,8 @@ stopped-too_long {bytes = bytes} {now = now} more p clean long =
     stopped-reading p.stopped (ap reading_of
     (complete_lines-cuts (bytes ++ more) p.done line (Cuts-more bytes p.done now.held more (cuts p) clean)
     ∙ ap (λ b. p.done ++ line_if b line) (lt-ltb 1024 (length line) longer))
-    ∙ reading_from-stops line_reading 1 p.done line [] LineTooLong p.stopped.fault_is (too_long line longer)
+    ∙ reading_from-stops line_reading 1 p.done line [] LineTooLong p.stopped.fault_is
+    (line_reading-too_long line longer)
     ∙ ap (λ n. faulty (reading_of p.done).commands n LineTooLong) turned
     ∙ fault_next LineTooLong p)
 
