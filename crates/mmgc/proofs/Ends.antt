@@ -24,7 +24,7 @@ use Rattle.mmgc.specs.Generating.{EndsWritten}
 use Rattle.mmgc.specs.declared.replay.End.{End}
 use Rattle.mmgc.specs.declared.replay.End.TheVariants.{Whole, Fault, ReadFailed, WriteFailed, TooLong}
 use Rattle.mmgc.proofs.Replays.{spelling_of-append, progress-stopped}
-use Rattle.mmgc.proofs.WritingLemmas.{settled, broken_front}
+use Rattle.mmgc.proofs.WritingLemmas.{all_taken, broken_front}
 
 -- The last line of an input is carried out, or has a fault.
 module _ {start : Start} {bytes : List ℕ} {input : Input} {now : Moment}
@@ -220,9 +220,9 @@ logged-other end {start} reach other s =
     }
 
 -- a journal that writes nothing more
-pub logged-settled : {end : End} {start : Start} {reach : Reach} {heap : Gc} {kept after : Kept} →
+pub logged-written_out : {end : End} {start : Start} {reach : Reach} {heap : Gc} {kept after : Kept} →
     Logged end start reach heap kept → Grew kept after [] → Logged end start reach heap after
-logged-settled {start = start} {after = after} l w =
+logged-written_out {start = start} {after = after} l w =
     record {
       groups = l.groups;
       state = l.state;
@@ -298,7 +298,7 @@ module _ {end : End} {start : Start} {input : Input} {now : Moment} (output : Ou
         log = l.log;
         log_is = l.log_is;
         written = all_written end output (spelling_of l.log) (λ e. let lost = still e in cc lost) (f.clean refl)
-            (settled output.taken output.taken_after (spelling_of l.log)
+            (all_taken output.taken output.taken_after (spelling_of l.log)
             (subst₂ (λ x y. Writes x false y false (spelling_of l.log)) f.started
             (ap (kept_bytes output.taken_after false) (f.nothing_pending refl)) l.written));
       })
@@ -333,7 +333,7 @@ text_written output kept text false pending end is f w =
       end_is = inl refl;
       written = (
         f.clean refl,
-        settled output.taken output.taken_after text
+        all_taken output.taken output.taken_after text
             (subst₂ (λ x y. Writes x false y false text) f.started
             (ap (kept_bytes output.taken_after false) (f.nothing_pending refl)) w),
       );

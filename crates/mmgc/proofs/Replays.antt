@@ -434,10 +434,10 @@ progress-stopped {start} {bytes} {now} p =
     (sym (complete_lines-held bytes p.done now.held (cuts p) p.fits)) p.stopped
 
 -- a journal that writes nothing more
-pub stopped-settled : {start : Start} {lines : List (List ℕ)} {fault : Option FaultAt} {heap : Gc}
+pub stopped-written_out : {start : Start} {lines : List (List ℕ)} {fault : Option FaultAt} {heap : Gc}
     {kept after : Kept} →
     Stopped start lines fault heap kept → Grew kept after [] → Stopped start lines fault heap after
-stopped-settled {start} {after = after} s w =
+stopped-written_out {start} {after = after} s w =
     record {
       fault_is = s.fault_is;
       log = s.log;
@@ -446,9 +446,9 @@ stopped-settled {start} {after = after} s w =
           (writes-append (spelling_of s.log) [] s.written w);
     }
 
-pub progress-settled : {start : Start} {bytes : List ℕ} {now : Moment} {after : Kept} →
+pub progress-written_out : {start : Start} {bytes : List ℕ} {now : Moment} {after : Kept} →
     Progress start bytes now → Grew now.kept after [] → Progress start bytes (record now { kept = after })
-progress-settled p w =
+progress-written_out p w =
     record {
       done = p.done;
       whole = p.whole;
@@ -456,7 +456,7 @@ progress-settled p w =
       held_clean = p.held_clean;
       fits = p.fits;
       lines_are = p.lines_are;
-      stopped = stopped-settled p.stopped w;
+      stopped = stopped-written_out p.stopped w;
     }
 
 -- nothing was read yet

@@ -82,11 +82,11 @@ keeps-sent sink faults faults_after t u pending (Err e) ok err counts =
     }
 
 -- Where the writer is whole and nothing is pending at both ends, the sink took what was written.
-pub settled : (t u : Option (List ℕ)) (text : List ℕ)
+pub all_taken : (t u : Option (List ℕ)) (text : List ℕ)
     → Writes (kept_bytes t false []) false (kept_bytes u false []) false text → Appends t u text
-settled t None text written = tt
-settled None (Some after) text written = cc (written.stays_silent refl)
-settled (Some before) (Some after) text written =
+all_taken t None text written = tt
+all_taken None (Some after) text written = cc (written.stays_silent refl)
+all_taken (Some before) (Some after) text written =
     sym (append-nil after) ∙ written.held (before ++ []) refl
     ∙ ap (λ (bytes : List ℕ). bytes ++ text) (append-nil before)
 

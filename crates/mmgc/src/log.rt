@@ -38,7 +38,7 @@ impl<'a, K: Sink> LogWriter<'a, K> {
         }
     }
 
-    /// Writes a line. It reaches the sink when the next piece is full, or at the latest when the writer settles.
+    /// Writes a line. It reaches the sink when the next piece is full, or at the latest when the writer writes out.
     pub fn line(&mut self, line: &Line)
         ensures written { Grew (kept_by K.taken self.old) (kept_by K.taken self.new) (spelling line.now) }
         ensures kept { KeepsOn K.faults K.taken self.old self.new }
@@ -48,7 +48,7 @@ impl<'a, K: Sink> LogWriter<'a, K> {
     }
 
     /// Writes what is pending to the sink. An error says that the writer is broken.
-    pub fn settle(&mut self) -> Result<(), Failed>
+    pub fn write_out(&mut self) -> Result<(), Failed>
         ensures broken { IsErr result ↔ IsTrue self.new.broken }
         ensures nothing_pending { OnOk result (self.new.pending.items ≡ []) }
         ensures written { Grew (kept_by K.taken self.old) (kept_by K.taken self.new) [] }
@@ -58,7 +58,7 @@ impl<'a, K: Sink> LogWriter<'a, K> {
         self.outcome()
     }
 
-    /// Settles, and asks the sink to pass on what it still holds back.
+    /// Writes out, and asks the sink to pass on what it still holds back.
     pub(crate) fn finish(&mut self) -> Result<(), Failed>
         ensures broken { IsErr result ↔ IsTrue self.new.broken }
         ensures nothing_pending { OnOk result (self.new.pending.items ≡ []) }
@@ -201,7 +201,7 @@ mod tests {
             write_two(&mut log);
             expected.extend_from_slice(b" free 4096\n scan 8 2\n")?;
         }
-        assert_eq!(rt; log.settle(), Ok(()));
+        assert_eq!(rt; log.write_out(), Ok(()));
         assert!(rt; log.whole());
         assert_eq!(rt; sink.taken(), expected.as_slice());
         Ok(())
@@ -214,10 +214,10 @@ mod tests {
         let mut log = LogWriter::make(&mut sink);
         write_two(&mut log);
         assert!(rt; log.whole());
-        assert_eq!(rt; log.settle(), Err(Failed));
+        assert_eq!(rt; log.write_out(), Err(Failed));
         assert!(rt; !log.whole());
         write_two(&mut log);
-        assert_eq!(rt; log.settle(), Err(Failed));
+        assert_eq!(rt; log.write_out(), Err(Failed));
         assert_eq!(rt; log.finish(), Err(Failed));
         assert_eq!(rt; sink.taken(), b" free 4".as_slice());
         Ok(())
@@ -243,7 +243,7 @@ mod tests {
         let mut sink = MemSink::make(alloc, 100, 7, Vec::new(alloc))?;
         let mut log = LogWriter::make(&mut sink);
         tell(&mut log);
-        assert_eq!(rt; log.settle(), Ok(()));
+        assert_eq!(rt; log.write_out(), Ok(()));
         assert_eq!(rt;
             sink.taken(),
             b" reap 1\n final 16 2 1\n free 16\n scan 24 3\n".as_slice()

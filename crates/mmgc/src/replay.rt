@@ -222,7 +222,7 @@ impl Replay {
         ensures faults { S.faults source.old ≤ S.faults source.new }
         ensures kept { KeepsOn K.faults K.taken log.old log.new }
     {
-        match log.settle() {
+        match log.write_out() {
             Ok(()) => self.read_on(heap, log, source, buffer, room),
             Err(_) => Err(End::WriteFailed),
         }
@@ -238,7 +238,7 @@ impl Replay {
         room: u32,
     ) -> Result<u32, End>
         requires whole { log.old.broken ≡ false }
-        requires settled { log.old.pending.items ≡ [] }
+        requires written_out { log.old.pending.items ≡ [] }
         requires buffer { (0 < length buffer.old) × (length buffer.old ≤ 4096) }
         requires room { IsUnderWay (moment_of K.taken heap.old self.old log.old) room }
         ensures turned { (start : Start) (bytes : List ℕ) → length bytes + room ≡ most_bytes →
