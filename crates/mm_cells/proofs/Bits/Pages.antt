@@ -1,6 +1,6 @@
 -- The marks of a page, word by word.
-use Rattle.std.proofs.Common.{◌≡◌, ◌≢◌, ℕ, length, slice_set, ◌+◌, ◌*◌, ◌/◌, ◌%◌, ◌<◌, ◌≤◌, ◌-◌, List, get_or, refl, sym, ap, ◌∙◌, inl}
-use Rattle.std.proofs.Common.{inr, arith}
+use Rattle.std.proofs.Common.{◌≡◌, ◌≢◌, ℕ, length, slice_set, ◌+◌, ◌*◌, ◌/◌, ◌%◌, ◌<◌, ◌≤◌, ◌-◌, List, get_or}
+use Rattle.std.proofs.Common.{refl, sym, ap, ◌∙◌, inl, inr, arith}
 use Rattle.std.proofs.lemmas.Bool.{cases_eq, cases_lt}
 use Rattle.std.proofs.lemmas.List.{get_or-set_same, get_or-set_other}
 use Rattle.mm_cells.specs.Marks.{mark_in, mark_of_cell, page_marks, NoneFree, IsLowestFree}
