@@ -1,7 +1,7 @@
 -- Two calls in a row, taken as one.
-use Rattle.std.proofs.Common.{◌≡◌, ◌≤◌, ◌+◌, ◌-◌, ℕ, zero, suc, Option, None, Some, IsSome, List, [], ◌∷◌, ◌++◌, take}
+use Rattle.std.proofs.Common.{◌≡◌, ◌≤◌, ◌+◌, ◌-◌, ℕ, zero, suc, Option, None, Some, List, [], ◌∷◌, ◌++◌, take}
 use Rattle.std.proofs.Common.{length}
-use Rattle.std.proofs.Common.{length-append, ap, refl, sym, ◌∙◌, append-nil, arith, append_assoc}
+use Rattle.std.proofs.Common.{length-append, ap, refl, sym, ◌∙◌, arith, append_assoc}
 use Rattle.std.proofs.lemmas.List.{length-take}
 use Rattle.std.proofs.lemmas.Grind.{common_steps}
 use Rattle.std.proofs.Math.Seq.{take-append-add, take-append_seam}

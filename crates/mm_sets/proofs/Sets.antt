@@ -5,7 +5,7 @@ use Rattle.std.proofs.Common.{arith, inl, inr, ap, sym, ◌∙◌, nat_eq}
 use Rattle.std.proofs.lemmas.Bool.{cases_lt}
 use Rattle.std.specs.Int.{trailing_zeros}
 use Rattle.mm_sets.specs.Bits.{bit_of, IsLowestBitOf, NoBit}
-use Rattle.mm_sets.specs.Set.{IsEmpty, IsEmptyBetween, IsEmptyFrom, IsLowestFrom}
+use Rattle.mm_sets.specs.Set.{IsEmptyBetween, IsEmptyFrom, IsLowestFrom}
 use Rattle.mm_sets.specs.Set.{IsSet, member_words, members, set_size}
 use Rattle.mm_sets.proofs.LowestBits.{bit_of-zero, IsLowestInWord, IsLowestInWord-trailing_zeros}
 

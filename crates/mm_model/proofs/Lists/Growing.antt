@@ -1,11 +1,10 @@
 -- Lists that grow at the end.
-use Rattle.std.proofs.Common.{◌≡◌, ℕ, zero, suc, ◌+◌, ◌-◌, ◌<◌, ◌≤◌, Bool, true, false, cond, List, [], ◌∷◌, ◌++◌}
-use Rattle.std.proofs.Common.{length, Option, Some, None, refl, sym, ap, ◌∙◌, subst, ◌⊎◌, ⊎_elim, inl, inr, ◌||◌}
-use Rattle.std.proofs.Common.{eqb-true, add-zero, zero-add, arith}
+use Rattle.std.proofs.Common.{◌≡◌, ℕ, zero, suc, ◌+◌, ◌-◌, ◌≤◌, Bool, true, false, cond, List, [], ◌∷◌, ◌++◌}
+use Rattle.std.proofs.Common.{length, Option, Some, None, refl, ap, ◌∙◌, subst, ◌⊎◌, ⊎_elim, inl, inr, ◌||◌}
+use Rattle.std.proofs.Common.{eqb-true, zero-add, arith}
 use Rattle.std.proofs.lemmas.List.Sums.{sum_by-cons}
 use Rattle.std.specs.Prelude.{slice_get, ◌==◌}
 use Rattle.std.specs.List.{find, position_from, list_any, count_by, AllByRecursion}
-use Rattle.std.specs.Option.{option_or}
 use Rattle.mm_model.proofs.Lists.Keyed.{refuted}
 
 -- what a test finds stands at some place

@@ -1,16 +1,14 @@
 -- Laws of what bytes say around the line that is held: where it ends, where it is at fault, and how the lines count.
 use Rattle.std.proofs.Common.{◌≡◌, ◌≢◌, ℕ, suc, ◌+◌, ◌≤◌, ◌<◌, false, ◌==◌, nat_lt, List, [], ◌∷◌, ◌++◌, length, Option}
-use Rattle.std.proofs.Common.{Some, None, Result, Ok, Err, refl, sym, ◌∙◌, ap, subst, append_assoc, length-append}
-use Rattle.std.proofs.Common.{lt-ltb, le-ltb, ⊎_elim, arith}
+use Rattle.std.proofs.Common.{Some, None, Result, Ok, Err, refl, ◌∙◌, ap, append_assoc, length-append}
+use Rattle.std.proofs.Common.{lt-ltb, le-ltb, arith}
 use Rattle.std.specs.List.{All, flat_map}
-use Rattle.std.proofs.lemmas.Bool.{cases_eq}
 use Rattle.std.proofs.lemmas.Bool.Decides.{nat_tests}
 use Rattle.std.proofs.lemmas.List.{append-nil, length_push}
-use Rattle.std.proofs.lemmas.List.Elements.{All-head, All-tail, All-nil, All-push, All-weaker}
+use Rattle.std.proofs.lemmas.List.Elements.{All-head, All-tail, All-weaker}
 use Rattle.std.proofs.lemmas.List.Splits.{slice_split_at, length-slice_split}
 use Rattle.mm_model.specs.declared.command.Command.{Command}
 use Rattle.mm_model.specs.declared.refusal.LineFault.{LineFault}
-use Rattle.mm_model.specs.declared.refusal.LineFault.TheVariants.{LineTooLong}
 use Rattle.mm_model.specs.Trace.{pieces_of, ended_lines, last_piece, lines_of, complete_lines, line_if, Reading}
 use Rattle.mm_model.specs.Trace.{reading_before, reading_from}
 use Rattle.mm_model.proofs.Text.Traces.{NoNewline, with_newline, Cuts, lines_of-cuts, complete_lines-cuts}
