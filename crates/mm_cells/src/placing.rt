@@ -133,6 +133,7 @@ impl Cells {
     }
 
     /// Takes so many whole pages.
+    #[inline(never)]
     fn place_whole<L: Ledger>(
         &mut self,
         pages: &mut PageHeap,

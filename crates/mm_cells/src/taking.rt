@@ -67,6 +67,7 @@ pub(crate) fn take_cell(table: &mut Table, page: u32, class: u32, colour: Colour
 }
 
 /// Takes the first cell of a page that is unused.
+#[inline(never)]
 pub(crate) fn take_fresh_page(table: &mut Table, page: u32, class: u32, colour: Colour)
     requires kept { KeepsCells table.old }
     requires class { class < 19 }
