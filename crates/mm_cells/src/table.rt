@@ -309,10 +309,7 @@ impl Table {
             → SetsMark self.old self.new page cell (Mark.Taken Colour.Gray flags) }
     {
         let part = marks_part(self.pages);
-        marks::make_gray(
-            self.words.part_mut(part.start, part.len),
-            256 * page + cell,
-        );
+        marks::make_gray(self.words.part_mut(part.start, part.len), 256 * page + cell);
     }
 
     /// Gives the object in a taken cell of a page another colour.
