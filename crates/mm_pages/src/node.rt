@@ -80,7 +80,7 @@ pub fn paint_halves(words: &mut [u32], height: u32, free: bool)
 }
 
 /// Makes both halves of a node say what they are, where the node alone said it.
-pub fn settle(words: &mut [u32], height: u32)
+pub fn push_down(words: &mut [u32], height: u32)
     requires height { height < 12 }
     requires sized { length words.old ≡ tree_words (suc height) }
     ensures { (free : Marks) → Shows free (suc height) words.old → HalvesShow free height words.new }

@@ -5,7 +5,7 @@ ghost use Rattle.mm_pages.specs.Tree.{FindsLowest, IsTree, Shows, ShowsChange, t
 ghost use Rattle.mm_pages.specs.Visits.{MarkVisits};
 
 use crate::node::{
-    HEAD, lower_part, paint_halves, read, refresh, settle, span_of, upper_part, words_of, write,
+    HEAD, lower_part, paint_halves, push_down, read, refresh, span_of, upper_part, words_of, write,
 };
 use crate::runs::Runs;
 use mm_steps::Steps;
@@ -54,7 +54,7 @@ pub fn mark<L: Ledger>(
         return;
     }
     let below = height - 1;
-    settle(words, below);
+    push_down(words, below);
     let half = span_of(below);
     let size = words_of(below);
     mark(

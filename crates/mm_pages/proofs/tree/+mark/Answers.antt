@@ -25,13 +25,13 @@ mark-requires g t c κs within =
     let span : c.span_of-span.result ≡ 2 ^ c.args.height = c.span_of-span.ensures in
     let high : 0 < c.args.height = high_if_part c.args.height c.args.from c.args.to (omega arith) (omega arith)
     (λ e. omega arith) in
-    let size : length c.settle.new.words ≡ tree_words (suc (c.args.height - 1)) = c.settle.auto.words
+    let size : length c.push_down.new.words ≡ tree_words (suc (c.args.height - 1)) = c.push_down.auto.words
     ∙ c.requires.sized ∙ ap tree_words (sym (above_below c.args.height high)) in
-    let shown : HalvesShow c.requires.tree.free (c.args.height - 1) c.settle.new.words =
-    c.settle.ensures c.requires.tree.free (Shows-split c.args.height _ _ high c.requires.tree.shows) in
-    let tree : IsTree (c.args.height - 1) (take (3 + c.words_of-size.result - 3) (drop 3 c.settle.new.words)) =
+    let shown : HalvesShow c.requires.tree.free (c.args.height - 1) c.push_down.new.words =
+    c.push_down.ensures c.requires.tree.free (Shows-split c.args.height _ _ high c.requires.tree.shows) in
+    let tree : IsTree (c.args.height - 1) (take (3 + c.words_of-size.result - 3) (drop 3 c.push_down.new.words)) =
     subst (λ (x : List ℕ). IsTree (c.args.height - 1) x)
-    (sym (lower-part (c.args.height - 1) c.words_of-size.result c.settle.new.words c.words_of-size.ensures))
+    (sym (lower-part (c.args.height - 1) c.words_of-size.result c.push_down.new.words c.words_of-size.ensures))
     (HalvesAreTrees-shown _ _ _ shown).low in (
       omega arith,
       (
@@ -39,7 +39,7 @@ mark-requires g t c κs within =
         (
           omega arith,
           (
-            length-low (c.args.height - 1) c.words_of-size.result c.settle.new.words c.words_of-size.ensures size
+            length-low (c.args.height - 1) c.words_of-size.result c.push_down.new.words c.words_of-size.ensures size
                 ∙ c.words_of-size.ensures,
             (tree, (omega arith, omega (arith, c.span_of-half.ensures))),
           ),
@@ -52,11 +52,11 @@ mark-requires-2 g t c κs within =
     let span : c.span_of-span.result ≡ 2 ^ c.args.height = c.span_of-span.ensures in
     let high : 0 < c.args.height = high_if_part c.args.height c.args.from c.args.to (omega arith) (omega arith)
     (λ e. omega arith) in
-    let size : length c.settle.new.words ≡ tree_words (suc (c.args.height - 1)) = c.settle.auto.words
+    let size : length c.push_down.new.words ≡ tree_words (suc (c.args.height - 1)) = c.push_down.auto.words
     ∙ c.requires.sized ∙ ap tree_words (sym (above_below c.args.height high)) in
-    let shown : HalvesShow c.requires.tree.free (c.args.height - 1) c.settle.new.words =
-    c.settle.ensures c.requires.tree.free (Shows-split c.args.height _ _ high c.requires.tree.shows) in
-    let part = upper-after (c.args.height - 1) c.words_of-size.result c.settle.new.words c.mark.new.words
+    let shown : HalvesShow c.requires.tree.free (c.args.height - 1) c.push_down.new.words =
+    c.push_down.ensures c.requires.tree.free (Shows-split c.args.height _ _ high c.requires.tree.shows) in
+    let part = upper-after (c.args.height - 1) c.words_of-size.result c.push_down.new.words c.mark.new.words
     c.words_of-size.ensures size c.mark.auto.words in
     let tree = subst (λ (x : List ℕ). IsTree (c.args.height - 1) x) (sym part)
     (HalvesAreTrees-shown _ _ _ shown).high in
@@ -67,7 +67,7 @@ mark-requires-2 g t c κs within =
         (
           omega arith,
           (
-            ap length part ∙ length-upper (c.args.height - 1) c.settle.new.words size,
+            ap length part ∙ length-upper (c.args.height - 1) c.push_down.new.words size,
             (tree, (omega arith, omega (arith, c.span_of-half.ensures))),
           ),
         ),
@@ -104,16 +104,16 @@ refresh-requires-clause-tree g t c =
     let span : c.span_of-span.result ≡ 2 ^ c.args.height = c.span_of-span.ensures in
     let high : 0 < c.args.height = high_if_part c.args.height c.args.from c.args.to (omega arith) (omega arith)
     (λ e. omega arith) in
-    let size : length c.settle.new.words ≡ tree_words (suc (c.args.height - 1)) = c.settle.auto.words
+    let size : length c.push_down.new.words ≡ tree_words (suc (c.args.height - 1)) = c.push_down.auto.words
     ∙ c.requires.sized ∙ ap tree_words (sym (above_below c.args.height high)) in
-    let shown : HalvesShow c.requires.tree.free (c.args.height - 1) c.settle.new.words =
-    c.settle.ensures c.requires.tree.free (Shows-split c.args.height _ _ high c.requires.tree.shows) in
+    let shown : HalvesShow c.requires.tree.free (c.args.height - 1) c.push_down.new.words =
+    c.push_down.ensures c.requires.tree.free (Shows-split c.args.height _ _ high c.requires.tree.shows) in
     HalvesAreTrees-shown _ _ _ (halves_marked (c.args.height - 1) c.words_of-size.result c.span_of-half.result
-    c.args.from c.args.to _ _ _ _ c.args.free c.settle.new.words c.mark.new.words c.mark-2.new.words _ _
+    c.args.from c.args.to _ _ _ _ c.args.free c.push_down.new.words c.mark.new.words c.mark-2.new.words _ _
     c.requires.tree.free c.words_of-size.ensures size c.mark.auto.words c.span_of-half.ensures c.requires.ordered
     c.min.ensures c.min-2.ensures (omega (arith, c.max.ensures)) (omega (arith, c.max-2.ensures))
-    (lower-part (c.args.height - 1) c.words_of-size.result c.settle.new.words c.words_of-size.ensures)
-    (upper-after (c.args.height - 1) c.words_of-size.result c.settle.new.words c.mark.new.words
+    (lower-part (c.args.height - 1) c.words_of-size.result c.push_down.new.words c.words_of-size.ensures)
+    (upper-after (c.args.height - 1) c.words_of-size.result c.push_down.new.words c.mark.new.words
     c.words_of-size.ensures size c.mark.auto.words)
     c.mark.ensures.shows c.mark-2.ensures.shows shown)
 
@@ -122,18 +122,18 @@ returns-clause-shows g t c = λ pages s.
     let span : c.span_of-span.result ≡ 2 ^ c.args.height = c.span_of-span.ensures in
     let high : 0 < c.args.height = high_if_part c.args.height c.args.from c.args.to (omega arith) (omega arith)
     (λ e. omega arith) in
-    let size : length c.settle.new.words ≡ tree_words (suc (c.args.height - 1)) = c.settle.auto.words
+    let size : length c.push_down.new.words ≡ tree_words (suc (c.args.height - 1)) = c.push_down.auto.words
     ∙ c.requires.sized ∙ ap tree_words (sym (above_below c.args.height high)) in
     Shows-joined c.args.height (marked pages c.args.from c.args.to c.args.free) c.refresh.new.words high
     (c.refresh.ensures (marked pages c.args.from c.args.to c.args.free)
     (halves_marked (c.args.height - 1) c.words_of-size.result c.span_of-half.result c.args.from c.args.to _ _ _ _
-    c.args.free c.settle.new.words c.mark.new.words c.mark-2.new.words _ _
+    c.args.free c.push_down.new.words c.mark.new.words c.mark-2.new.words _ _
     pages c.words_of-size.ensures size c.mark.auto.words c.span_of-half.ensures c.requires.ordered
     c.min.ensures c.min-2.ensures (omega (arith, c.max.ensures)) (omega (arith, c.max-2.ensures))
-    (lower-part (c.args.height - 1) c.words_of-size.result c.settle.new.words c.words_of-size.ensures)
-    (upper-after (c.args.height - 1) c.words_of-size.result c.settle.new.words c.mark.new.words
+    (lower-part (c.args.height - 1) c.words_of-size.result c.push_down.new.words c.words_of-size.ensures)
+    (upper-after (c.args.height - 1) c.words_of-size.result c.push_down.new.words c.mark.new.words
     c.words_of-size.ensures size c.mark.auto.words)
-    c.mark.ensures.shows c.mark-2.ensures.shows (c.settle.ensures pages
+    c.mark.ensures.shows c.mark-2.ensures.shows (c.push_down.ensures pages
     (Shows-split c.args.height pages _ high s))))
 
 pub returns-clause-visits : goal.returns-clause-visits
