@@ -1,4 +1,4 @@
-// Taking cells and giving them back.
+// Taking cells and giving them back. Whole pages are rare, so they are taken out of line.
 ghost use Rattle.std.specs.Prelude.{◌≡◌, ◌+◌, ◌*◌, ◌/◌, ◌≤◌, ◌<◌, ℕ, List, Some, None, IfOk, OnErr, slice_index};
 ghost use Rattle.std.specs.Prelude.{slice_get};
 ghost use Rattle.mm_model.specs.declared.object.Size.TheVariants.{Small, Pages};

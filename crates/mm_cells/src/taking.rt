@@ -1,4 +1,4 @@
-// What taking a cell or giving it back changes in the table.
+// What taking a cell or giving it back changes in the table. A fresh page is rare, so taking one isn't inlined.
 ghost use Rattle.std.specs.Prelude.{◌≡◌, ◌≢◌, ◌+◌, ◌*◌, ◌/◌, ◌<◌, ◌≤◌, ℕ, Some, None, ◌↔◌, Bool, true};
 ghost use Rattle.std.specs.Prelude.{false};
 ghost use Rattle.mm_cells.specs.declared.page_use.PageUse.TheVariants as uses;
