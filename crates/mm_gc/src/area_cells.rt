@@ -1,5 +1,5 @@
 // The cells of areas, which commands read and write.
-ghost use Rattle.std.specs.Prelude.{◌≡◌, ◌==◌, ◌||◌, ℕ, map, take, true, false, Some, OnErr, slice_index};
+ghost use Rattle.std.specs.Prelude.{◌≡◌, ◌==◌, ◌||◌, ◌+◌, ◌≤◌, ℕ, map, take, true, false, Some, OnErr, slice_index};
 ghost use Rattle.mm_model.specs.declared.command.Command.TheVariants as commands;
 ghost use Rattle.mm_object.specs.Object.{views_of};
 ghost use Rattle.mm_object.specs.Heap.{IsSound};
@@ -311,7 +311,8 @@ impl Gc {
         s: u32,
         steps: &mut Steps<L>,
     ) -> Result<Slot, Refusal>
-        ensures { AreaCellAnswer (view_of_gc self.now) number s result }
+        ensures answer { AreaCellAnswer (view_of_gc self.now) number s result }
+        ensures cost { steps.new ≤ steps.old + 1 }
     {
         match self.region.areas.cell(&self.region.heap, number, s, steps) {
             Ok(slot) => Ok(slot),
@@ -330,6 +331,7 @@ impl Gc {
         steps: &mut Steps<L>,
     ) -> Result<u32, Refusal>
         ensures row { Answers self.old self.new (commands.AreaGet number s) (word_reply result) }
+        ensures cost { steps.new ≤ steps.old + 1 }
     {
         let slot = self.area_cell(number, s, steps)?;
         self.push_word(word_in(slot))

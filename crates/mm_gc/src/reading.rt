@@ -23,7 +23,8 @@ pub(crate) struct Meant {
 impl Gc {
     /// The object that a stack cell means.
     pub(crate) fn meant<L: Ledger>(&self, i: u32, steps: &mut Steps<L>) -> Result<Meant, Refusal>
-        ensures { MeantAnswer self.now i result }
+        ensures answer { MeantAnswer self.now i result }
+        ensures cost { steps.new ≤ steps.old + 2 }
     {
         let word = self.cell(i, steps)?;
         match self.region.heap.look_up(word, steps) {
@@ -35,6 +36,7 @@ impl Gc {
     /// Pushes the word of a cell plus a number of bytes, which must stay in the object that the cell means.
     pub fn inner<L: Ledger>(&mut self, i: u32, d: u32, steps: &mut Steps<L>) -> Result<u32, Refusal>
         ensures row { Answers self.old self.new (commands.Inner i d) (word_reply result) }
+        ensures cost { steps.new ≤ steps.old + 3 }
     {
         let meant = self.meant(i, steps)?;
         let extent = self.region.heap.extent(meant.found.base, steps);
@@ -49,6 +51,7 @@ impl Gc {
     /// Pushes a slot of the object that a cell means.
     pub fn get<L: Ledger>(&mut self, i: u32, s: u32, steps: &mut Steps<L>) -> Result<u32, Refusal>
         ensures row { Answers self.old self.new (commands.Get i s) (word_reply result) }
+        ensures cost { steps.new ≤ steps.old + 3 }
     {
         let meant = self.meant(i, steps)?;
         if meant.found.shape.slots <= s {
@@ -61,6 +64,7 @@ impl Gc {
     /// Pushes the target of the weak object that a cell means, or 0 once it was freed.
     pub fn look<L: Ledger>(&mut self, i: u32, steps: &mut Steps<L>) -> Result<u32, Refusal>
         ensures row { Answers self.old self.new (commands.Look i) (word_reply result) }
+        ensures cost { steps.new ≤ steps.old + 3 }
     {
         let meant = self.meant(i, steps)?;
         if !meant.found.shape.kind.is_weak() {
@@ -73,6 +77,7 @@ impl Gc {
     /// What is told of the object that a cell means, if it means one.
     pub fn map<L: Ledger>(&self, i: u32, steps: &mut Steps<L>) -> Result<Option<Mapped>, Refusal>
         ensures row { Answers self.now self.now (commands.Map i) (map_reply result) }
+        ensures cost { steps.new ≤ steps.old + 3 }
     {
         let word = self.cell(i, steps)?;
         match self.region.heap.look_up(word, steps) {

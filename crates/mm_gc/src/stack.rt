@@ -1,5 +1,5 @@
 // Commands on the stack alone.
-ghost use Rattle.std.specs.Prelude.{◌≡◌, ◌==◌, ◌<◌, ◌≤◌, length, nat_le, slice_index};
+ghost use Rattle.std.specs.Prelude.{◌≡◌, ◌==◌, ◌+◌, ◌<◌, ◌≤◌, length, nat_le, slice_index};
 ghost use Rattle.mm_model.specs.declared.command.Command.TheVariants as commands;
 ghost use Rattle.mm_gc.specs.Replies.{done_reply};
 ghost use Rattle.mm_gc.specs.Rows.{Answers};
@@ -13,7 +13,8 @@ use std::sync::ledger::Ledger;
 impl Gc {
     /// The word of a stack cell, named as everywhere by its index from the top.
     pub(crate) fn cell<L: Ledger>(&self, i: u32, steps: &mut Steps<L>) -> Result<u32, Refusal>
-        ensures { CellAnswer self.now.stack.words i result }
+        ensures answer { CellAnswer self.now.stack.words i result }
+        ensures cost { steps.new ≤ steps.old + 1 }
     {
         if self.stack.depth() <= i {
             return Err(Refusal::NoCell);
@@ -42,6 +43,7 @@ impl Gc {
     /// Pushes a cell again.
     pub fn dup<L: Ledger>(&mut self, i: u32, steps: &mut Steps<L>) -> Result<(), Refusal>
         ensures row { Answers self.old self.new (commands.Dup i) (done_reply result) }
+        ensures cost { steps.new ≤ steps.old + 1 }
     {
         let word = self.cell(i, steps)?;
         self.push_word(word)?;

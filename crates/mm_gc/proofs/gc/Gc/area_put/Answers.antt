@@ -20,7 +20,7 @@ returns-in_err-word g c =
     let p = err_from_is_err_and c.from_residual.result c.from_residual.ensures.1 in
     rw (p.1, p.2) (record {
       row = no_cell-answers gc c.args.j (commands.AreaPut c.args.number c.args.s c.args.j) c.in_err-word.field-0.0
-          c.in_err-word.ensures (area_put-no_cell (view_of_gc gc) c.args.number c.args.s c.args.j);
+          c.in_err-word.ensures.answer (area_put-no_cell (view_of_gc gc) c.args.number c.args.s c.args.j);
     })
 
 pub returns-in_err-slot : goal.returns-in_err-slot
@@ -31,24 +31,24 @@ returns-in_err-slot g c =
     let p = err_from_is_err_and c.from_residual-in_err-slot.result c.from_residual-in_err-slot.ensures.1 in
     rw (p.1, p.2) (record {
       row = no_area_cell-answers gc c.args.number c.args.s (commands.AreaPut c.args.number c.args.s c.args.j)
-          c.in_err-slot.field-0.0 c.in_err-slot.ensures
-          (area_put-no_area view c.args.number c.args.s c.args.j word c.in_ok-word.ensures)
-          (λ none. area_put-no_slot view c.args.number c.args.s c.args.j word none.area c.in_ok-word.ensures none.lives
-          none.past);
+          c.in_err-slot.field-0.0 c.in_err-slot.ensures.answer
+          (area_put-no_area view c.args.number c.args.s c.args.j word c.in_ok-word.ensures.answer)
+          (λ none. area_put-no_slot view c.args.number c.args.s c.args.j word none.area c.in_ok-word.ensures.answer
+          none.lives none.past);
     })
 
 pub write_cell-requires-clause-cell : goal.write_cell-requires-clause-cell
 write_cell-requires-clause-cell g c =
     let cell = subst (λ (gc : Gc). IsAreaCell (view_of_gc gc) c.args.number c.args.s c.in_ok-slot.slot)
-    (sym c.self.view_is) c.in_ok-slot.ensures in
+    (sym c.self.view_is) c.in_ok-slot.ensures.answer in
     has-cell (gc_of c.self.inside) c.args.number c.args.s c.in_ok-slot.slot cell
 
 pub write_cell-requires-clause-store : goal.write_cell-requires-clause-store
 write_cell-requires-clause-store g c =
     let cell = subst (λ (gc : Gc). IsAreaCell (view_of_gc gc) c.args.number c.args.s c.in_ok-slot.slot)
-    (sym c.self.view_is) c.in_ok-slot.ensures in
+    (sym c.self.view_is) c.in_ok-slot.ensures.answer in
     let stack = subst (λ (gc : Gc). slice_get gc.stack.words c.args.j ≡ Some c.in_ok-word.word) (sym c.self.view_is)
-    c.in_ok-word.ensures in
+    c.in_ok-word.ensures.answer in
     slot-at (gc_of c.self.inside) c.self.invariant c.args.number c.args.s c.args.j c.in_ok-word.word c.in_ok-slot.slot
     cell stack
 
@@ -56,9 +56,9 @@ pub invariant_of-self : goal.invariant_of-self
 invariant_of-self g c =
     let gc = gc_of c.self.inside in
     let cell = subst (λ (gc : Gc). IsAreaCell (view_of_gc gc) c.args.number c.args.s c.in_ok-slot.slot)
-    (sym c.self.view_is) c.in_ok-slot.ensures in
+    (sym c.self.view_is) c.in_ok-slot.ensures.answer in
     let stack = subst (λ (gc : Gc). slice_get gc.stack.words c.args.j ≡ Some c.in_ok-word.word) (sym c.self.view_is)
-    c.in_ok-word.ensures in
+    c.in_ok-word.ensures.answer in
     area_put-keeps gc c.self.invariant c.args.number c.args.s c.args.j c.in_ok-word.word c.in_ok-slot.slot cell stack
     c.write_cell.new.heap c.write_cell.new.areas c.write_cell.new.count c.write_cell.ensures.areas
     c.write_cell.ensures.rest c.write_cell.ensures.table c.write_cell.ensures.sound c.write_cell.result
@@ -71,9 +71,9 @@ pub returns : goal.returns
 returns g c =
     let gc = gc_of c.self.inside in
     let cell = subst (λ (gc : Gc). IsAreaCell (view_of_gc gc) c.args.number c.args.s c.in_ok-slot.slot)
-    (sym c.self.view_is) c.in_ok-slot.ensures in
+    (sym c.self.view_is) c.in_ok-slot.ensures.answer in
     let stack = subst (λ (gc : Gc). slice_get gc.stack.words c.args.j ≡ Some c.in_ok-word.word) (sym c.self.view_is)
-    c.in_ok-word.ensures in
+    c.in_ok-word.ensures.answer in
     record {
       row = subst (λ (old : Gc). Answers old
           (with_region gc (changed_region gc c.self.invariant c.args.number c.args.s c.args.j c.in_ok-word.word

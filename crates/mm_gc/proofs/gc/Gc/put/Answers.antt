@@ -29,7 +29,7 @@ returns-in_err-word g c =
     let p = err_from_is_err_and c.from_residual.result c.from_residual.ensures.1 in
     rw (p.1, p.2) (record {
       row = no_cell-answers gc c.args.j (commands.Put c.args.i c.args.s c.args.j) c.in_err-word.field-0.0
-          c.in_err-word.ensures (put-no_word (view_of_gc gc) c.args.i c.args.s c.args.j);
+          c.in_err-word.ensures.answer (put-no_word (view_of_gc gc) c.args.i c.args.s c.args.j);
     })
 
 pub returns-in_err-meant : goal.returns-in_err-meant
@@ -38,9 +38,9 @@ returns-in_err-meant g c =
     let p = err_from_is_err_and c.from_residual-in_err-meant.result c.from_residual-in_err-meant.ensures.1 in
     rw (p.1, p.2) (record {
       row = unmeant-answers gc c.args.i (commands.Put c.args.i c.args.s c.args.j) c.in_err-meant.field-0.0
-          c.in_err-meant.ensures (put-no_holder (view_of_gc gc) c.args.i c.args.s c.args.j)
+          c.in_err-meant.ensures.answer (put-no_holder (view_of_gc gc) c.args.i c.args.s c.args.j)
           (λ nothing. put-nothing (view_of_gc gc) c.args.i c.args.s c.args.j c.in_ok-word.word nothing
-          c.in_ok-word.ensures);
+          c.in_ok-word.ensures.answer);
     })
 
 pub returns-then-meant-s : goal.returns-then-meant-s
@@ -48,9 +48,9 @@ returns-then-meant-s g c =
     let gc = gc_of c.self.inside in
     let found = c.in_ok-meant.meant.found in
     let meant = subst (λ (gc : Gc). IsMeant gc c.args.i c.in_ok-meant.meant.word found) (sym c.self.view_is)
-    c.in_ok-meant.ensures in
+    c.in_ok-meant.ensures.answer in
     let cell = subst (λ (gc : Gc). slice_get gc.stack.words c.args.j ≡ Some c.in_ok-word.word) (sym c.self.view_is)
-    c.in_ok-word.ensures in
+    c.in_ok-word.ensures.answer in
     record {
       row = subst (λ (gc : Gc). Answers gc gc (commands.Put c.args.i c.args.s c.args.j)
           (replies.Refused refusals.NoSlot)) c.self.view_is
@@ -66,9 +66,9 @@ returns-in_err-answer g c =
     let gc = gc_of c.self.inside in
     let found = c.in_ok-meant.meant.found in
     let meant = subst (λ (gc : Gc). IsMeant gc c.args.i c.in_ok-meant.meant.word found) (sym c.self.view_is)
-    c.in_ok-meant.ensures in
+    c.in_ok-meant.ensures.answer in
     let cell = subst (λ (gc : Gc). slice_get gc.stack.words c.args.j ≡ Some c.in_ok-word.word) (sym c.self.view_is)
-    c.in_ok-word.ensures in
+    c.in_ok-word.ensures.answer in
     let p = err_from_is_err_and c.from_residual-in_err-answer.result c.from_residual-in_err-answer.ensures.1 in
     let refused = c.in_err-answer.ensures.answer (view_of_gc gc) (view_of_stored meant.object) refl
     (holder-begins gc c.self.invariant c.args.i c.args.s c.args.j c.in_ok-meant.meant.word
@@ -95,9 +95,9 @@ tell_marking-requires-clause-slot g c =
     let gc = gc_of c.self.inside in
     let found = c.in_ok-meant.meant.found in
     let meant = subst (λ (gc : Gc). IsMeant gc c.args.i c.in_ok-meant.meant.word found) (sym c.self.view_is)
-    c.in_ok-meant.ensures in
+    c.in_ok-meant.ensures.answer in
     let cell = subst (λ (gc : Gc). slice_get gc.stack.words c.args.j ≡ Some c.in_ok-word.word) (sym c.self.view_is)
-    c.in_ok-word.ensures in
+    c.in_ok-word.ensures.answer in
     let inside : c.args.s < found.shape.slots = omega (arith, c.if-meant-s.false) in
     let stored = c.in_ok-answer.ensures.answer (view_of_gc gc) (view_of_stored meant.object) refl
     (holder-begins gc c.self.invariant c.args.i c.args.s c.args.j c.in_ok-meant.meant.word
@@ -111,9 +111,9 @@ tell_marking-requires-clause-keeps g c =
     let gc = gc_of c.self.inside in
     let found = c.in_ok-meant.meant.found in
     let meant = subst (λ (gc : Gc). IsMeant gc c.args.i c.in_ok-meant.meant.word found) (sym c.self.view_is)
-    c.in_ok-meant.ensures in
+    c.in_ok-meant.ensures.answer in
     let cell = subst (λ (gc : Gc). slice_get gc.stack.words c.args.j ≡ Some c.in_ok-word.word) (sym c.self.view_is)
-    c.in_ok-word.ensures in
+    c.in_ok-word.ensures.answer in
     let inside : c.args.s < found.shape.slots = omega (arith, c.if-meant-s.false) in
     let stored = c.in_ok-answer.ensures.answer (view_of_gc gc) (view_of_stored meant.object) refl
     (holder-begins gc c.self.invariant c.args.i c.args.s c.args.j c.in_ok-meant.meant.word
@@ -127,9 +127,9 @@ invariant_of-self-2 g c =
     let gc = gc_of c.self.inside in
     let found = c.in_ok-meant.meant.found in
     let meant = subst (λ (gc : Gc). IsMeant gc c.args.i c.in_ok-meant.meant.word found) (sym c.self.view_is)
-    c.in_ok-meant.ensures in
+    c.in_ok-meant.ensures.answer in
     let cell = subst (λ (gc : Gc). slice_get gc.stack.words c.args.j ≡ Some c.in_ok-word.word) (sym c.self.view_is)
-    c.in_ok-word.ensures in
+    c.in_ok-word.ensures.answer in
     let inside : c.args.s < found.shape.slots = omega (arith, c.if-meant-s.false) in
     let stored = c.in_ok-answer.ensures.answer (view_of_gc gc) (view_of_stored meant.object) refl
     (holder-begins gc c.self.invariant c.args.i c.args.s c.args.j c.in_ok-meant.meant.word
@@ -153,9 +153,9 @@ returns g c =
     let gc = gc_of c.self.inside in
     let found = c.in_ok-meant.meant.found in
     let meant = subst (λ (gc : Gc). IsMeant gc c.args.i c.in_ok-meant.meant.word found) (sym c.self.view_is)
-    c.in_ok-meant.ensures in
+    c.in_ok-meant.ensures.answer in
     let cell = subst (λ (gc : Gc). slice_get gc.stack.words c.args.j ≡ Some c.in_ok-word.word) (sym c.self.view_is)
-    c.in_ok-word.ensures in
+    c.in_ok-word.ensures.answer in
     let inside : c.args.s < found.shape.slots = omega (arith, c.if-meant-s.false) in
     let stored = c.in_ok-answer.ensures.answer (view_of_gc gc) (view_of_stored meant.object) refl
     (holder-begins gc c.self.invariant c.args.i c.args.s c.args.j c.in_ok-meant.meant.word

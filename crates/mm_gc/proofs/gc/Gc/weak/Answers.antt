@@ -24,13 +24,13 @@ returns-in_err-target-clause-row g c =
       bytes = g.J.Finalizer.kept c.args.journal.now;
       broken = g.J.Finalizer.is_broken c.args.journal.now;
     })
-    (unmeant-answers gc c.args.i (commands.Weak c.args.i) c.in_err-target.field-0.0 c.in_err-target.ensures
+    (unmeant-answers gc c.args.i (commands.Weak c.args.i) c.in_err-target.field-0.0 c.in_err-target.ensures.answer
     (weak-no_cell (view_of_gc gc) c.args.i) (weak-nothing (view_of_gc gc) c.args.i)))
 
 pub returns-then-is_weak-clause-row : goal.returns-then-is_weak-clause-row
 returns-then-is_weak-clause-row g c =
     let m = c.in_ok-target.field-0 in
-    weak-no_weak c.args.self.now c.args.i m.word m.found c.in_ok-target.ensures
+    weak-no_weak c.args.self.now c.args.i m.word m.found c.in_ok-target.ensures.answer
     (record {
       bytes = g.J.Finalizer.kept c.args.journal.now;
       broken = g.J.Finalizer.is_broken c.args.journal.now;
@@ -40,7 +40,7 @@ returns-then-is_weak-clause-row g c =
 pub returns-then-is_stack_full-clause-row : goal.returns-then-is_stack_full-clause-row
 returns-then-is_stack_full-clause-row g c =
     let m = c.in_ok-target.field-0 in
-    weak-stack_full c.args.self.now c.args.i m.word m.found c.in_ok-target.ensures
+    weak-stack_full c.args.self.now c.args.i m.word m.found c.in_ok-target.ensures.answer
     (sym c.is_weak.ensures ∙ c.if-is_weak.false)
     (record {
       bytes = g.J.Finalizer.kept c.args.journal.now;
@@ -51,24 +51,26 @@ returns-then-is_stack_full-clause-row g c =
 pub returns-then-weak-ne0-clause-row : goal.returns-then-weak-ne0-clause-row
 returns-then-weak-ne0-clause-row g c =
     let m = c.in_ok-target.field-0 in
-    weak-kept_tells c.args.self.now c.args.i m.word m.found c.in_ok-target.ensures
+    weak-kept_tells c.args.self.now c.args.i m.word m.found c.in_ok-target.ensures.answer
     (sym c.is_weak.ensures ∙ c.if-is_weak.false)
     (record {
       bytes = g.J.Finalizer.kept c.args.journal.now;
       broken = g.J.Finalizer.is_broken c.args.journal.now;
     })
     c.push_word.new.self c.link-weak.result c.in_ok-base.base
-    (c.link-weak.ensures.word c.in_ok-target.ensures.object
-    (begins-read c.args.self.now (gc_of c.self.inside) c.args.i m.word m.found c.self.view_is c.in_ok-target.ensures))
+    (c.link-weak.ensures.word c.in_ok-target.ensures.answer.object
+    (begins-read c.args.self.now (gc_of c.self.inside) c.args.i m.word m.found c.self.view_is
+    c.in_ok-target.ensures.answer))
     c.if-weak-ne0.true c.in_ok-base.ensures
 
 pub search-requires-clause-wanted : goal.search-requires-clause-wanted
 search-requires-clause-wanted g c =
     let m = c.in_ok-target.field-0 in
-    weak-wanted c.args.self.now c.args.i m.word m.found c.in_ok-target.ensures
+    weak-wanted c.args.self.now c.args.i m.word m.found c.in_ok-target.ensures.answer
     (sym c.is_weak.ensures ∙ c.if-is_weak.false) c.link-weak.result
-    (c.link-weak.ensures.word c.in_ok-target.ensures.object
-    (begins-read c.args.self.now (gc_of c.self.inside) c.args.i m.word m.found c.self.view_is c.in_ok-target.ensures))
+    (c.link-weak.ensures.word c.in_ok-target.ensures.answer.object
+    (begins-read c.args.self.now (gc_of c.self.inside) c.args.i m.word m.found c.self.view_is
+    c.in_ok-target.ensures.answer))
     c.if-weak-ne0.false (sym c.is_stack_full.ensures ∙ c.if-is_stack_full.false)
 
 pub unreachable-requires : goal.unreachable-requires
@@ -99,10 +101,11 @@ unreachable-requires g c =
 pub returns-in-Some-Object-clause-row : goal.returns-in-Some-Object-clause-row
 returns-in-Some-Object-clause-row g c =
     let m = c.in_ok-target.field-0 in
-    weak-searched c.args.self.now c.args.i m.word m.found c.in_ok-target.ensures
+    weak-searched c.args.self.now c.args.i m.word m.found c.in_ok-target.ensures.answer
     (sym c.is_weak.ensures ∙ c.if-is_weak.false) c.link-weak.result
-    (c.link-weak.ensures.word c.in_ok-target.ensures.object
-    (begins-read c.args.self.now (gc_of c.self.inside) c.args.i m.word m.found c.self.view_is c.in_ok-target.ensures))
+    (c.link-weak.ensures.word c.in_ok-target.ensures.answer.object
+    (begins-read c.args.self.now (gc_of c.self.inside) c.args.i m.word m.found c.self.view_is
+    c.in_ok-target.ensures.answer))
     c.if-weak-ne0.false (sym c.is_stack_full.ensures ∙ c.if-is_stack_full.false) c.search.new.self
     (record {
       bytes = g.J.Finalizer.kept c.args.journal.now;
@@ -128,10 +131,11 @@ returns-in-Some-Object-clause-row g c =
 pub returns-in-None-clause-row : goal.returns-in-None-clause-row
 returns-in-None-clause-row g c =
     let m = c.in_ok-target.field-0 in
-    weak-searched c.args.self.now c.args.i m.word m.found c.in_ok-target.ensures
+    weak-searched c.args.self.now c.args.i m.word m.found c.in_ok-target.ensures.answer
     (sym c.is_weak.ensures ∙ c.if-is_weak.false) c.link-weak.result
-    (c.link-weak.ensures.word c.in_ok-target.ensures.object
-    (begins-read c.args.self.now (gc_of c.self.inside) c.args.i m.word m.found c.self.view_is c.in_ok-target.ensures))
+    (c.link-weak.ensures.word c.in_ok-target.ensures.answer.object
+    (begins-read c.args.self.now (gc_of c.self.inside) c.args.i m.word m.found c.self.view_is
+    c.in_ok-target.ensures.answer))
     c.if-weak-ne0.false (sym c.is_stack_full.ensures ∙ c.if-is_stack_full.false) c.search.new.self
     (record {
       bytes = g.J.Finalizer.kept c.args.journal.now;
