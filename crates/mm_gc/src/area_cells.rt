@@ -58,6 +58,7 @@ fn raise_word<L: Ledger>(heap: &mut Heap, count: &mut ZeroTable, word: u32, step
     ensures table { IsSameTable count.old count.new }
     ensures rest { heap.new ≡ record heap.old { objects = heap.new.objects } }
     ensures sound { IsSound heap.new }
+    ensures cost { steps.new ≤ steps.old + 8 }
 {
     if word == 0 {
         return;
@@ -78,6 +79,7 @@ fn lower_word<L: Ledger>(heap: &mut Heap, count: &mut ZeroTable, word: u32, step
     ensures table { IsSameTable count.old count.new }
     ensures rest { heap.new ≡ record heap.old { objects = heap.new.objects } }
     ensures sound { IsSound heap.new }
+    ensures cost { steps.new ≤ steps.old + 8 }
 {
     if word == 0 {
         return;
@@ -111,6 +113,7 @@ fn replace_word<L: Ledger>(
     ensures table { IsSameTable count.old count.new }
     ensures rest { heap.new ≡ record heap.old { objects = heap.new.objects; raw = heap.new.raw } }
     ensures sound { IsSound heap.new }
+    ensures cost { steps.new ≤ steps.old + 17 }
 {
     raise_word(heap, count, word, steps);
     match areas.set_cell(heap, at.number, at.cell, word, steps) {
@@ -138,6 +141,7 @@ fn write_uncounted_cell<L: Ledger>(
     ensures beside { IsBeside areas.new heap.new }
     ensures rest { heap.new ≡ record heap.old { objects = heap.new.objects; raw = heap.new.raw } }
     ensures sound { IsSound heap.new }
+    ensures cost { steps.new ≤ steps.old + 2 }
 {
     let answer = looseness(heap, word, steps);
     match areas.set_cell(heap, at.number, at.cell, word, steps) {
@@ -171,6 +175,7 @@ fn write_tight_word<L: Ledger>(
     ensures table { IsSameTable count.old count.new }
     ensures rest { heap.new ≡ record heap.old { objects = heap.new.objects; raw = heap.new.raw } }
     ensures sound { IsSound heap.new }
+    ensures cost { steps.new ≤ steps.old + 17 }
 {
     if old != word {
         replace_word(heap, areas, count, at, old, word, steps);
@@ -208,6 +213,7 @@ fn write_counted_cell<L: Ledger>(
     ensures same_table { OnErr result (count.new ≡ count.old) }
     ensures same_heap { OnErr result (heap.new ≡ heap.old) }
     ensures sound { IsSound heap.new }
+    ensures cost { steps.new ≤ steps.old + 18 }
 {
     if !is_tight(heap, word, steps) {
         return Err(Refusal::NotCounted);
@@ -241,6 +247,7 @@ fn write_cell<L: Ledger>(
     ensures same_table { OnErr result (count.new ≡ count.old) }
     ensures same_heap { OnErr result (heap.new ≡ heap.old) }
     ensures sound { IsSound heap.new }
+    ensures cost { steps.new ≤ steps.old + 18 }
 {
     match slot {
         Slot::Count(old) => write_counted_cell(heap, areas, count, at, old, word, steps),
@@ -346,6 +353,7 @@ impl Gc {
         steps: &mut Steps<L>,
     ) -> Result<Put, Refusal>
         ensures row { Answers self.old self.new (commands.AreaPut number s j) (put_reply result) }
+        ensures cost { steps.new ≤ steps.old + 20 }
     {
         let word = self.cell(j, steps)?;
         let slot = self.area_cell(number, s, steps)?;

@@ -1,5 +1,5 @@
 // Writes into slots of objects.
-ghost use Rattle.std.specs.Prelude.{◌≡◌, ◌==◌, ◌||◌, ℕ, if◌then◌else◌, true, false, OnErr};
+ghost use Rattle.std.specs.Prelude.{◌≡◌, ◌==◌, ◌||◌, ◌+◌, ◌≤◌, ℕ, if◌then◌else◌, true, false, OnErr};
 ghost use Rattle.mm_model.specs.declared.command.Command.TheVariants as commands;
 ghost use Rattle.mm_model.specs.declared.reply.Put.TheVariants.{Tight, Loose};
 ghost use Rattle.mm_model.specs.Store.{is_counted_slot};
@@ -30,7 +30,8 @@ use std::sync::ledger::Ledger;
 
 /// Whether a counted object begins at the word.
 fn begins_counted<L: Ledger>(heap: &Heap, word: u32, steps: &mut Steps<L>) -> bool
-    ensures { result ≡ begins_counted_in (views_of heap.now.objects) word }
+    ensures answer { result ≡ begins_counted_in (views_of heap.now.objects) word }
+    ensures cost { steps.new ≤ steps.old + 1 }
 {
     match heap.look_up(word, steps) {
         Some(found) => found.base == word && found.shape.kind.is_counted(),
@@ -40,7 +41,8 @@ fn begins_counted<L: Ledger>(heap: &Heap, word: u32, steps: &mut Steps<L>) -> bo
 
 /// Whether the word is 0 or the base of a counted object, so that a counted slot or cell takes it.
 pub(crate) fn is_tight<L: Ledger>(heap: &Heap, word: u32, steps: &mut Steps<L>) -> bool
-    ensures { result ≡ (word == 0 || begins_counted_in (views_of heap.now.objects) word) }
+    ensures answer { result ≡ (word == 0 || begins_counted_in (views_of heap.now.objects) word) }
+    ensures cost { steps.new ≤ steps.old + 1 }
 {
     word == 0 || begins_counted(heap, word, steps)
 }
@@ -49,6 +51,7 @@ pub(crate) fn is_tight<L: Ledger>(heap: &Heap, word: u32, steps: &mut Steps<L>) 
 fn falls_in_counted<L: Ledger>(heap: &Heap, word: u32, steps: &mut Steps<L>) -> bool
     ensures falls { result ≡ falls_in_counted_of (views_of heap.now.objects) word }
     ensures sound { IsSound heap.now }
+    ensures cost { steps.new ≤ steps.old + 1 }
 {
     match heap.look_up(word, steps) {
         Some(found) => found.shape.kind.is_counted(),
@@ -60,6 +63,7 @@ fn falls_in_counted<L: Ledger>(heap: &Heap, word: u32, steps: &mut Steps<L>) -> 
 pub(crate) fn looseness<L: Ledger>(heap: &Heap, word: u32, steps: &mut Steps<L>) -> Put
     ensures loose { result ≡ (if falls_in_counted_of (views_of heap.now.objects) word then Loose else Tight) }
     ensures sound { IsSound heap.now }
+    ensures cost { steps.new ≤ steps.old + 1 }
 {
     if falls_in_counted(heap, word, steps) {
         Put::Loose
@@ -91,6 +95,7 @@ fn write_counted<L: Ledger>(
     ensures same_table { OnErr result (count.new ≡ count.old) }
     ensures same_heap { OnErr result (heap.new ≡ heap.old) }
     ensures sound { IsSound heap.new }
+    ensures cost { steps.new ≤ steps.old + 25 }
 {
     if !is_tight(heap, word, steps) {
         return Err(Refusal::NotCounted);
@@ -118,6 +123,7 @@ fn write_uncounted<L: Ledger>(
         → HasCounts table heap.new outside }
     ensures rest { heap.new ≡ record heap.old { objects = heap.new.objects } }
     ensures sound { IsSound heap.new }
+    ensures cost { steps.new ≤ steps.old + 2 }
 {
     let answer = looseness(heap, word, steps);
     heap.set_slot(base, s, word, steps);
@@ -146,6 +152,7 @@ fn write_slot<L: Ledger>(
     ensures same_table { OnErr result (count.new ≡ count.old) }
     ensures same_heap { OnErr result (heap.new ≡ heap.old) }
     ensures sound { IsSound heap.new }
+    ensures cost { steps.new ≤ steps.old + 26 }
 {
     match heap.slot(base, s, steps) {
         Slot::Count(_) => write_counted(heap, count, base, s, word, steps),
@@ -175,6 +182,7 @@ fn tell_marking<L: Ledger>(
     ensures rest { heap.new ≡ record heap.old { objects = heap.new.objects } }
     ensures cycle { IsSameButQueue marker.old marker.new }
     ensures sound { IsSound heap.old → IsSound heap.new }
+    ensures cost { steps.new ≤ steps.old + 8 }
 {
     if marker.running() {
         marker.barrier(heap, base, s, word, steps);
@@ -191,6 +199,7 @@ impl Gc {
         steps: &mut Steps<L>,
     ) -> Result<Put, Refusal>
         ensures row { Answers self.old self.new (commands.Put i s j) (put_reply result) }
+        ensures cost { steps.new ≤ steps.old + 37 }
     {
         let word = self.cell(j, steps)?;
         let meant = self.meant(i, steps)?;

@@ -10,11 +10,11 @@ use Rattle.mm_gc.proofs.slots.write_counted.Goals as goal
 pub returns-then-not-is_tight-clause-answer : goal.returns-then-not-is_tight-clause-answer
 returns-then-not-is_tight-clause-answer g c = λ view seen shows there counted.
     counted-refused c.args.heap.now c.args.base c.args.s c.args.word c.requires.slot view seen shows there
-    (sym c.is_tight.ensures ∙ c.if-not-is_tight.true)
+    (sym c.is_tight.ensures.answer ∙ c.if-not-is_tight.true)
 
 pub store-requires-clause-new : goal.store-requires-clause-new
 store-requires-clause-new g c =
-    named-tight c.args.heap.now.objects c.args.word (sym c.is_tight.ensures ∙ c.if-not-is_tight.false)
+    named-tight c.args.heap.now.objects c.args.word (sym c.is_tight.ensures.answer ∙ c.if-not-is_tight.false)
 
 pub store-requires-clause-old : goal.store-requires-clause-old
 store-requires-clause-old g c = λ object begins.
@@ -36,7 +36,7 @@ store-requires-clause-some g c = λ object begins other some.
 pub returns-clause-answer : goal.returns-clause-answer
 returns-clause-answer g c = λ view seen shows there counted.
     counted-stored c.args.heap.now c.args.base c.args.s c.args.word c.requires.slot view seen shows there
-    (sym c.is_tight.ensures ∙ c.if-not-is_tight.false) (views_of c.store.new.heap.objects)
+    (sym c.is_tight.ensures.answer ∙ c.if-not-is_tight.false) (views_of c.store.new.heap.objects)
     (c.store.ensures.views view seen shows there counted)
 
 pub returns-clause-counts : goal.returns-clause-counts
