@@ -1,5 +1,5 @@
 -- How many steps the calls of a heap count at most.
-use Rattle.std.specs.Prelude.{◌≤◌, ◌<◌, ◌+◌, ◌*◌, ◌^◌, ◌||◌, ℕ, if◌then◌else◌, List, length}
+use Rattle.std.specs.Prelude.{◌≤◌, ◌<◌, ◌+◌, ◌*◌, ◌^◌, ◌||◌, ℕ, if◌then◌else◌, List, length, Option, None, Some}
 use Rattle.std.specs.List.{sum_by}
 use Rattle.mm_model.specs.Marking.{is_black}
 use Rattle.mm_model.specs.Phase.{lists}
@@ -8,6 +8,8 @@ use Rattle.mm_model.specs.ObjectView.{ObjectView, ObjectsByBase, scanned_words_o
 use Rattle.mm_model.specs.SetsByBase.{AreBasesAt, IsReapableAt, IsFreedAtFinishAt}
 use Rattle.mm_model.specs.ViewWords.{outside_references, marking_words}
 use Rattle.mm_mark.specs.Marker.{Marking, marking}
+use Rattle.mm_roots.specs.declared.area_shape.AreaShape.{AreaShape}
+use Rattle.mm_roots.specs.Areas.{area_at}
 use Rattle.mm_reap.specs.Slots.{counted_slots_of}
 use Rattle.mm_sweep.specs.Release.{finalized_slots}
 use Rattle.mm_gc.specs.Gc.{Gc, objects_in, view_of_gc, freed_since, HasRoomForAll}
@@ -27,6 +29,17 @@ pub record IsReapCost (old : Gc) (before after : ℕ) : Type 0 where
       (IsReapableAt (objects_in old.region) old.stack.words (outside_references (view_of_gc old))) dead
   pub within : (digits : ℕ) → old.settings.max < 2 ^ digits → after ≤ before
       + reap_bound (objects_in old.region) dead (length old.stack.words) (length old.table.entries) digits
+
+-- how many counted cells the area has, where there is one
+abbrev pub counted_cells : Option AreaShape → ℕ
+counted_cells None = 0
+counted_cells (Some area) = area.counted
+
+-- What giving back the area that has the number costs at most: some steps for each counted cell, and some for each
+-- binary digit of the greatest number of pages.
+abbrev pub IsDropCost : Gc → ℕ → ℕ → ℕ → Type 0
+IsDropCost old number before after = (digits : ℕ) → old.settings.max < 2 ^ digits
+    → after ≤ before + 9 * counted_cells (area_at old.region.areas number) + 7 * digits
 
 -- how far marking has come
 abbrev pub marking_in : Gc → Marking

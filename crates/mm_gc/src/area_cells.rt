@@ -1,5 +1,6 @@
 // The cells of areas, which commands read and write.
-ghost use Rattle.std.specs.Prelude.{◌≡◌, ◌==◌, ◌||◌, ◌+◌, ◌≤◌, ℕ, map, take, true, false, Some, OnErr, slice_index};
+ghost use Rattle.std.specs.Prelude.{◌≡◌, ◌==◌, ◌||◌, ◌+◌, ◌*◌, ◌≤◌, ℕ, map, take, true, false, Some, OnErr};
+ghost use Rattle.std.specs.Prelude.{slice_index};
 ghost use Rattle.mm_model.specs.declared.command.Command.TheVariants as commands;
 ghost use Rattle.mm_object.specs.Object.{views_of};
 ghost use Rattle.mm_object.specs.Heap.{IsSound};
@@ -19,6 +20,7 @@ ghost use Rattle.mm_gc.specs.Gc.{view_of_gc};
 ghost use Rattle.mm_gc.specs.Replies.{done_reply, put_reply, word_reply};
 ghost use Rattle.mm_gc.specs.Rows.{Answers};
 ghost use Rattle.mm_gc.specs.Counts.{HasCounts};
+ghost use Rattle.mm_gc.specs.Steps.{IsDropCost};
 
 use crate::gc::Gc;
 use crate::slots::{is_tight, looseness};
@@ -276,6 +278,7 @@ fn lower_cell<L: Ledger>(
     ensures table { IsSameTable count.old count.new }
     ensures rest { heap.new ≡ record heap.old { objects = heap.new.objects } }
     ensures sound { IsSound heap.new }
+    ensures cost { steps.new ≤ steps.old + 9 }
 {
     match areas.cell(heap, number, s, steps) {
         Ok(slot) => lower_word(heap, count, word_in(slot), steps),
@@ -304,6 +307,7 @@ fn lower_cells<L: Ledger>(
     ensures table { IsSameTable count.old count.new }
     ensures rest { heap.new ≡ record heap.old { objects = heap.new.objects } }
     ensures sound { IsSound heap.new }
+    ensures cost { steps.new ≤ steps.old + 9 * counted }
 {
     for s in 0..counted {
         lower_cell(heap, areas, count, number, s, steps);
@@ -371,6 +375,7 @@ impl Gc {
     /// Gives an area back, once its counted cells hold no counts.
     pub fn drop_area<L: Ledger>(&mut self, number: u32, steps: &mut Steps<L>) -> Result<(), Refusal>
         ensures row { Answers self.old self.new (commands.DropArea number) (done_reply result) }
+        ensures cost { IsDropCost self.old number steps.old steps.new }
     {
         let Some(area) = self.region.areas.shape(number) else {
             return Err(Refusal::NoArea);

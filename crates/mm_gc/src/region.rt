@@ -286,6 +286,7 @@ impl Region {
         ensures objects { self.new.heap.objects ≡ self.old.heap.objects }
         ensures same { IsSameRegion self.old self.new }
         ensures keeps { KeepsRegion self.new }
+        ensures cost { heaps.IsQuick self.old.pages.pages steps.old steps.new }
     {
         let removed = self.areas.remove(&mut self.pages, number, steps);
         match removed {
@@ -301,6 +302,7 @@ impl Region {
         ensures objects { self.new.heap.objects ≡ self.old.heap.objects }
         ensures same { IsSameRegion self.old self.new }
         ensures settled { IsSettled self.new }
+        ensures cost { heaps.IsQuick self.old.pages.pages steps.old steps.new }
     {
         self.drop_area(number, steps);
         self.settle();

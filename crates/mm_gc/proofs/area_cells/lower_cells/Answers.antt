@@ -55,6 +55,7 @@ loop-s-preserved g c =
       table = same-then c.args.count.now c.loop-s.count c.lower_cell.new.count inv.table now.table;
       rest = now.rest ∙ ap (λ (h : Heap). record h { objects = c.lower_cell.new.heap.objects }) inv.rest;
       sound = now.sound;
+      cost = omega (arith, inv.cost, now.cost);
     }
 
 pub returns-clause-counts : goal.returns-clause-counts

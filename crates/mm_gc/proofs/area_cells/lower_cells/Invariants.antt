@@ -1,4 +1,4 @@
-use Rattle.std.proofs.Common.{◌≡◌, ℕ, Some, take, drop}
+use Rattle.std.proofs.Common.{◌≡◌, ◌≤◌, ◌+◌, ◌*◌, ℕ, Some, take, drop}
 use Rattle.mm_object.specs.Object.{views_of}
 use Rattle.mm_object.specs.Heap.{IsSound}
 use Rattle.mm_count.specs.Table.{IsSameTable}
@@ -21,4 +21,5 @@ invariant-loop-s g l =
       table : IsSameTable l.fn.count l.count;
       rest : l.heap ≡ record l.fn.heap { objects = l.heap.objects };
       sound : IsSound l.heap;
+      cost : l.steps ≤ l.fn.steps + 9 * l.s;
     }
