@@ -14,11 +14,11 @@ pub fn write_line(line: &Line, to: &mut ArrayVec<u8, 4096>)
     requires { array_vec_len to.old + 64 ≤ 4096 }
     ensures { to.new.items ≡ to.old.items ++ model.spelling line.now }
 {
-    match line {
-        // Most lines.
+    // What is handed on is a copy, so that a line which is most often `ok` stays in registers.
+    match *line {
         Line::Reply(Reply::Done) => put_text(b"ok\n", to),
-        Line::Reply(reply) => put_reply(reply, to),
-        _ => put_line(line, to),
+        Line::Reply(reply) => put_reply(&reply, to),
+        other => put_line(&other, to),
     }
 }
 
