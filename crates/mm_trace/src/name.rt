@@ -31,6 +31,17 @@ pub(crate) fn behind<'a>(text: &'a [u8], front: &[u8]) -> Option<&'a [u8]>
     if is(start, front) { Some(rest) } else { None }
 }
 
+/// What stands behind a space, if a text begins with one.
+#[inline]
+pub(crate) fn behind_space(text: &[u8]) -> Option<&[u8]>
+    ensures { IfSome result (λ rest. EndsWord text.now rest.now) }
+{
+    match text {
+        [b' ', rest @ ..] => Some(rest),
+        _ => None,
+    }
+}
+
 /// What follows the end of a word: nothing at the end of the line, else what stands behind one space.
 #[inline]
 pub(crate) fn behind_word(text: &[u8]) -> Option<&[u8]>
@@ -38,8 +49,7 @@ pub(crate) fn behind_word(text: &[u8]) -> Option<&[u8]>
 {
     match text {
         [] => Some(text),
-        [b' ', rest @ ..] => Some(rest),
-        _ => None,
+        _ => behind_space(text),
     }
 }
 

@@ -1,13 +1,13 @@
 // The commands of plain lines, read in one pass.
-ghost use Rattle.std.specs.Prelude.{◌≡◌, [], true, false, Some, Ok, IfSome, OnSome};
+ghost use Rattle.std.specs.Prelude.{◌≡◌, true, false, Some, Ok, IfSome, OnSome};
 ghost use Rattle.mm_model.specs.Trace as trace;
 ghost use Rattle.mm_model.specs.Trace.{words_of, words_reading, is_comment};
 ghost use Rattle.mm_trace.specs.Form.{model_form};
-ghost use Rattle.mm_trace.specs.Plain.{has_no_space, BeginsWithKind, BeginsWithNumber};
+ghost use Rattle.mm_trace.specs.Plain.{has_no_space, BeginsWithKind};
 
 use crate::form::{Form, OfNone, OfOne, OfThree, OfTwo};
 use crate::name::{behind, behind_word, name_at};
-use crate::number::number_at;
+use crate::number::{last_number, number_at};
 use mm_model::{Command, Kind, Shape};
 
 // A kind word, and what stands behind it.
@@ -47,15 +47,6 @@ fn kind_at(text: &[u8]) -> Option<((Kind, bool), &[u8])>
         return Some(found);
     }
     kind_named(text, b"rf", Kind::Counted, true)
-}
-
-// The last number of a line.
-#[inline]
-fn last_number(text: &[u8]) -> Option<u32>
-    ensures { IfSome result (λ number. BeginsWithNumber text.now number []) }
-{
-    let (number, rest) = number_at(text)?;
-    if rest.is_empty() { Some(number) } else { None }
 }
 
 // A command without words.
