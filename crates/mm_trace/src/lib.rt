@@ -18,6 +18,6 @@ mod write;
 pub use cutter::{Cutter, line_end};
 pub use mm_model::LineFault;
 pub use number::number_of;
-pub use parse::parse_line;
+pub use parse::{parse_line, parse_plain_line};
 pub use text::{fault_text, refusal_text};
 pub use write::write_line;

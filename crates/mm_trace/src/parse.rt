@@ -1,5 +1,5 @@
 // A line of a trace.
-ghost use Rattle.std.specs.Prelude.{◌≡◌, if◌then◌else◌};
+ghost use Rattle.std.specs.Prelude.{◌≡◌, if◌then◌else◌, Some, Ok, IfSome};
 ghost use Rattle.mm_model.specs.Trace.{line_reading, words_reading, words_of, is_comment};
 
 use crate::command::command_of;
@@ -34,16 +34,23 @@ pub fn parse_line(bytes: &[u8]) -> Result<Option<Command>, LineFault>
     if bytes.len() > LINE_LIMIT {
         return Err(LineFault::LineTooLong);
     }
-    // What programs write is read in one pass, and the rest by words.
-    if let Some(command) = plain_command(bytes) {
-        return Ok(Some(command));
-    }
     read_line(bytes)
 }
 
+/// The command of a line as programs write it: one space between words, and none before or behind them. It is read in
+/// one pass, where `parse_line` goes by words. `None` says nothing of the line.
+#[inline]
+#[tactic(auto, unfolding(mm_model::specs::Trace::line_reading))]
+pub fn parse_plain_line(bytes: &[u8]) -> Option<Command>
+    ensures { IfSome result (λ command. line_reading bytes.now ≡ Ok (Some command)) }
+{
+    if bytes.len() > LINE_LIMIT {
+        return None;
+    }
+    plain_command(bytes)
+}
+
 // What a line that isn't too long says.
-#[cold]
-#[inline(never)]
 fn read_line(line: &[u8]) -> Result<Option<Command>, LineFault>
     ensures { result ≡ (if is_comment line.now then Ok None else words_reading (words_of line.now)) }
 {

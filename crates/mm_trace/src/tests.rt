@@ -1,4 +1,4 @@
-use crate::{Cutter, fault_text, line_end, parse_line, write_line};
+use crate::{Cutter, fault_text, line_end, parse_line, parse_plain_line, write_line};
 use arrayvec::ArrayVec;
 use mm_model::{
     AreaAnswer, Command, Kind, Line, LineFault, Mapped, Phase, Refusal, Reply, Shape, Stat, Totals,
@@ -16,35 +16,41 @@ fn shape(kind: Kind, finalize: bool, counted: u32, slots: u32) -> Command {
 #[test]
 fn each_command_is_read(rt: HostRuntime) {
     for (line, want) in [
-        ("new t 0 4", Some(shape(Kind::Traced, false, 0, 4))),
-        ("new l 0 600", Some(shape(Kind::Leaf, false, 0, 600))),
-        ("new r 2 4", Some(shape(Kind::Counted, false, 2, 4))),
-        ("new tf 1 2", Some(shape(Kind::Traced, true, 1, 2))),
-        ("new lf 0 2", Some(shape(Kind::Leaf, true, 0, 2))),
-        (
-            "new rf 0 1048576",
-            Some(shape(Kind::Counted, true, 0, 1048576)),
-        ),
-        ("push 4294967295", Some(Command::Push(4294967295))),
-        ("dup 3", Some(Command::Dup(3))),
-        ("pop 0", Some(Command::Pop(0))),
-        ("inner 0 31", Some(Command::Inner(0, 31))),
-        ("get 1 2", Some(Command::Get(1, 2))),
-        ("put 1 2 3", Some(Command::Put(1, 2, 3))),
-        ("weak 4", Some(Command::Weak(4))),
-        ("look 5", Some(Command::Look(5))),
-        ("root 4 8", Some(Command::Root(4, 8))),
-        ("fixed 1", Some(Command::Fixed(1))),
-        ("drop 6", Some(Command::DropArea(6))),
-        ("aget 0 7", Some(Command::AreaGet(0, 7))),
-        ("aput 0 7 1", Some(Command::AreaPut(0, 7, 1))),
-        ("reap", Some(Command::Reap)),
-        ("collect", Some(Command::Collect)),
-        ("begin", Some(Command::Begin)),
-        ("step 16", Some(Command::Step(16))),
-        ("finish", Some(Command::Finish)),
-        ("map 9", Some(Command::Map(9))),
-        ("stat", Some(Command::Stat)),
+        ("new t 0 4", shape(Kind::Traced, false, 0, 4)),
+        ("new l 0 600", shape(Kind::Leaf, false, 0, 600)),
+        ("new r 2 4", shape(Kind::Counted, false, 2, 4)),
+        ("new tf 1 2", shape(Kind::Traced, true, 1, 2)),
+        ("new lf 0 2", shape(Kind::Leaf, true, 0, 2)),
+        ("new rf 0 1048576", shape(Kind::Counted, true, 0, 1048576)),
+        ("push 4294967295", Command::Push(4294967295)),
+        ("dup 3", Command::Dup(3)),
+        ("pop 0", Command::Pop(0)),
+        ("inner 0 31", Command::Inner(0, 31)),
+        ("get 1 2", Command::Get(1, 2)),
+        ("put 1 2 3", Command::Put(1, 2, 3)),
+        ("weak 4", Command::Weak(4)),
+        ("look 5", Command::Look(5)),
+        ("root 4 8", Command::Root(4, 8)),
+        ("fixed 1", Command::Fixed(1)),
+        ("drop 6", Command::DropArea(6)),
+        ("aget 0 7", Command::AreaGet(0, 7)),
+        ("aput 0 7 1", Command::AreaPut(0, 7, 1)),
+        ("reap", Command::Reap),
+        ("collect", Command::Collect),
+        ("begin", Command::Begin),
+        ("step 16", Command::Step(16)),
+        ("finish", Command::Finish),
+        ("map 9", Command::Map(9)),
+        ("stat", Command::Stat),
+    ] {
+        assert_eq!(rt; parse_line(line.as_bytes()), Ok(Some(want)), "at {line}");
+        assert_eq!(rt; parse_plain_line(line.as_bytes()), Some(want), "at {line}");
+    }
+}
+
+#[test]
+fn a_line_that_is_not_plain_is_read_by_its_words(rt: HostRuntime) {
+    for (line, want) in [
         ("  get   0000000001  02 ", Some(Command::Get(1, 2))),
         ("", None),
         ("   ", None),
@@ -53,6 +59,7 @@ fn each_command_is_read(rt: HostRuntime) {
         ("#new t 0 4", None),
     ] {
         assert_eq!(rt; parse_line(line.as_bytes()), Ok(want), "at {line}");
+        assert_eq!(rt; parse_plain_line(line.as_bytes()), None, "at {line}");
     }
 }
 
@@ -98,6 +105,7 @@ fn each_fault_comes_at_its_place(rt: HostRuntime) {
         ("put 1 1 x", LineFault::BadNumber),
     ] {
         assert_eq!(rt; parse_line(line.as_bytes()), Err(want), "at {line}");
+        assert_eq!(rt; parse_plain_line(line.as_bytes()), None, "at {line}");
     }
     assert_eq!(rt; parse_line(b"\xff\xfe 1"), Err(LineFault::UnknownCommand));
     assert_eq!(rt; parse_line(b"new \xff 1 2"), Err(LineFault::BadWord));

@@ -1,4 +1,5 @@
 // A trace that is being carried out.
+// What most lines need is inlined into the loop of `take_piece`; the arms of the commands and what is rare are not.
 ghost use Rattle.std.specs.Prelude.{◌≡◌, ℕ, ◌+◌, ◌-◌, ◌<◌, ◌≤◌, ◌++◌, ◌∷◌, [], ◌^◌, false, true, Some, None, Ok, Err};
 ghost use Rattle.std.specs.Prelude.{Option, List, length, IfErr, IfOk, IfSome, OnOk, IsTrue, cond};
 ghost use Rattle.mm_gc.specs.Gc.{view_of_gc};
@@ -17,7 +18,7 @@ use mm_gc::Gc;
 use mm_io::{Sink, Source};
 use mm_model::{Command, Line, LineFault};
 use mm_steps::Steps;
-use mm_trace::{Cutter, line_end, parse_line};
+use mm_trace::{Cutter, line_end, parse_line, parse_plain_line};
 use std::marker::Brand;
 use std::sync::ledger::{Blank, Ledger};
 
@@ -66,6 +67,8 @@ fn execute<K: Sink, L: Ledger>(
 }
 
 /// Carries out what a line says.
+#[cold]
+#[inline(never)]
 fn take_line<K: Sink>(
     heap: &mut Gc,
     log: &mut LogWriter<'_, K>,
@@ -81,6 +84,30 @@ fn take_line<K: Sink>(
 {
     match parse_line(line)? {
         None => Ok(()),
+        Some(command) => {
+            execute::<K, Brand>(heap, log, &command, Blank::new(1));
+            Ok(())
+        }
+    }
+}
+
+/// The same for a line that lies whole in a piece, as most do.
+#[inline(always)]
+fn take_whole_line<K: Sink>(
+    heap: &mut Gc,
+    log: &mut LogWriter<'_, K>,
+    line: &[u8],
+) -> Result<(), LineFault>
+    requires commands { (view_of_gc heap.old).totals.commands < 2 ^ 32 - 1 }
+    requires births { (view_of_gc heap.old).totals.born < 2 ^ 32 - 1 }
+    ensures done { DoesLine (line_reading line.now) result
+        ((heap.new ≡ heap.old) × (log.new ≡ log.old))
+        (λ command. CarriesOut heap.old heap.new command
+        (kept_by K.taken log.old) (kept_by K.taken log.new)) }
+    ensures kept { KeepsOn K.faults K.taken log.old log.new }
+{
+    match parse_plain_line(line) {
+        None => take_line(heap, log, line),
         Some(command) => {
             execute::<K, Brand>(heap, log, &command, Blank::new(1));
             Ok(())
@@ -131,7 +158,7 @@ impl Replay {
     {
         self.lines += 1;
         if self.cutter.is_empty() {
-            return take_line(heap, log, line);
+            return take_whole_line(heap, log, line);
         }
         self.take_joined(heap, log, line)
     }
@@ -155,6 +182,7 @@ impl Replay {
     }
 
     /// Takes the next piece of the trace, up to the first line with a fault.
+    #[inline(never)]
     fn take_piece<K: Sink>(
         &mut self,
         heap: &mut Gc,

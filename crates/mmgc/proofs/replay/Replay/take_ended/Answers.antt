@@ -7,11 +7,11 @@ use Rattle.mmgc.proofs.replay.Replay.take_ended.Goals as goal
 pub overflow_add-self : goal.overflow_add-self
 overflow_add-self g c = let room = has_room c.requires.room in omega (arith, room.lines)
 
-pub take_line-requires-clause-commands : goal.take_line-requires-clause-commands
-take_line-requires-clause-commands g c = let room = has_room c.requires.room in omega (arith, room.commands)
+pub take_whole_line-requires-clause-commands : goal.take_whole_line-requires-clause-commands
+take_whole_line-requires-clause-commands g c = let room = has_room c.requires.room in omega (arith, room.commands)
 
-pub take_line-requires-clause-births : goal.take_line-requires-clause-births
-take_line-requires-clause-births g c = let room = has_room c.requires.room in omega (arith, room.births)
+pub take_whole_line-requires-clause-births : goal.take_whole_line-requires-clause-births
+take_whole_line-requires-clause-births g c = let room = has_room c.requires.room in omega (arith, room.births)
 
 pub take_joined-requires-clause-commands : goal.take_joined-requires-clause-commands
 take_joined-requires-clause-commands g c = let room = has_room c.requires.room in omega (arith, room.commands)
@@ -25,9 +25,9 @@ returns-then-is_empty-clause-progress g c start bytes room p =
     let none = nil_from_length c.args.self.now.cutter (eqb-true _ _ (sym c.is_empty.ensures ∙ c.if-is_empty.true)) in
     let whole : c.args.line.now ≡ c.args.self.now.cutter ++ c.args.line.now =
     ap (λ held. held ++ c.args.line.now) (sym none) in
-    goes-on-line (λ same. (same.0, ap (kept_by g.K.Sink.taken) same.1)) p c.take_line.result
+    goes-on-line (λ same. (same.0, ap (kept_by g.K.Sink.taken) same.1)) p c.take_whole_line.result
     c.args.line.now c.args.self.now.cutter (c.args.self.now.lines + 1) c.requires.within
-    (on_ok_always c.take_line.result none) refl (rw whole at c.take_line.ensures.done)
+    (on_ok_always c.take_whole_line.result none) refl (rw whole at c.take_whole_line.ensures.done)
 
 pub returns-clause-progress : goal.returns-clause-progress
 returns-clause-progress g c start bytes room p =
