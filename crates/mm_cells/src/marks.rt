@@ -1,5 +1,5 @@
 // The marks of cells in a table of words: four bits for each cell, and those of eight cells in each word.
-ghost use Rattle.std.specs.Prelude.{◌≡◌, ◌≢◌, ℕ, ◌+◌, ◌*◌, ◌/◌, ◌%◌, ◌<◌, ◌≤◌, ◌⊎◌, length, MatchOption};
+ghost use Rattle.std.specs.Prelude.{◌≡◌, ◌≢◌, ℕ, ◌+◌, ◌*◌, ◌/◌, ◌%◌, ◌<◌, ◌≤◌, ◌⊎◌, ◌↔◌, length, MatchOption, true};
 ghost use Rattle.mm_cells.specs.Marks.{code_in, code_of, colour_code, no_flags, IsMark, mark_of, mark_in};
 ghost use Rattle.mm_cells.specs.Marks.{colour_of, flags_of, whitened_mark};
 ghost use Rattle.mm_cells.specs.Marks.{code_of_cell, mark_of_cell, page_marks};
@@ -235,6 +235,17 @@ fn lowest_sought_place(word: u32, from: u32, sought: Sought) -> Option<u32>
     }
 }
 
+/// Whether one of so many first cells of a word is taken.
+fn has_taken(word: u32, cells: u32) -> bool
+    ensures { (result ≡ true)
+        ↔ ((place : ℕ) × (place < 8) × (place < cells) × (mark_in word place ≢ Mark.Free)) }
+{
+    match lowest_sought_place(word, 0, Sought::Taken) {
+        Some(place) => place < cells,
+        None => false,
+    }
+}
+
 /// A word whose taken cells are white, with the flags that they had.
 fn whitened_word(word: u32) -> u32
     ensures { (place : ℕ) → place < 8 → mark_in result place ≡ whitened_mark (mark_in word place) }
@@ -270,6 +281,20 @@ pub(crate) fn set_mark(table: &mut [u32], cell: u32, mark: Mark)
 {
     let word = &mut table[(cell / 8) as usize];
     *word = with_mark(*word, cell % 8, mark);
+}
+
+/// Makes a cell free. It answers whether one of so many first cells whose marks stand in the same word is taken.
+pub(crate) fn free_cell(table: &mut [u32], cell: u32, cells: u32) -> bool
+    requires { cell / 8 < length table.old }
+    ensures given { mark_of_cell table.new cell ≡ Mark.Free }
+    ensures others { (c : ℕ) → c ≢ cell → mark_of_cell table.new c ≡ mark_of_cell table.old c }
+    ensures taken { (result ≡ true) ↔ ((other : ℕ) × (other / 8 ≡ cell / 8) × (other % 8 < cells)
+        × (mark_of_cell table.new other ≢ Mark.Free)) }
+{
+    let word = &mut table[(cell / 8) as usize];
+    let freed = with_mark(*word, cell % 8, Mark::Free);
+    *word = freed;
+    has_taken(freed, cells)
 }
 
 /// Gives a taken cell another colour.

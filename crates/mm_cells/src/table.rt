@@ -1,5 +1,5 @@
 // The words of the cells' table, and what stands where in them.
-ghost use Rattle.std.specs.Prelude.{◌≡◌, ◌≢◌, ℕ, ◌+◌, ◌*◌, ◌<◌, ◌≤◌, length, MatchOption};
+ghost use Rattle.std.specs.Prelude.{◌≡◌, ◌≢◌, ℕ, ◌+◌, ◌*◌, ◌/◌, ◌<◌, ◌≤◌, ◌↔◌, length, MatchOption, true};
 ghost use Rattle.mm_sets.specs.Set.{set_size, members, IsSet, Admits};
 ghost use Rattle.mm_cells.specs.Marks.{IsMark, NoneFree, IsLowestFree, NoneSought, IsLowestSought};
 ghost use Rattle.mm_cells.specs.Uses.{use_in_whole, IsUse, StandsAlone};
@@ -210,6 +210,24 @@ impl Table {
             256 * page + cell,
             mark,
         );
+    }
+
+    /// Makes one of the cells of a page free, of which there are so many. It answers whether another one of them, whose
+    /// mark stands in the same word, is taken.
+    pub fn free_cell(&mut self, page: u32, cell: u32, cells: u32) -> bool
+        requires page { page < self.old.pages }
+        requires cell { cell < cells }
+        requires cells { cells ≤ 256 }
+        ensures free { SetsMark self.old self.new page cell Mark.Free }
+        ensures taken { (result ≡ true) ↔ ((other : ℕ) × (other / 8 ≡ cell / 8) × (other < cells)
+            × (mark_at self.new page other ≢ Mark.Free)) }
+    {
+        let part = marks_part(self.pages);
+        marks::free_cell(
+            self.words.part_mut(part.start, part.len),
+            256 * page + cell,
+            cells - cell / 8 * 8,
+        )
     }
 
     /// Makes all 256 cells of a page free.

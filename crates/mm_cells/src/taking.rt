@@ -3,7 +3,7 @@ ghost use Rattle.std.specs.Prelude.{◌≡◌, ◌≢◌, ◌+◌, ◌*◌, ◌/
 ghost use Rattle.std.specs.Prelude.{false};
 ghost use Rattle.mm_cells.specs.declared.page_use.PageUse.TheVariants as uses;
 ghost use Rattle.mm_cells.specs.Cells.{Taken, with_cell, with_run, newly_taken, Begins, IsTaken};
-ghost use Rattle.mm_cells.specs.Kept.{class_size, cells_of, KeepsCells, HasFree};
+ghost use Rattle.mm_cells.specs.Kept.{class_size, cells_of, KeepsCells, HasFree, HasTaken};
 ghost use Rattle.mm_cells.specs.Map.{use_at, mark_at, room_at, SetsRoom, IsLowestRoom};
 ghost use Rattle.mm_cells.specs.Marks.{NoneFree};
 ghost use Rattle.mm_model.specs.Lowest.{IsLowest};
@@ -11,7 +11,7 @@ ghost use Rattle.mm_cells.specs.Placing.{IsFreeCell};
 ghost use Rattle.mm_cells.specs.Spans.{AreUnused};
 
 use crate::class::{PAGE_BYTES, cells_per_page, extent_of, number_at};
-use crate::marks::{Mark, Sought, new_mark};
+use crate::marks::{Sought, new_mark};
 use crate::page_use::PageUse;
 use crate::table::Table;
 use mm_model::{Colour, Size};
@@ -99,6 +99,22 @@ pub(crate) fn take_pages(table: &mut Table, first: u32, count: u32, colour: Colo
     table.set_mark(first, 0, new_mark(colour));
 }
 
+/// Whether a page of a class has a taken cell. It may be known that it has one.
+fn has_taken(table: &Table, page: u32, class: u32, known: bool) -> bool
+    requires class { class < 19 }
+    requires within { page < table.now.pages }
+    requires known { known ≡ true → HasTaken table.now page class }
+    ensures { (result ≡ true) ↔ HasTaken table.now page class }
+{
+    if known {
+        return true;
+    }
+    match table.lowest_sought(page, 0, cells_per_page(class), Sought::Taken) {
+        Some(_) => true,
+        None => false,
+    }
+}
+
 /// Gives a cell of a page back, which begins so many bytes into it, and answers whether that was the page's last one.
 pub(crate) fn release_cell(table: &mut Table, page: u32, class: u32, offset: u32) -> bool
     requires kept { KeepsCells table.old }
@@ -114,17 +130,14 @@ pub(crate) fn release_cell(table: &mut Table, page: u32, class: u32, offset: u32
     ensures none { result ≡ true → (base : ℕ) (cell : Taken) → Begins (cells_of table.new) base cell
         → base / 4096 ≢ page }
 {
-    table.set_mark(page, number_at(class, offset), Mark::Free);
-    match table.lowest_sought(page, 0, cells_per_page(class), Sought::Taken) {
-        Some(_) => {
-            table.set_room(class, page, true);
-            false
-        }
-        None => {
-            table.set_use(page, PageUse::Unused);
-            table.set_room(class, page, false);
-            true
-        }
+    let known = table.free_cell(page, number_at(class, offset), cells_per_page(class));
+    if has_taken(table, page, class, known) {
+        table.set_room(class, page, true);
+        false
+    } else {
+        table.set_use(page, PageUse::Unused);
+        table.set_room(class, page, false);
+        true
     }
 }
 

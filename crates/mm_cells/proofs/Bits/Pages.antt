@@ -12,6 +12,13 @@ page_marks-word table first word place within =
     let column : (8 * first + (8 * word + place)) % 8 ≡ place = omega arith in
     rw (row, column) refl
 
+-- the mark of a cell of a word that is replaced
+pub mark_of_cell-word : (table : List ℕ) (cell other word : ℕ) → cell / 8 < length table → other / 8 ≡ cell / 8 →
+    mark_of_cell (slice_set table (cell / 8) word) other ≡ mark_in word (other % 8)
+mark_of_cell-word table cell other word within here =
+    ap (λ k. mark_in (get_or (slice_set table (cell / 8) word) k 0) (other % 8)) here
+    ∙ ap (λ w. mark_in w (other % 8)) (get_or-set_same table (cell / 8) word 0 within)
+
 -- another cell than one of a word that is replaced lies in another word, or at another place of the same one
 pub mark_of_cell-others : (table : List ℕ) (cell word : ℕ) → cell / 8 < length table →
     ((p : ℕ) → p < 8 → p ≢ cell % 8 → mark_in word p ≡ mark_in (get_or table (cell / 8) 0) p) →
@@ -19,8 +26,7 @@ pub mark_of_cell-others : (table : List ℕ) (cell word : ℕ) → cell / 8 < le
 mark_of_cell-others table cell word within others other apart = elim (cases_eq (other / 8) (cell / 8)) [
   | inl here ↦
       let there : other % 8 ≢ cell % 8 = λ e. apart (omega arith) in
-      ap (λ k. mark_in (get_or (slice_set table (cell / 8) word) k 0) (other % 8)) here
-      ∙ ap (λ w. mark_in w (other % 8)) (get_or-set_same table (cell / 8) word 0 within)
+      mark_of_cell-word table cell other word within here
       ∙ others (other % 8) (omega arith) there
       ∙ ap (λ k. mark_in (get_or table k 0) (other % 8)) (sym here)
   | inr there ↦ ap (λ w. mark_in w (other % 8)) (get_or-set_other table (cell / 8) (other / 8) word 0 there)

@@ -6,11 +6,9 @@ use Rattle.std.proofs.lemmas.Bool.{cases_lt, cases_eq}
 use Rattle.mm_cells.specs.declared.page_use.PageUse.TheVariants.{Unused, Class, First, Later}
 use Rattle.mm_cells.specs.declared.marks.Mark.TheVariants as marks
 use Rattle.mm_cells.specs.declared.marks.Mark.{Mark}
-use Rattle.mm_cells.specs.declared.marks.Sought.TheVariants as sought
-use Rattle.mm_cells.specs.Marks.{NoneSought, IsLowestSought}
 use Rattle.mm_cells.specs.Map.{Map, use_at, mark_at, room_at, SetsUse, SetsMark, SetsRoom}
 use Rattle.mm_cells.specs.Cells.{Taken, IsTaken, with_cell, with_run}
-use Rattle.mm_cells.specs.Kept.{class_size, cells_in, cells_of, KeepsCells}
+use Rattle.mm_cells.specs.Kept.{class_size, cells_in, cells_of, KeepsCells, HasTaken}
 use Rattle.mm_cells.specs.Spans.{SetsUses, AreUnused, AreWhole}
 use Rattle.mm_cells.proofs.Sizes.ClassSizes.{class_size-least, cells_in-most}
 use Rattle.mm_cells.proofs.Sizes.Grains.{div-whole}
@@ -82,14 +80,14 @@ IsTaken-number m page class offset kept used inside taken =
     (Begins-cell m (4096 * page + offset) taken.0 taken.1)
 
 -- the page has another taken cell
-pub KeepsCells-stays : (a b c : Map) (page class number lowest : ℕ) → KeepsCells a → use_at a page ≡ Class class →
-    number < cells_in class → SetsMark a b page number marks.Free →
-    IsLowestSought sought.Taken (mark_at b page) 0 (cells_in class) lowest → SetsRoom b c class page true → KeepsCells c
-KeepsCells-stays a b c page class number lowest kept used fits marked taken room =
+pub KeepsCells-stays : (a b c : Map) (page class number : ℕ) → KeepsCells a → use_at a page ≡ Class class →
+    number < cells_in class → SetsMark a b page number marks.Free → HasTaken b page class →
+    SetsRoom b c class page true → KeepsCells c
+KeepsCells-stays a b c page class number kept used fits marked taken room =
     let known : class < 19 = (kept.classes page class used).0 in
     let place = class-within a page class kept used in
     KeepsCells-cell a b c page class number marks.Free true kept known used place.1 place.0 marked
-    (record { cell = lowest; within = taken.within; taken = taken.is }) room (
+    taken room (
       (λ has. record { cell = number; within = fits; free = marked.here }),
       (λ has. refl),
     )
@@ -131,7 +129,7 @@ mark-free (marks.Taken colour flags) none = absurd (none (λ e. absurd (cc)))
 
 pub cells_of-goes : (a b c d : Map) (page class number base : ℕ) → KeepsCells a → use_at a page ≡ Class class →
     number < cells_in class → base ≡ 4096 * page + number * class_size class →
-    SetsMark a b page number marks.Free → NoneSought sought.Taken (mark_at b page) 0 (cells_in class) →
+    SetsMark a b page number marks.Free → (HasTaken b page class → ⊥) →
     SetsUse b c page Unused → SetsRoom c d class page false
     → cells_of d ≡ with_run (with_cell (cells_of a) base None) page 0
 cells_of-goes a b c d page class number base kept used fits begins marked none unused room =
@@ -142,7 +140,7 @@ cells_of-goes a b c d page class number base kept used fits begins marked none u
     (AgreesOff-goes a b c d page class number marked unused room) place.1 known fits begins used
     (use_at-goes b c d page class unused room)
     (λ cell low apart. sym (marked.other_cells cell (omega arith) apart)
-    ∙ mark-free (mark_at b page cell) (none cell (omega arith) low))
+    ∙ mark-free (mark_at b page cell) (λ taken. none (record { cell = cell; within = low; taken = taken })))
 
 -- the pages of one cell are cleared with it
 pub whole-clears : (a b : Map) (first count : ℕ) → KeepsCells a → use_at a first ≡ First count →

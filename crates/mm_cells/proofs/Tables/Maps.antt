@@ -130,6 +130,14 @@ page_marks-map m page =
     let start : 8 * (32 * page) ≡ 256 * page = omega arith in
     ap (λ first cell. mark_of_cell m.marks (first + cell)) start
 
+-- a mark after others were written
+pub mark_at-with_marks : (p : Piece) (pages page cell : ℕ) (table ws : List ℕ) → FitsTable p pages →
+    IsMarks p pages table → length ws ≡ length table →
+    mark_at (map_of (with_marks p pages ws) pages) page cell ≡ mark_of_cell ws (256 * page + cell)
+mark_at-with_marks p pages page cell table ws room lent size =
+    ap (λ (m : Map). mark_of_cell m.marks (256 * page + cell))
+    (map_of-with_marks p pages ws room (size ∙ lent.sized))
+
 pub SetsMark-with_marks : (p : Piece) (pages page cell : ℕ) (mark : Mark) (table ws : List ℕ) → FitsTable p pages →
     IsMarks p pages table → length ws ≡ length table → cell < 256 → mark_of_cell ws (256 * page + cell) ≡ mark →
     ((c : ℕ) → c ≢ 256 * page + cell → mark_of_cell ws c ≡ mark_of_cell table c) →

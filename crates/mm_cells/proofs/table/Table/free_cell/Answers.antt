@@ -1,0 +1,43 @@
+-- The part that was written has the marks alone.
+use Rattle.std.proofs.Common.{◌≡◌, ◌+◌, ◌-◌, ◌*◌, ℕ, ap, sym, ◌∙◌, arith}
+use Rattle.mm_cells.specs.declared.marks.Mark.TheVariants.{Free}
+use Rattle.mm_cells.specs.Marks.{mark_of_cell}
+use Rattle.mm_cells.proofs.Tables.Maps.{marks_lent, mark_at-with_marks, SetsMark-with_marks}
+use Rattle.mm_cells.proofs.table.Table.free_cell.Goals as goal
+
+pub returns-clause-free : goal.returns-clause-free
+returns-clause-free c =
+    let lent = marks_lent c.self.inside.words c.self.inside.pages c.part_mut.result.now c.self.invariant
+    c.marks_part-part.ensures.start c.marks_part-part.ensures.len c.part_mut.ensures.value in
+    rw (c.marks_part-part.ensures.start, ← c.self.view_is) (SetsMark-with_marks c.self.inside.words c.self.inside.pages
+    c.args.page c.args.cell Free c.part_mut.result.now c.free_cell.new.table c.self.invariant lent
+    c.free_cell.auto.table (omega (arith, c.requires.cell, c.requires.cells)) c.free_cell.ensures.given
+    c.free_cell.ensures.others)
+
+pub returns-clause-taken : goal.returns-clause-taken
+returns-clause-taken c =
+    let page : ℕ = c.args.page in
+    let lent = marks_lent c.self.inside.words c.self.inside.pages c.part_mut.result.now c.self.invariant
+    c.marks_part-part.ensures.start c.marks_part-part.ensures.len c.part_mut.ensures.value in
+    rw c.marks_part-part.ensures.start (
+      (λ is.
+          let has = c.free_cell.ensures.taken.0 is in
+          let other : ℕ = has.0 - 256 * page in
+          let at : has.0 ≡ 256 * page + other = omega (arith, has.1) in
+          let same = mark_at-with_marks c.self.inside.words c.self.inside.pages page other c.part_mut.result.now
+          c.free_cell.new.table c.self.invariant lent c.free_cell.auto.table in (
+            other,
+            omega (arith, has.1),
+            omega (arith, has.1, has.2, c.requires.cell),
+            λ free. has.3 (ap (mark_of_cell c.free_cell.new.table) at ∙ sym same ∙ free),
+          )),
+      (λ has.
+          let same = mark_at-with_marks c.self.inside.words c.self.inside.pages page has.0 c.part_mut.result.now
+          c.free_cell.new.table c.self.invariant lent c.free_cell.auto.table in
+          c.free_cell.ensures.taken.1 (
+            256 * page + has.0,
+            omega (arith, has.1),
+            omega (arith, has.1, has.2),
+            λ free. has.3 (same ∙ free),
+          )),
+    )
