@@ -66,6 +66,15 @@ pub(crate) enum Sought {
     Of(Colour),
 }
 
+/// What is told of some cells whose marks stand in one word, as one of them becomes free.
+#[derive(Clone, Copy)]
+pub(crate) struct Neighbours {
+    /// One of them was free before.
+    pub(crate) had_free: bool,
+    /// One of them is taken still.
+    pub(crate) has_taken: bool,
+}
+
 const WHITE: u32 = 0;
 
 const BLACK: u32 = 1;
@@ -235,6 +244,17 @@ fn lowest_sought_place(word: u32, from: u32, sought: Sought) -> Option<u32>
     }
 }
 
+/// Whether one of so many first cells of a word is free.
+fn has_free(word: u32, cells: u32) -> bool
+    ensures { (result ≡ true)
+        ↔ ((place : ℕ) × (place < 8) × (place < cells) × (mark_in word place ≡ Mark.Free)) }
+{
+    match lowest_free_place(word) {
+        Some(place) => place < cells,
+        None => false,
+    }
+}
+
 /// Whether one of so many first cells of a word is taken.
 fn has_taken(word: u32, cells: u32) -> bool
     ensures { (result ≡ true)
@@ -283,18 +303,25 @@ pub(crate) fn set_mark(table: &mut [u32], cell: u32, mark: Mark)
     *word = with_mark(*word, cell % 8, mark);
 }
 
-/// Makes a cell free. It answers whether one of so many first cells whose marks stand in the same word is taken.
-pub(crate) fn free_cell(table: &mut [u32], cell: u32, cells: u32) -> bool
+/// Makes a cell free, and tells of so many first cells whose marks stand in the same word.
+pub(crate) fn free_cell(table: &mut [u32], cell: u32, cells: u32) -> Neighbours
     requires { cell / 8 < length table.old }
     ensures given { mark_of_cell table.new cell ≡ Mark.Free }
     ensures others { (c : ℕ) → c ≢ cell → mark_of_cell table.new c ≡ mark_of_cell table.old c }
-    ensures taken { (result ≡ true) ↔ ((other : ℕ) × (other / 8 ≡ cell / 8) × (other % 8 < cells)
+    ensures had_free { (result.had_free ≡ true) ↔ ((other : ℕ) × (other / 8 ≡ cell / 8) × (other % 8 < cells)
+        × (mark_of_cell table.old other ≡ Mark.Free)) }
+    ensures has_taken { (result.has_taken ≡ true) ↔ ((other : ℕ) × (other / 8 ≡ cell / 8) × (other % 8 < cells)
         × (mark_of_cell table.new other ≢ Mark.Free)) }
 {
     let word = &mut table[(cell / 8) as usize];
+    let had_free = has_free(*word, cells);
     let freed = with_mark(*word, cell % 8, Mark::Free);
     *word = freed;
-    has_taken(freed, cells)
+    let has_taken = has_taken(freed, cells);
+    Neighbours {
+        had_free,
+        has_taken,
+    }
 }
 
 /// Gives a taken cell another colour.

@@ -7,7 +7,7 @@ ghost use Rattle.mm_cells.specs.Spans.{SetsUses, AreUnused, AreWhole};
 ghost use Rattle.mm_cells.specs.Map.{use_at, mark_at, room_at, SetsUse, SetsMark, FreesPage, WhitensPage, SetsRoom};
 ghost use Rattle.mm_cells.specs.Map.{NoPageWithRoom, IsLowestRoom};
 
-use crate::marks::{CellBits, Mark, ObjectMark, Sought};
+use crate::marks::{CellBits, Mark, Neighbours, ObjectMark, Sought};
 use crate::page_use::PageUse;
 use crate::{marks, page_use};
 use mm_model::Colour;
@@ -212,14 +212,16 @@ impl Table {
         );
     }
 
-    /// Makes one of the cells of a page free, of which there are so many. It answers whether another one of them, whose
-    /// mark stands in the same word, is taken.
-    pub fn free_cell(&mut self, page: u32, cell: u32, cells: u32) -> bool
+    /// Makes one of the cells of a page free, of which there are so many, and tells of those whose marks stand in the
+    /// same word.
+    pub fn free_cell(&mut self, page: u32, cell: u32, cells: u32) -> Neighbours
         requires page { page < self.old.pages }
         requires cell { cell < cells }
         requires cells { cells ≤ 256 }
         ensures free { SetsMark self.old self.new page cell Mark.Free }
-        ensures taken { (result ≡ true) ↔ ((other : ℕ) × (other / 8 ≡ cell / 8) × (other < cells)
+        ensures had_free { (result.had_free ≡ true) ↔ ((other : ℕ) × (other / 8 ≡ cell / 8) × (other < cells)
+            × (mark_at self.old page other ≡ Mark.Free)) }
+        ensures has_taken { (result.has_taken ≡ true) ↔ ((other : ℕ) × (other / 8 ≡ cell / 8) × (other < cells)
             × (mark_at self.new page other ≢ Mark.Free)) }
     {
         let part = marks_part(self.pages);

@@ -99,6 +99,18 @@ pub(crate) fn take_pages(table: &mut Table, first: u32, count: u32, colour: Colo
     table.set_mark(first, 0, new_mark(colour));
 }
 
+/// Notes that a page of a class has room, unless it is known that it had room before.
+fn note_room(table: &mut Table, page: u32, class: u32, known: bool)
+    requires class { class < 19 }
+    requires within { page < table.old.pages }
+    requires known { known ≡ true → room_at table.old class page ≡ true }
+    ensures { SetsRoom table.old table.new class page true }
+{
+    if !known {
+        table.set_room(class, page, true);
+    }
+}
+
 /// Whether a page of a class has a taken cell. It may be known that it has one.
 fn has_taken(table: &Table, page: u32, class: u32, known: bool) -> bool
     requires class { class < 19 }
@@ -130,9 +142,9 @@ pub(crate) fn release_cell(table: &mut Table, page: u32, class: u32, offset: u32
     ensures none { result ≡ true → (base : ℕ) (cell : Taken) → Begins (cells_of table.new) base cell
         → base / 4096 ≢ page }
 {
-    let known = table.free_cell(page, number_at(class, offset), cells_per_page(class));
-    if has_taken(table, page, class, known) {
-        table.set_room(class, page, true);
+    let beside = table.free_cell(page, number_at(class, offset), cells_per_page(class));
+    if has_taken(table, page, class, beside.has_taken) {
+        note_room(table, page, class, beside.had_free);
         false
     } else {
         table.set_use(page, PageUse::Unused);

@@ -12,11 +12,16 @@ page_marks-word table first word place within =
     let column : (8 * first + (8 * word + place)) % 8 ≡ place = omega arith in
     rw (row, column) refl
 
+-- the mark of a cell in the same word
+pub mark_of_cell-beside : (table : List ℕ) (cell other : ℕ) → other / 8 ≡ cell / 8 →
+    mark_of_cell table other ≡ mark_in (get_or table (cell / 8) 0) (other % 8)
+mark_of_cell-beside table cell other here = ap (λ k. mark_in (get_or table k 0) (other % 8)) here
+
 -- the mark of a cell of a word that is replaced
 pub mark_of_cell-word : (table : List ℕ) (cell other word : ℕ) → cell / 8 < length table → other / 8 ≡ cell / 8 →
     mark_of_cell (slice_set table (cell / 8) word) other ≡ mark_in word (other % 8)
 mark_of_cell-word table cell other word within here =
-    ap (λ k. mark_in (get_or (slice_set table (cell / 8) word) k 0) (other % 8)) here
+    mark_of_cell-beside (slice_set table (cell / 8) word) cell other here
     ∙ ap (λ w. mark_in w (other % 8)) (get_or-set_same table (cell / 8) word 0 within)
 
 -- another cell than one of a word that is replaced lies in another word, or at another place of the same one
