@@ -86,6 +86,9 @@ const FREE: u32 = 3;
 /// The lowest bit of each of a word's eight marks.
 const LOWEST_BITS: u32 = 0x1111_1111;
 
+/// The lowest bit of each of the sixteen marks of two words.
+const LOWEST_BITS_OF_PAIR: u64 = 0x1111_1111_1111_1111;
+
 /// The two bits of each mark that stand for flags.
 const FLAG_BITS: u32 = 0xCCCC_CCCC;
 
@@ -217,6 +220,27 @@ fn lowest_free_place(word: u32) -> Option<u32>
     }
 }
 
+/// The sixteen marks of two words.
+#[inline]
+fn pair_of(low: u32, high: u32) -> u64
+    ensures low { (p : ℕ) → p < 8 → mark_in result p ≡ mark_in low p }
+    ensures high { (p : ℕ) → p < 8 → mark_in result (8 + p) ≡ mark_in high p }
+{
+    low as u64 | (high as u64) << 32
+}
+
+/// The lowest place of two words whose mark says that a cell is free.
+fn lowest_free_of_pair(pair: u64) -> Option<u32>
+    ensures { MatchOption result (NoneFree (mark_in pair) 16) (λ p. IsLowestFree (mark_in pair) 16 p) }
+{
+    let free = pair & (pair >> 1) & LOWEST_BITS_OF_PAIR;
+    if free == 0 {
+        None
+    } else {
+        Some(free.trailing_zeros() / 4)
+    }
+}
+
 /// The lowest bits of those marks of a word that are sought.
 fn sought_mask(word: u32, sought: Sought) -> u32
     ensures { IsMaskOf sought word result }
@@ -306,6 +330,7 @@ pub(crate) fn set_mark(table: &mut [u32], cell: u32, mark: Mark)
 /// Makes a cell free, and tells of so many first cells whose marks stand in the same word.
 pub(crate) fn free_cell(table: &mut [u32], cell: u32, cells: u32) -> Neighbours
     requires { cell / 8 < length table.old }
+    ensures code { code_of_cell table.new cell ≡ code_of Mark.Free }
     ensures given { mark_of_cell table.new cell ≡ Mark.Free }
     ensures others { (c : ℕ) → c ≢ cell → mark_of_cell table.new c ≡ mark_of_cell table.old c }
     ensures had_free { (result.had_free ≡ true) ↔ ((other : ℕ) × (other / 8 ≡ cell / 8) × (other % 8 < cells)
@@ -350,14 +375,16 @@ pub(crate) fn make_gray(table: &mut [u32], cell: u32)
 /// The lowest free one of the first cells of a page, whose marks begin at that word. Those below `from` are taken.
 pub(crate) fn lowest_free(table: &[u32], first_word: u32, from: u32, cells: u32) -> Option<u32>
     requires cells { cells ≤ 256 }
-    requires within { 8 * first_word + cells ≤ 8 * length table.now }
+    requires within { first_word + 32 ≤ length table.now }
     requires passed { NoneFree (page_marks table.now first_word) from }
     ensures { let marks = page_marks table.now first_word in
         MatchOption result (NoneFree marks cells) (λ c. IsLowestFree marks cells c) }
 {
-    for word in from / 8..cells.div_ceil(8) {
-        if let Some(place) = lowest_free_place(table[first_word as usize + word as usize]) {
-            let cell = 8 * word + place;
+    // Two words a turn are read by one instruction.
+    for pair in from / 16..cells.div_ceil(16) {
+        let word = first_word as usize + 2 * pair as usize;
+        if let Some(place) = lowest_free_of_pair(pair_of(table[word], table[word + 1])) {
+            let cell = 16 * pair + place;
             return if cell < cells { Some(cell) } else { None };
         }
     }

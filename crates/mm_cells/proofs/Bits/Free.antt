@@ -6,9 +6,9 @@ use Rattle.std.proofs.lemmas.Bool.{agree_below_at, cases_eq, eqb-true}
 use Rattle.std.proofs.lemmas.Bool.Decides.{nat_tests}
 use Rattle.std.proofs.lemmas.Nat.{and_le_r}
 use Rattle.std.proofs.lemmas.Nat.Bits.{bit_at_and, bit_at-zero, bit_at-lt, bit_at-trailing_zeros}
-use Rattle.std.specs.Int.{bit_at, trailing_zeros, w32}
+use Rattle.std.specs.Int.{bit_at, trailing_zeros, w32, w64}
 use Rattle.mm_cells.specs.declared.marks.Mark.TheVariants.{Free}
-use Rattle.mm_cells.specs.declared.marks.TheConstants.{ALL_FREE, LOWEST_BITS}
+use Rattle.mm_cells.specs.declared.marks.TheConstants.{ALL_FREE, LOWEST_BITS, LOWEST_BITS_OF_PAIR}
 use Rattle.mm_cells.specs.Marks.{mark_of, code_in, mark_in, NoneFree, IsLowestFree}
 use Rattle.mm_cells.proofs.Bits.Codes.{pow-sixteen}
 
@@ -37,66 +37,93 @@ next_bit word place =
     ∙ sym (div-div-eq-div-mul word (16 ^ place) 2) in
     rw (pow-sixteen, halved) (omega arith)
 
--- the bits of a word that stand for its free cells
-free_bits : ℕ → ℕ
-free_bits word = bit_and (bit_and word (word / 2)) LOWEST_BITS
+-- the masks have the lowest bit of each place, and no other
+abbrev pub AreLowest : ℕ → ℕ → Type 0
+AreLowest mask places = (i : ℕ) → i < 4 * places → bit_at mask i ≡ 1 - i % 4
 
-free_bits-at : (word i : ℕ) →
-    bit_at (free_bits word) i ≡ min (min (bit_at word i) (bit_at (word / 2) i)) (bit_at LOWEST_BITS i)
-unfolding free_bits
-free_bits-at word i =
-    bit_at_and (bit_and word (word / 2)) LOWEST_BITS i
-    ∙ ap (λ x. min x (bit_at LOWEST_BITS i)) (bit_at_and word (word / 2) i)
-
--- the mask has the lowest bit of each place, and no other
-pub lowest_bits : (i : ℕ) → i < 32 → bit_at LOWEST_BITS i ≡ 1 - i % 4
+pub lowest_bits : AreLowest LOWEST_BITS 8
 lowest_bits i within =
     eqb-true (bit_at LOWEST_BITS i) (1 - i % 4)
     (agree_below_at (λ p. bit_at LOWEST_BITS p == 1 - p % 4) (λ _. true) 32 i refl within)
 
--- such a bit is set just where the mark says free
-free_bit : (word place : ℕ) → place < 8 → bit_at (free_bits word) (4 * place) ≡ 1 → mark_in word place ≡ Free
-free_bit word place within set =
-    free-low_bits (code_in word place)
-    (omega (arith, free_bits-at word (4 * place), low_bit word place, next_bit word place))
+pub lowest_bits-pair : AreLowest LOWEST_BITS_OF_PAIR 16
+lowest_bits-pair i within =
+    eqb-true (bit_at LOWEST_BITS_OF_PAIR i) (1 - i % 4)
+    (agree_below_at (λ p. bit_at LOWEST_BITS_OF_PAIR p == 1 - p % 4) (λ _. true) 64 i refl within)
 
-bit_free : (word place : ℕ) → place < 8 → mark_in word place ≡ Free → bit_at (free_bits word) (4 * place) ≡ 1
-bit_free word place within free =
-    omega (
-      arith,
-      free_bits-at word (4 * place),
-      low_bit word place,
-      next_bit word place,
-      low_bits-free (code_in word place) free,
-      lowest_bits (4 * place) (omega arith),
-    )
+-- the bits of a word, or of two, that stand for free cells
+module _ (word mask places : ℕ) (are : AreLowest mask places) where
+  free_bits : ℕ
+  free_bits = bit_and (bit_and word (word / 2)) mask
+
+  free_bits-at : (i : ℕ) → bit_at free_bits i ≡ min (min (bit_at word i) (bit_at (word / 2) i)) (bit_at mask i)
+  unfolding free_bits
+  free_bits-at i =
+      bit_at_and (bit_and word (word / 2)) mask i ∙ ap (λ x. min x (bit_at mask i)) (bit_at_and word (word / 2) i)
+
+  -- such a bit is set just where the mark says free
+  free_bit : (place : ℕ) → bit_at free_bits (4 * place) ≡ 1 → mark_in word place ≡ Free
+  free_bit place set =
+      free-low_bits (code_in word place)
+      (omega (arith, free_bits-at (4 * place), low_bit word place, next_bit word place))
+
+  bit_free : (place : ℕ) → place < places → mark_in word place ≡ Free → bit_at free_bits (4 * place) ≡ 1
+  bit_free place within free =
+      omega (
+        arith,
+        free_bits-at (4 * place),
+        low_bit word place,
+        next_bit word place,
+        low_bits-free (code_in word place) free,
+        are (4 * place) (omega arith),
+      )
+
+  pub NoneFree-bits : bit_and (bit_and word (word / 2)) mask ≡ 0 → NoneFree (mark_in word) places
+  unfolding free_bits
+  NoneFree-bits none = λ place within free.
+      let set = bit_free place within free in
+      let unset = bit_at-zero (4 * place) in
+      absurd (omega (arith, rw none at set))
+
+  pub IsLowestFree-bits : (at : ℕ) → at < 4 * places → bit_at (bit_and (bit_and word (word / 2)) mask) at ≡ 1 →
+      ((i : ℕ) → i < at → bit_at (bit_and (bit_and word (word / 2)) mask) i ≡ 0) →
+      IsLowestFree (mark_in word) places (at / 4)
+  unfolding free_bits
+  IsLowestFree-bits at within first before =
+      let lowest : bit_at mask at ≡ 1 = let one = bit_at-lt mask at in omega (arith, first, free_bits-at at) in
+      let whole : at ≡ 4 * (at / 4) = let low = are at within in omega arith in
+      let set : bit_at free_bits (4 * (at / 4)) ≡ 1 = ap (λ i. bit_at free_bits i) (sym whole) ∙ first in
+      record {
+        within = omega arith;
+        free = free_bit (at / 4) set;
+        lowest = λ place below free.
+            let set = bit_free place (omega arith) free in
+            let unset = before (4 * place) (omega arith) in
+            absurd (omega arith);
+      }
 
 pub NoneFree-word : (word : ℕ) → bit_and (bit_and word (word / 2)) LOWEST_BITS ≡ 0 → NoneFree (mark_in word) 8
-unfolding free_bits
-NoneFree-word word none = λ place within free.
-    let set = bit_free word place within free in
-    let unset = bit_at-zero (4 * place) in
-    absurd (omega (arith, rw none at set))
+NoneFree-word word none = NoneFree-bits word LOWEST_BITS 8 lowest_bits none
+
+pub NoneFree-pair : (pair : ℕ) → bit_and (bit_and pair (pair / 2)) LOWEST_BITS_OF_PAIR ≡ 0 →
+    NoneFree (mark_in pair) 16
+NoneFree-pair pair none = NoneFree-bits pair LOWEST_BITS_OF_PAIR 16 lowest_bits-pair none
 
 pub IsLowestFree-word : (word : ℕ) → 0 < bit_and (bit_and word (word / 2)) LOWEST_BITS →
     IsLowestFree (mark_in word) 8 (trailing_zeros w32 (bit_and (bit_and word (word / 2)) LOWEST_BITS) / 4)
-unfolding free_bits
 IsLowestFree-word word some =
-    let fits : free_bits word < 2 ^ 32 = let most = and_le_r (bit_and word (word / 2)) LOWEST_BITS in omega arith in
-    let first = bit_at-trailing_zeros w32 (free_bits word) some fits in
-    let at = trailing_zeros w32 (free_bits word) in
-    let bits = free_bits-at word at in
-    let lowest : bit_at LOWEST_BITS at ≡ 1 = let one = bit_at-lt LOWEST_BITS at in omega (arith, first.1) in
-    let whole : at ≡ 4 * (at / 4) = let low = lowest_bits at first.0 in omega arith in
-    let set : bit_at (free_bits word) (4 * (at / 4)) ≡ 1 = ap (λ i. bit_at (free_bits word) i) (sym whole) ∙ first.1 in
-    record {
-      within = omega (arith, first.0);
-      free = free_bit word (at / 4) (omega (arith, first.0)) set;
-      lowest = λ place below free.
-          let set = bit_free word place (omega (arith, first.0)) free in
-          let unset = first.2 (4 * place) (omega arith) in
-          absurd (omega arith);
-    }
+    let bits = bit_and (bit_and word (word / 2)) LOWEST_BITS in
+    let fits : bits < 2 ^ 32 = let most = and_le_r (bit_and word (word / 2)) LOWEST_BITS in omega arith in
+    let first = bit_at-trailing_zeros w32 bits some fits in
+    IsLowestFree-bits word LOWEST_BITS 8 lowest_bits (trailing_zeros w32 bits) first.0 first.1 first.2
+
+pub IsLowestFree-pair : (pair : ℕ) → 0 < bit_and (bit_and pair (pair / 2)) LOWEST_BITS_OF_PAIR →
+    IsLowestFree (mark_in pair) 16 (trailing_zeros w64 (bit_and (bit_and pair (pair / 2)) LOWEST_BITS_OF_PAIR) / 4)
+IsLowestFree-pair pair some =
+    let bits = bit_and (bit_and pair (pair / 2)) LOWEST_BITS_OF_PAIR in
+    let fits : bits < 2 ^ 64 = let most = and_le_r (bit_and pair (pair / 2)) LOWEST_BITS_OF_PAIR in omega arith in
+    let first = bit_at-trailing_zeros w64 bits some fits in
+    IsLowestFree-bits pair LOWEST_BITS_OF_PAIR 16 lowest_bits-pair (trailing_zeros w64 bits) first.0 first.1 first.2
 
 -- a word of which each cell is free
 pub ALL_FREE-free : (place : ℕ) → place < 8 → mark_in ALL_FREE place ≡ Free

@@ -3,6 +3,7 @@ use Rattle.std.proofs.Common.{◌≡◌, ◌≢◌, ℕ, length, slice_set, ◌+
 use Rattle.std.proofs.Common.{refl, sym, ap, ◌∙◌, inl, inr, arith}
 use Rattle.std.proofs.lemmas.Bool.{cases_eq, cases_lt}
 use Rattle.std.proofs.lemmas.List.{get_or-set_same, get_or-set_other}
+use Rattle.mm_cells.specs.declared.marks.Mark.{Mark}
 use Rattle.mm_cells.specs.Marks.{mark_in, mark_of_cell, page_marks, NoneFree, IsLowestFree}
 
 pub page_marks-word : (table : List ℕ) (first word place : ℕ) → place < 8 →
@@ -37,26 +38,43 @@ mark_of_cell-others table cell word within others other apart = elim (cases_eq (
   | inr there ↦ ap (λ w. mark_in w (other % 8)) (get_or-set_other table (cell / 8) (other / 8) word 0 there)
 ]
 
--- no cell is free up to a word, and none at the first places of that word
-pub NoneFree-more : (table : List ℕ) (first word place cells : ℕ) → place ≤ 8 → cells ≤ 8 * word + place →
-    NoneFree (page_marks table first) (8 * word) → NoneFree (mark_in (get_or table (first + word) 0)) place →
-    NoneFree (page_marks table first) cells
-NoneFree-more table first word place cells within most before here = λ cell below free.
-    elim (cases_lt cell (8 * word)) [
+-- the marks of two words are those of sixteen cells of a page
+pub page_marks-pair : (table : List ℕ) (first pair marks place : ℕ) → place < 16 →
+    ((p : ℕ) → p < 8 → mark_in marks p ≡ mark_in (get_or table (first + 2 * pair) 0) p) →
+    ((p : ℕ) → p < 8 → mark_in marks (8 + p) ≡ mark_in (get_or table (first + 2 * pair + 1) 0) p) →
+    page_marks table first (16 * pair + place) ≡ mark_in marks place
+page_marks-pair table first pair marks place within low high = elim (cases_lt place 8) [
+  | inl h ↦
+      ap (page_marks table first) (omega arith) ∙ page_marks-word table first (2 * pair) place h ∙ sym (low place h)
+  | inr h ↦
+      let at = place - 8 in
+      let is : 8 + at ≡ place = omega arith in
+      let below : at < 8 = omega arith in
+      ap (page_marks table first) (omega arith) ∙ page_marks-word table first (2 * pair + 1) at below
+      ∙ ap (λ k. mark_in (get_or table k 0) at) (omega arith)
+      ∙ sym (high at below) ∙ ap (mark_in marks) is
+]
+
+-- no cell is free up to some, and none of those behind it
+pub NoneFree-more : (marks behind : ℕ → Mark) (start place cells : ℕ) → cells ≤ start + place →
+    ((p : ℕ) → p < place → marks (start + p) ≡ behind p) → NoneFree marks start → NoneFree behind place →
+    NoneFree marks cells
+NoneFree-more marks behind start place cells most same before here = λ cell below free.
+    elim (cases_lt cell start) [
       | inl earlier ↦ before cell earlier free
       | inr later ↦
-          let at = cell - 8 * word in
-          let is : cell ≡ 8 * word + at = omega arith in
-          let same = page_marks-word table first word at (omega arith) in
-          here at (omega arith) (sym same ∙ ap (λ k. page_marks table first k) (sym is) ∙ free)
+          let at = cell - start in
+          let is : start + at ≡ cell = omega arith in
+          let low : at < place = omega arith in
+          here at low (sym (same at low) ∙ ap marks is ∙ free)
     ]
 
-pub IsLowestFree-page : (table : List ℕ) (first word place cells : ℕ) → 8 * word + place < cells →
-    NoneFree (page_marks table first) (8 * word) → IsLowestFree (mark_in (get_or table (first + word) 0)) 8 place →
-    IsLowestFree (page_marks table first) cells (8 * word + place)
-IsLowestFree-page table first word place cells within before here = record {
+pub IsLowestFree-more : (marks behind : ℕ → Mark) (start place cells most : ℕ) → start + place < cells →
+    ((p : ℕ) → p < most → marks (start + p) ≡ behind p) → NoneFree marks start → IsLowestFree behind most place →
+    IsLowestFree marks cells (start + place)
+IsLowestFree-more marks behind start place cells most within same before here = record {
   within = within;
-  free = page_marks-word table first word place here.within ∙ here.free;
-  lowest = NoneFree-more table first word place (8 * word + place) (let w = here.within in omega arith) (omega arith)
-      before here.lowest;
+  free = same place here.within ∙ here.free;
+  lowest = NoneFree-more marks behind start place (start + place) (omega arith)
+      (λ p low. same p (omega (arith, here.within))) before here.lowest;
 }

@@ -3,5 +3,5 @@ use Rattle.std.proofs.Common.{◌*◌}
 use Rattle.mm_cells.specs.Marks.{page_marks, NoneFree}
 use Rattle.mm_cells.proofs.marks.lowest_free.Given as goal
 
-abbrev pub invariant-loop-word : goal.invariant-loop-word
-invariant-loop-word l = NoneFree (page_marks l.table l.first_word) (8 * l.word)
+abbrev pub invariant-loop-pair : goal.invariant-loop-pair
+invariant-loop-pair l = NoneFree (page_marks l.table l.first_word) (16 * l.pair)
