@@ -7,6 +7,9 @@ ghost use Rattle.mm_words.specs.Piece.{with_words};
 ghost use Rattle.mm_words.specs.Writes.{written};
 ghost use Rattle.mm_pages.specs.Pages.{IsQuick, with_parked, IsSoundHeap};
 ghost use Rattle.mm_pages.specs.Parked.{AreParked, AreAllParked};
+ghost use Rattle.mm_cells.specs.Cells as Places;
+ghost use Rattle.mm_cells.specs.Cells.{Taken, IsSoundCells, with_cell};
+ghost use Rattle.mm_cells.specs.Marks.{no_flags};
 ghost use Rattle.mm_cells.specs.Placing.{IsPlaceFor, LeavesPage, found_in, run_length};
 ghost use Rattle.mm_object.specs.Object.{StoredObject, newly_stored, flags_with};
 ghost use Rattle.mm_object.specs.Header.{IsShape, shape_in, first_word, second_word};
@@ -15,22 +18,24 @@ ghost use Rattle.mm_object.specs.Kept.{newborn_words};
 
 use crate::header::Header;
 use crate::heap::{HEADER_WORDS, Heap, WORD_BYTES, object_bytes};
-use bitflags::Flags;
-use mm_cells::CellBits;
+use mm_cells::{CellBits, Cells};
 use mm_model::{Colour, Shape};
 use mm_pages::{NoRun, PageHeap};
 use mm_steps::Steps;
 use mm_words::Words;
 use std::sync::ledger::Ledger;
 
-/// The flags of a new object.
-fn flags_for(finalize: bool) -> CellBits
-    ensures { result ≡ flags_with finalize false }
+/// Tells of a new object whether it has a finalizer. Most have none, and nothing is told of the cell before.
+#[inline]
+fn tell_finalizer<L: Ledger>(cells: &mut Cells, base: u32, finalize: bool, steps: &mut Steps<L>)
+    requires taken { (cell : Taken) × Places.Begins cells.old base cell × (cell.flags ≡ no_flags) }
+    requires sound { IsSoundCells cells.old }
+    ensures flags { (cell : Taken) → Places.Begins cells.old base cell
+        → cells.new ≡ with_cell cells.old base (Some (record cell { flags = flags_with finalize false })) }
+    ensures sound { IsSoundCells cells.new }
 {
     if finalize {
-        CellBits::FINALIZE
-    } else {
-        CellBits::from_bits_retain(0)
+        cells.set_flags(base, CellBits::FINALIZE, steps);
     }
 }
 
@@ -84,7 +89,7 @@ impl Heap {
         let base = self
             .cells
             .place(pages, object_bytes(shape.slots), colour, steps)?;
-        self.cells.set_flags(base, flags_for(shape.finalize), steps);
+        tell_finalizer(&mut self.cells, base, shape.finalize, steps);
         write_newborn(&mut self.memory, base / WORD_BYTES, shape);
         Ok(base)
     }

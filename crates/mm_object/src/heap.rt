@@ -131,6 +131,7 @@ impl Heap {
     }
 
     /// The object in which a word falls, with its shape.
+    #[inline]
     pub fn look_up<L: Ledger>(&self, word: u32, steps: &mut Steps<L>) -> Option<Found>
         ensures found { MatchOption result (FallsInNone self.now word)
             (λ found. (object : StoredObject)

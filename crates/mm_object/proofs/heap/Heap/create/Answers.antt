@@ -1,4 +1,4 @@
-use Rattle.std.proofs.Common.{◌≡◌, ℕ, ◌/◌, List, Some, None, refl, sym, ap, subst, ◌∙◌}
+use Rattle.std.proofs.Common.{◌≡◌, ℕ, ◌/◌, false, List, Some, None, refl, sym, ap, subst, ◌∙◌}
 use Rattle.std.specs.Prelude.{slice_set}
 use Rattle.mm_model.specs.SizeClass.{size_of, extent_of, object_bytes}
 use Rattle.mm_model.specs.ByBase as bases
@@ -6,7 +6,7 @@ use Rattle.mm_pages.specs.Pages as heaps
 use Rattle.mm_pages.specs.Parked.{AreParked, AreAllParked}
 use Rattle.mm_cells.specs.Cells.{Cells, newly_taken}
 use Rattle.mm_cells.specs.Placing.{run_length}
-use Rattle.mm_object.specs.Object.{newly_stored}
+use Rattle.mm_object.specs.Object.{newly_stored, flags_with}
 use Rattle.mm_object.specs.Heap.{Heap, IsSound}
 use Rattle.mm_object.specs.Kept.{heap_of}
 use Rattle.mm_object.proofs.Sound.{IsSound-kept}
@@ -26,8 +26,8 @@ returns-in_err-base-clause-sound g c =
     subst (λ (v : Cells). IsSound (heap_of c.self.inside.memory v)) (sym c.in_err-base.ensures.unchanged.0)
     (IsSound-kept c.self.inside.memory c.self.inside.cells c.self.invariant)
 
-pub set_flags-requires-clause-taken : goal.set_flags-requires-clause-taken
-set_flags-requires-clause-taken g c =
+pub tell_finalizer-requires-clause-taken : goal.tell_finalizer-requires-clause-taken
+tell_finalizer-requires-clause-taken g c =
     let m = made c.self.inside.memory c.self.inside.cells c.self.invariant c.args.self.now c.self.view_is
     c.args.pages.now c.requires.fits c.args.shape c.args.colour c.object_bytes.result c.object_bytes.ensures
     c.in_ok-base.base c.place.new.self c.in_ok-base.ensures.place c.in_ok-base.ensures.taken
@@ -35,6 +35,7 @@ set_flags-requires-clause-taken g c =
       newly_taken (extent_of (object_bytes c.args.shape.slots)) c.args.colour,
       made-begins c.self.inside.memory c.self.inside.cells c.place.new.self c.args.shape c.args.colour
           c.in_ok-base.base m,
+      refl,
     )
 
 pub write_newborn-requires-clause-within : goal.write_newborn-requires-clause-within
@@ -55,11 +56,11 @@ invariant_of-self-2 g c =
     created-kept c.self.inside.memory c.self.inside.cells c.self.invariant c.args.self.now c.self.view_is
     c.args.shape c.args.colour c.requires.shape c.write_newborn.ensures.means m.enough c.in_ok-base.base m.vacant
     (slice_set c.self.inside.cells.runs (c.in_ok-base.base / 4096)
-    (run_length (size_of (object_bytes c.args.shape.slots)))) c.set_flags.new.self
-    (made-cells c.self.inside.memory c.self.inside.cells c.place.new.self c.set_flags.new.self c.args.shape
+    (run_length (size_of (object_bytes c.args.shape.slots)))) c.tell_finalizer.new.cells
+    (made-cells c.self.inside.memory c.self.inside.cells c.place.new.self c.tell_finalizer.new.cells c.args.shape
     c.args.colour
-    c.in_ok-base.base c.flags_for.result m c.flags_for.ensures c.set_flags.ensures.flags)
-    c.set_flags.ensures.sound c.write_newborn.new.memory c.write_newborn.ensures.words
+    c.in_ok-base.base (flags_with c.args.shape.finalize false) m refl c.tell_finalizer.ensures.flags)
+    c.tell_finalizer.ensures.sound c.write_newborn.new.memory c.write_newborn.ensures.words
 
 pub returns-clause-place : goal.returns-clause-place
 returns-clause-place g c =
@@ -76,16 +77,16 @@ returns-clause-created g c =
     created-heap c.self.inside.memory c.self.inside.cells c.self.invariant c.args.self.now c.self.view_is
     c.args.shape c.args.colour c.requires.shape c.write_newborn.ensures.means m.enough c.in_ok-base.base m.vacant
     (slice_set c.self.inside.cells.runs (c.in_ok-base.base / 4096)
-    (run_length (size_of (object_bytes c.args.shape.slots)))) c.set_flags.new.self
-    (made-cells c.self.inside.memory c.self.inside.cells c.place.new.self c.set_flags.new.self c.args.shape
+    (run_length (size_of (object_bytes c.args.shape.slots)))) c.tell_finalizer.new.cells
+    (made-cells c.self.inside.memory c.self.inside.cells c.place.new.self c.tell_finalizer.new.cells c.args.shape
     c.args.colour
-    c.in_ok-base.base c.flags_for.result m c.flags_for.ensures c.set_flags.ensures.flags)
-    c.set_flags.ensures.sound c.write_newborn.new.memory c.write_newborn.ensures.words
+    c.in_ok-base.base (flags_with c.args.shape.finalize false) m refl c.tell_finalizer.ensures.flags)
+    c.tell_finalizer.ensures.sound c.write_newborn.new.memory c.write_newborn.ensures.words
     ∙ ap (λ (v : Heap). record c.args.self.now {
       objects = bases.with_entry c.in_ok-base.base (Some (newly_stored c.args.shape c.args.colour))
           c.args.self.now.objects;
       runs = slice_set v.runs (c.in_ok-base.base / 4096) (run_length (size_of (object_bytes c.args.shape.slots)));
-      raw = (heap_of c.write_newborn.new.memory c.set_flags.new.self).raw;
+      raw = (heap_of c.write_newborn.new.memory c.tell_finalizer.new.cells).raw;
     }) c.self.view_is
 
 pub returns-clause-begins : goal.returns-clause-begins
@@ -97,11 +98,11 @@ returns-clause-begins g c =
     created-begins c.self.inside.memory c.self.inside.cells c.self.invariant c.args.self.now c.self.view_is
     c.args.shape c.args.colour c.requires.shape c.write_newborn.ensures.means m.enough c.in_ok-base.base m.vacant
     (slice_set c.self.inside.cells.runs (c.in_ok-base.base / 4096)
-    (run_length (size_of (object_bytes c.args.shape.slots)))) c.set_flags.new.self
-    (made-cells c.self.inside.memory c.self.inside.cells c.place.new.self c.set_flags.new.self c.args.shape
+    (run_length (size_of (object_bytes c.args.shape.slots)))) c.tell_finalizer.new.cells
+    (made-cells c.self.inside.memory c.self.inside.cells c.place.new.self c.tell_finalizer.new.cells c.args.shape
     c.args.colour
-    c.in_ok-base.base c.flags_for.result m c.flags_for.ensures c.set_flags.ensures.flags)
-    c.set_flags.ensures.sound c.write_newborn.new.memory c.write_newborn.ensures.words
+    c.in_ok-base.base (flags_with c.args.shape.finalize false) m refl c.tell_finalizer.ensures.flags)
+    c.tell_finalizer.ensures.sound c.write_newborn.new.memory c.write_newborn.ensures.words
 
 pub returns-clause-was_none : goal.returns-clause-was_none
 returns-clause-was_none g c =
@@ -112,11 +113,11 @@ returns-clause-was_none g c =
     created-none c.self.inside.memory c.self.inside.cells c.self.invariant c.args.self.now c.self.view_is
     c.args.shape c.args.colour c.requires.shape c.write_newborn.ensures.means m.enough c.in_ok-base.base m.vacant
     (slice_set c.self.inside.cells.runs (c.in_ok-base.base / 4096)
-    (run_length (size_of (object_bytes c.args.shape.slots)))) c.set_flags.new.self
-    (made-cells c.self.inside.memory c.self.inside.cells c.place.new.self c.set_flags.new.self c.args.shape
+    (run_length (size_of (object_bytes c.args.shape.slots)))) c.tell_finalizer.new.cells
+    (made-cells c.self.inside.memory c.self.inside.cells c.place.new.self c.tell_finalizer.new.cells c.args.shape
     c.args.colour
-    c.in_ok-base.base c.flags_for.result m c.flags_for.ensures c.set_flags.ensures.flags)
-    c.set_flags.ensures.sound c.write_newborn.new.memory c.write_newborn.ensures.words
+    c.in_ok-base.base (flags_with c.args.shape.finalize false) m refl c.tell_finalizer.ensures.flags)
+    c.tell_finalizer.ensures.sound c.write_newborn.new.memory c.write_newborn.ensures.words
 
 pub returns-clause-raw : goal.returns-clause-raw
 returns-clause-raw g c =
@@ -127,11 +128,11 @@ returns-clause-raw g c =
     created-raw c.self.inside.memory c.self.inside.cells c.self.invariant c.args.self.now c.self.view_is
     c.args.shape c.args.colour c.requires.shape c.write_newborn.ensures.means m.enough c.in_ok-base.base m.vacant
     (slice_set c.self.inside.cells.runs (c.in_ok-base.base / 4096)
-    (run_length (size_of (object_bytes c.args.shape.slots)))) c.set_flags.new.self
-    (made-cells c.self.inside.memory c.self.inside.cells c.place.new.self c.set_flags.new.self c.args.shape
+    (run_length (size_of (object_bytes c.args.shape.slots)))) c.tell_finalizer.new.cells
+    (made-cells c.self.inside.memory c.self.inside.cells c.place.new.self c.tell_finalizer.new.cells c.args.shape
     c.args.colour
-    c.in_ok-base.base c.flags_for.result m c.flags_for.ensures c.set_flags.ensures.flags)
-    c.set_flags.ensures.sound c.write_newborn.new.memory c.write_newborn.ensures.words
+    c.in_ok-base.base (flags_with c.args.shape.finalize false) m refl c.tell_finalizer.ensures.flags)
+    c.tell_finalizer.ensures.sound c.write_newborn.new.memory c.write_newborn.ensures.words
 
 pub returns-clause-fits : goal.returns-clause-fits
 returns-clause-fits g c =
@@ -139,19 +140,19 @@ returns-clause-fits g c =
     c.args.pages.now c.requires.fits c.args.shape c.args.colour c.object_bytes.result c.object_bytes.ensures
     c.in_ok-base.base c.place.new.self c.in_ok-base.ensures.place c.in_ok-base.ensures.taken
     c.in_ok-base.ensures.enough in
-    let runs : c.place.new.self.runs ≡ c.set_flags.new.self.runs =
-    sym (ap (λ (v : Cells). v.runs) (c.set_flags.ensures.flags
+    let runs : c.place.new.self.runs ≡ c.tell_finalizer.new.cells.runs =
+    sym (ap (λ (v : Cells). v.runs) (c.tell_finalizer.ensures.flags
     (newly_taken (extent_of (object_bytes c.args.shape.slots)) c.args.colour)
     (made-begins c.self.inside.memory c.self.inside.cells c.place.new.self c.args.shape c.args.colour
     c.in_ok-base.base m))) in
     created-fits c.self.inside.memory c.self.inside.cells c.self.invariant c.args.self.now c.self.view_is
     c.args.shape c.args.colour c.requires.shape c.write_newborn.ensures.means m.enough c.in_ok-base.base m.vacant
     (slice_set c.self.inside.cells.runs (c.in_ok-base.base / 4096)
-    (run_length (size_of (object_bytes c.args.shape.slots)))) c.set_flags.new.self
-    (made-cells c.self.inside.memory c.self.inside.cells c.place.new.self c.set_flags.new.self c.args.shape
+    (run_length (size_of (object_bytes c.args.shape.slots)))) c.tell_finalizer.new.cells
+    (made-cells c.self.inside.memory c.self.inside.cells c.place.new.self c.tell_finalizer.new.cells c.args.shape
     c.args.colour
-    c.in_ok-base.base c.flags_for.result m c.flags_for.ensures c.set_flags.ensures.flags)
-    c.set_flags.ensures.sound c.write_newborn.new.memory c.write_newborn.ensures.words
+    c.in_ok-base.base (flags_with c.args.shape.finalize false) m refl c.tell_finalizer.ensures.flags)
+    c.tell_finalizer.ensures.sound c.write_newborn.new.memory c.write_newborn.ensures.words
     c.args.pages.now c.place.new.pages c.requires.fits
     (ap (λ (v : heaps.Pages). v.limit) c.in_ok-base.ensures.heap)
     (subst (λ (rs : List ℕ). AreParked rs c.place.new.pages) runs c.in_ok-base.ensures.parked)
@@ -162,8 +163,8 @@ returns-clause-all_parked g c = λ others all.
     c.args.pages.now c.requires.fits c.args.shape c.args.colour c.object_bytes.result c.object_bytes.ensures
     c.in_ok-base.base c.place.new.self c.in_ok-base.ensures.place c.in_ok-base.ensures.taken
     c.in_ok-base.ensures.enough in
-    let runs : c.place.new.self.runs ≡ c.set_flags.new.self.runs =
-    sym (ap (λ (v : Cells). v.runs) (c.set_flags.ensures.flags
+    let runs : c.place.new.self.runs ≡ c.tell_finalizer.new.cells.runs =
+    sym (ap (λ (v : Cells). v.runs) (c.tell_finalizer.ensures.flags
     (newly_taken (extent_of (object_bytes c.args.shape.slots)) c.args.colour)
     (made-begins c.self.inside.memory c.self.inside.cells c.place.new.self c.args.shape c.args.colour
     c.in_ok-base.base m))) in
@@ -173,4 +174,4 @@ returns-clause-all_parked g c = λ others all.
 
 pub returns-clause-sound : goal.returns-clause-sound
 returns-clause-sound g c =
-    IsSound-kept c.write_newborn.new.memory c.set_flags.new.self (invariant_of-self-2 g c)
+    IsSound-kept c.write_newborn.new.memory c.tell_finalizer.new.cells (invariant_of-self-2 g c)
