@@ -56,8 +56,28 @@ fn made_base(made: Result<WeakAnswer, NoRun>) -> Option<u32>
 }
 
 impl Region {
-    /// Gives the region so many pages.
+    /// Gives the region so many pages. Most often it has them already.
+    #[inline]
     fn resize(&mut self, size: u32)
+        requires keeps { KeepsRegion self.old }
+        requires two { 2 ≤ size }
+        requires most { size ≤ self.old.most }
+        requires pages { heaps.EndsBy self.old.pages size }
+        requires objects { objects.EndsBy self.old.heap size }
+        ensures size { self.new.heap.size ≡ size }
+        ensures inside { IsSameInside self.old self.new }
+        ensures same { IsSameRegion self.old self.new }
+        ensures keeps { KeepsRegion self.new }
+    {
+        if self.heap.size() != size {
+            self.move_end(size);
+        }
+    }
+
+    /// Moves the end of the memory and the limit to where the region has so many pages.
+    #[cold]
+    #[inline(never)]
+    fn move_end(&mut self, size: u32)
         requires keeps { KeepsRegion self.old }
         requires two { 2 ≤ size }
         requires most { size ≤ self.old.most }
@@ -78,6 +98,7 @@ impl Region {
     }
 
     /// Gives back the pages that it doesn't need, or takes those that it does.
+    #[inline]
     pub(crate) fn settle(&mut self)
         requires { KeepsRegion self.old }
         ensures inside { IsSameInside self.old self.new }
@@ -89,6 +110,7 @@ impl Region {
     }
 
     /// Lets a search go so far.
+    #[inline]
     fn open(&mut self, reach: Reach)
         requires { IsSettled self.old }
         ensures limit { self.new.pages.limit ≡ limit_in reach self.old }

@@ -1,6 +1,6 @@
 use Rattle.std.proofs.Common.{refl}
 use Rattle.mm_gc.proofs.Regions.Resized.{keeps-resized, inside-resized}
-use Rattle.mm_gc.proofs.region.Region.resize.Goals as goal
+use Rattle.mm_gc.proofs.region.Region.move_end.Goals as goal
 
 pub returns-then-size-clause-inside : goal.returns-then-size-clause-inside
 returns-then-size-clause-inside c =
