@@ -181,13 +181,12 @@ pub told-collect : (old new : Gc) (before after : Kept)
     → ViewCollectsOnce (view_of_gc old) tells.log (view_of_gc new)
 told-collect old new before after tells = tells.answers.row.0
 
-pub reap-wants : (w : Wanted) (old middle new : Gc) (before after : Kept) → IsWanted (view_of_gc old) w
-    → view_of_gc middle ≡ view_of_gc old → Tells middle new commands.Reap replies.Done before after
-    → IsWanted (view_of_gc new) w
-reap-wants w old middle new before after asked same tells =
-    let once = told-reap middle new before after tells in
+pub reap-wants : (w : Wanted) (old new : Gc) (before after : Kept) → IsWanted (view_of_gc old) w
+    → Tells old new commands.Reap replies.Done before after → IsWanted (view_of_gc new) w
+reap-wants w old new before after asked tells =
+    let once = told-reap old new before after tells in
     subst (λ view. IsWanted view w) (sym once.left_is)
-    (wanted-reaped w (view_of_gc middle) once.dead once.reapable (subst (λ view. IsWanted view w) (sym same) asked))
+    (wanted-reaped w (view_of_gc old) once.dead once.reapable asked)
 
 pub collect-wants : (w : Wanted) (old middle new : Gc) (before after : Kept) → IsWanted (view_of_gc old) w
     → view_of_gc middle ≡ view_of_gc old → Tells middle new commands.Collect replies.Done before after
@@ -211,19 +210,27 @@ searches-at_once old new w m kept made =
       written = writes-none kept.bytes kept.broken;
     }
 
+-- found by a search that a heap began which shows the same
+pub searches-from : (old tried new : Gc) (w : Wanted) (result : Option Made) (before after : Kept)
+    → view_of_gc tried ≡ view_of_gc old → Searches tried new w result before after
+    → Searches old new w result before after
+searches-from old tried new w result before after same searched =
+    record {
+      log = searched.log;
+      makes = subst (λ view. ViewMakes view (family_of w) (bytes_of w) (effect_of w) searched.log
+          (record { view = view_of_gc new; reply = made_reply result })) same searched.makes;
+      written = searched.written;
+    }
+
 -- after a reap
-module _ (old tried reaped : Gc) (w : Wanted) (before between : Kept)
-    (none : IsMade (view_of_gc old) w reach.Now (view_of_gc tried) None)
-    (reap : Tells tried reaped commands.Reap replies.Done before between) where
+module _ (old reaped : Gc) (w : Wanted) (before between : Kept)
+    (nowhere : place_in_reach reach.Now (view_of_gc old) w ≡ None)
+    (reap : Tells old reaped commands.Reap replies.Done before between) where
   abbrev view : View
   view = view_of_gc old
 
-  nowhere : IsNowhere w reach.Now view (view_of_gc tried)
-  nowhere = made-nowhere w reach.Now view (view_of_gc tried) none
-
   once : ViewReapsOnce view reap.log (view_of_gc reaped)
-  once = subst (λ v. ViewReapsOnce v reap.log (view_of_gc reaped)) nowhere.same (told-reap tried reaped before
-      between reap)
+  once = told-reap old reaped before between reap
 
   pub searches-after_reap : (new : Gc) (m : Made) → IsMade (view_of_gc reaped) w reach.Grown (view_of_gc new) (Some m)
       → Searches old new w (Some m) before between
@@ -237,7 +244,7 @@ module _ (old tried reaped : Gc) (w : Wanted) (before between : Kept)
             (record { view = view_of_gc new; reply = made_reply (Some m) })) (sym once.log_is)
             (subst (ViewMakes view (family_of w) (bytes_of w) (effect_of w) (view_phase_lines Reap view once.dead))
             (sym (ap (effect_of w left) found.1) ∙ now)
-            (makes-after_reap view (family_of w) (bytes_of w) (effect_of w) found.0 once.dead nowhere.nowhere
+            (makes-after_reap view (family_of w) (bytes_of w) (effect_of w) found.0 once.dead nowhere
             once.reapable found.1));
         written = reap.written;
       }
@@ -266,7 +273,7 @@ module _ (old tried reaped : Gc) (w : Wanted) (before between : Kept)
             (view_phase_lines Reap view once.dead ++ view_phase_lines Collect left done.lost))
             now
             (makes-after_collection view (family_of w) (bytes_of w) (effect_of w) once.dead done.lost
-            (place_in_reach reach.Grown last w) nowhere.nowhere once.reapable none.nowhere done.unreached refl));
+            (place_in_reach reach.Grown last w) nowhere once.reapable none.nowhere done.unreached refl));
         written = subst
             (λ text. Writes before.bytes before.broken after.bytes after.broken text)
             (sym (flat_map-append spelling reap.log collect.log))

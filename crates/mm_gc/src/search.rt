@@ -1,5 +1,5 @@
 // The search for a place: at once, after a reap, and after a full collection.
-ghost use Rattle.std.specs.Prelude.{◌≡◌, ◌≢◌, ◌<◌, ◌-◌, ◌^◌, ◌⊎◌, ℕ, not, IsTrue, length};
+ghost use Rattle.std.specs.Prelude.{◌≡◌, ◌≢◌, ◌<◌, ◌-◌, ◌^◌, ◌⊎◌, ℕ, not, IsTrue, length, None};
 ghost use Rattle.mm_model.specs.Object.{is_counted};
 ghost use Rattle.mm_model.specs.ByBase.{Begins};
 ghost use Rattle.mm_model.specs.ViewEffect.{birth_colour};
@@ -10,8 +10,9 @@ ghost use Rattle.mm_count.specs.Table.{IsRight, IsSameTable};
 ghost use Rattle.mm_count.specs.Counts.{IsCountedBy, KeepsObjects};
 ghost use Rattle.mm_count.specs.Listed.{AllListed, AllListedBut, NonePinned};
 ghost use Rattle.mm_gc.specs.declared.wanted.Wanted.TheVariants as wanted;
+ghost use Rattle.mm_gc.specs.declared.wanted.Reach.TheVariants as reach;
 ghost use Rattle.mm_gc.specs.Gc.{view_of_gc, cycle_in};
-ghost use Rattle.mm_gc.specs.Making.{IsNewAt, IsWanted, IsMade, Searches};
+ghost use Rattle.mm_gc.specs.Making.{IsNewAt, IsWanted, IsMade, Searches, place_in_reach};
 
 use crate::gc::Gc;
 use crate::wanted::{AreaWanted, Made, Reach, Wanted};
@@ -133,6 +134,7 @@ impl Gc {
     }
 
     /// Makes what is wanted, if there is a place for it.
+    #[inline(always)]
     fn make_wanted<L: Ledger>(
         &mut self,
         wanted: Wanted,
@@ -150,7 +152,9 @@ impl Gc {
         }
     }
 
-    /// Looks for a place at once, then after a reap, then after a full collection, and makes what is wanted there.
+    /// Looks for a place at once, then after a reap, then after a full collection, and makes what is wanted there. The
+    /// first is nearly always enough, and what it takes is inlined where the kind of what is wanted is known.
+    #[inline(always)]
     pub(crate) fn search<J: Journal, L: Ledger>(
         &mut self,
         wanted: Wanted,
@@ -167,6 +171,27 @@ impl Gc {
         if let Some(made) = self.make_wanted(wanted, Reach::Now, steps) {
             return Some(made);
         }
+        self.search_on(wanted, journal, steps)
+    }
+
+    /// Where there is no place now, looks for one after a reap, then after a full collection, and makes what is wanted
+    /// there.
+    #[cold]
+    #[inline(never)]
+    fn search_on<J: Journal, L: Ledger>(
+        &mut self,
+        wanted: Wanted,
+        journal: &mut J,
+        steps: &mut Steps<L>,
+    ) -> Option<Made>
+        requires wanted { IsWanted (view_of_gc self.old) wanted }
+        requires births { self.old.born < 2 ^ 32 - 1 }
+        requires nowhere { place_in_reach reach.Now (view_of_gc self.old) wanted ≡ None }
+        ensures searched { Searches self.old self.new wanted result
+            (record { bytes = J.kept journal.old; broken = J.is_broken journal.old })
+            (record { bytes = J.kept journal.new; broken = J.is_broken journal.new }) }
+        ensures kept { J.keeps journal.old journal.new }
+    {
         self.reap(journal, steps);
         if let Some(made) = self.make_wanted(wanted, Reach::Grown, steps) {
             return Some(made);

@@ -1,7 +1,8 @@
+use Rattle.std.proofs.Common.{◌≡◌, None, sym, subst}
 use Rattle.mm_gc.specs.declared.wanted.Reach.TheVariants as reach
 use Rattle.mm_gc.specs.Gc.{view_of_gc}
-use Rattle.mm_gc.proofs.Searching.{made-nowhere, reap-wants, collect-wants, searches-at_once, searches-after_reap}
-use Rattle.mm_gc.proofs.Searching.{searches-after_collection}
+use Rattle.mm_gc.specs.Making.{IsWanted, place_in_reach}
+use Rattle.mm_gc.proofs.Searching.{made-nowhere, searches-at_once, searches-from}
 use Rattle.mm_gc.proofs.gc.Gc.search.Goals as goal
 
 pub returns-in-Some-clause-searched : goal.returns-in-Some-clause-searched
@@ -12,77 +13,29 @@ returns-in-Some-clause-searched g c =
       broken = g.J.Finalizer.is_broken c.args.journal.now;
     }) c.in-Some.ensures
 
-pub make_wanted-requires-2-clause-wanted : goal.make_wanted-requires-2-clause-wanted
-make_wanted-requires-2-clause-wanted g c =
+pub search_on-requires-clause-wanted : goal.search_on-requires-clause-wanted
+search_on-requires-clause-wanted g c =
     let none = made-nowhere c.args.wanted reach.Now (view_of_gc c.args.self.now) (view_of_gc c.make_wanted.new.self)
     c.in_default.ensures in
-    reap-wants c.args.wanted c.args.self.now c.make_wanted.new.self c.reap.new.self
-    (record {
-      bytes = g.J.Finalizer.kept c.args.journal.now;
-      broken = g.J.Finalizer.is_broken c.args.journal.now;
-    })
-    (record {
-      bytes = g.J.Finalizer.kept c.reap.new.journal;
-      broken = g.J.Finalizer.is_broken c.reap.new.journal;
-    })
-    c.requires.wanted none.same c.reap.ensures.row
+    subst (λ view. IsWanted view c.args.wanted) (sym none.same) c.requires.wanted
 
-pub returns-in-Some-make_wanted-clause-searched : goal.returns-in-Some-make_wanted-clause-searched
-returns-in-Some-make_wanted-clause-searched g c =
-    searches-after_reap c.args.self.now c.make_wanted.new.self c.reap.new.self c.args.wanted
-    (record {
-      bytes = g.J.Finalizer.kept c.args.journal.now;
-      broken = g.J.Finalizer.is_broken c.args.journal.now;
-    })
-    (record {
-      bytes = g.J.Finalizer.kept c.reap.new.journal;
-      broken = g.J.Finalizer.is_broken c.reap.new.journal;
-    })
-    c.in_default.ensures c.reap.ensures.row c.make_wanted-2.new.self c.in-Some-make_wanted.made
-    c.in-Some-make_wanted.ensures
-
-pub make_wanted-requires-3-clause-wanted : goal.make_wanted-requires-3-clause-wanted
-make_wanted-requires-3-clause-wanted g c =
-    let first = made-nowhere c.args.wanted reach.Now (view_of_gc c.args.self.now) (view_of_gc c.make_wanted.new.self)
+pub search_on-requires-clause-nowhere : goal.search_on-requires-clause-nowhere
+search_on-requires-clause-nowhere g c =
+    let none = made-nowhere c.args.wanted reach.Now (view_of_gc c.args.self.now) (view_of_gc c.make_wanted.new.self)
     c.in_default.ensures in
-    let second = made-nowhere c.args.wanted reach.Grown (view_of_gc c.reap.new.self) (view_of_gc
-    c.make_wanted-2.new.self)
-    c.in_default-make_wanted.ensures in
-    collect-wants c.args.wanted c.reap.new.self c.make_wanted-2.new.self c.collect.new.self
-    (record {
-      bytes = g.J.Finalizer.kept c.reap.new.journal;
-      broken = g.J.Finalizer.is_broken c.reap.new.journal;
-    })
-    (record {
-      bytes = g.J.Finalizer.kept c.collect.new.journal;
-      broken = g.J.Finalizer.is_broken c.collect.new.journal;
-    })
-    (reap-wants c.args.wanted c.args.self.now c.make_wanted.new.self c.reap.new.self
-    (record {
-      bytes = g.J.Finalizer.kept c.args.journal.now;
-      broken = g.J.Finalizer.is_broken c.args.journal.now;
-    })
-    (record {
-      bytes = g.J.Finalizer.kept c.reap.new.journal;
-      broken = g.J.Finalizer.is_broken c.reap.new.journal;
-    })
-    c.requires.wanted first.same c.reap.ensures.row)
-    second.same c.collect.ensures.row
+    subst (λ view. place_in_reach reach.Now view c.args.wanted ≡ None) (sym none.same) none.nowhere
 
 pub returns-clause-searched : goal.returns-clause-searched
 returns-clause-searched g c =
-    searches-after_collection c.args.self.now c.make_wanted.new.self c.reap.new.self c.args.wanted
+    let none = made-nowhere c.args.wanted reach.Now (view_of_gc c.args.self.now) (view_of_gc c.make_wanted.new.self)
+    c.in_default.ensures in
+    searches-from c.args.self.now c.make_wanted.new.self c.search_on.new.self c.args.wanted c.search_on.result
     (record {
       bytes = g.J.Finalizer.kept c.args.journal.now;
       broken = g.J.Finalizer.is_broken c.args.journal.now;
     })
     (record {
-      bytes = g.J.Finalizer.kept c.reap.new.journal;
-      broken = g.J.Finalizer.is_broken c.reap.new.journal;
+      bytes = g.J.Finalizer.kept c.search_on.new.journal;
+      broken = g.J.Finalizer.is_broken c.search_on.new.journal;
     })
-    c.in_default.ensures c.reap.ensures.row c.make_wanted-2.new.self c.collect.new.self c.make_wanted-3.new.self
-    (record {
-      bytes = g.J.Finalizer.kept c.collect.new.journal;
-      broken = g.J.Finalizer.is_broken c.collect.new.journal;
-    })
-    c.make_wanted-3.result c.in_default-make_wanted.ensures c.collect.ensures.row c.make_wanted-3.ensures
+    none.same c.search_on.ensures.searched
