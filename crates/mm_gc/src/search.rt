@@ -1,5 +1,6 @@
 // The search for a place: at once, after a reap, and after a full collection.
 ghost use Rattle.std.specs.Prelude.{◌≡◌, ◌≢◌, ◌<◌, ◌-◌, ◌^◌, ◌⊎◌, ℕ, not, IsTrue, length, None};
+ghost use Rattle.std.specs.Option.{option_map};
 ghost use Rattle.mm_model.specs.Object.{is_counted};
 ghost use Rattle.mm_model.specs.ByBase.{Begins};
 ghost use Rattle.mm_model.specs.ViewEffect.{birth_colour};
@@ -10,6 +11,7 @@ ghost use Rattle.mm_count.specs.Table.{IsRight, IsSameTable};
 ghost use Rattle.mm_count.specs.Counts.{IsCountedBy, KeepsObjects};
 ghost use Rattle.mm_count.specs.Listed.{AllListed, AllListedBut, NonePinned};
 ghost use Rattle.mm_gc.specs.declared.wanted.Wanted.TheVariants as wanted;
+ghost use Rattle.mm_gc.specs.declared.wanted.Made.TheVariants as made;
 ghost use Rattle.mm_gc.specs.declared.wanted.Reach.TheVariants as reach;
 ghost use Rattle.mm_gc.specs.Gc.{view_of_gc, cycle_in};
 ghost use Rattle.mm_gc.specs.Making.{IsNewAt, IsWanted, IsMade, Searches, place_in_reach};
@@ -17,7 +19,7 @@ ghost use Rattle.mm_gc.specs.Making.{IsNewAt, IsWanted, IsMade, Searches, place_
 use crate::gc::Gc;
 use crate::wanted::{AreaWanted, Made, Reach, Wanted};
 use mm_count::ZeroTable;
-use mm_model::{Colour, Kind, Shape};
+use mm_model::{AreaAnswer, Colour, Kind, Shape};
 use mm_object::Heap;
 use mm_roots::Stack;
 use mm_steps::Steps;
@@ -64,6 +66,28 @@ fn push_base(stack: &mut Stack, base: u32)
     }
 }
 
+/// What was made, of the base of an object.
+#[inline]
+fn made_object(base: Option<u32>) -> Option<Made>
+    ensures { result ≡ option_map made.Object base }
+{
+    match base {
+        Some(base) => Some(Made::Object(base)),
+        None => None,
+    }
+}
+
+/// What was made, of an area.
+#[inline]
+fn made_area(area: Option<AreaAnswer>) -> Option<Made>
+    ensures { result ≡ option_map made.Area area }
+{
+    match area {
+        Some(area) => Some(Made::Area(area)),
+        None => None,
+    }
+}
+
 impl Gc {
     /// The colour of an object that is born now.
     fn birth_colour(&self) -> Colour
@@ -82,10 +106,11 @@ impl Gc {
         shape: Shape,
         reach: Reach,
         steps: &mut Steps<L>,
-    ) -> Option<Made>
+    ) -> Option<u32>
         requires wanted { IsWanted (view_of_gc self.old) (wanted.Object shape) }
         requires births { self.old.born < 2 ^ 32 - 1 }
-        ensures { IsMade (view_of_gc self.old) (wanted.Object shape) reach (view_of_gc self.new) result }
+        ensures { IsMade (view_of_gc self.old) (wanted.Object shape) reach (view_of_gc self.new)
+            (option_map made.Object result) }
     {
         let colour = self.birth_colour();
         let base = self.region.create(shape, colour, reach, steps)?;
@@ -98,7 +123,7 @@ impl Gc {
         );
         self.born += 1;
         push_base(&mut self.stack, base);
-        Some(Made::Object(base))
+        Some(base)
     }
 
     /// Makes the weak object of an object that has none, and pushes its base, if there is a place for it.
@@ -107,16 +132,17 @@ impl Gc {
         target: u32,
         reach: Reach,
         steps: &mut Steps<L>,
-    ) -> Option<Made>
+    ) -> Option<u32>
         requires wanted { IsWanted (view_of_gc self.old) (wanted.WeakOf target) }
         requires births { self.old.born < 2 ^ 32 - 1 }
-        ensures { IsMade (view_of_gc self.old) (wanted.WeakOf target) reach (view_of_gc self.new) result }
+        ensures { IsMade (view_of_gc self.old) (wanted.WeakOf target) reach (view_of_gc self.new)
+            (option_map made.Object result) }
     {
         let colour = self.birth_colour();
         let base = self.region.create_weak(target, colour, reach, steps)?;
         self.born += 1;
         push_base(&mut self.stack, base);
-        Some(Made::Object(base))
+        Some(base)
     }
 
     /// Makes an area, if there is a place for it.
@@ -125,12 +151,13 @@ impl Gc {
         area: AreaWanted,
         reach: Reach,
         steps: &mut Steps<L>,
-    ) -> Option<Made>
+    ) -> Option<AreaAnswer>
         requires wanted { IsWanted (view_of_gc self.old) (wanted.Area area) }
-        ensures { IsMade (view_of_gc self.old) (wanted.Area area) reach (view_of_gc self.new) result }
+        ensures { IsMade (view_of_gc self.old) (wanted.Area area) reach (view_of_gc self.new)
+            (option_map made.Area result) }
     {
         let made = self.region.create_area(area, reach, steps)?;
-        Some(Made::Area(made))
+        Some(made)
     }
 
     /// Makes what is wanted, if there is a place for it.
@@ -146,9 +173,9 @@ impl Gc {
         ensures { IsMade (view_of_gc self.old) wanted reach (view_of_gc self.new) result }
     {
         match wanted {
-            Wanted::Object(shape) => self.make_object(shape, reach, steps),
-            Wanted::WeakOf(target) => self.make_weak(target, reach, steps),
-            Wanted::Area(area) => self.make_cells(area, reach, steps),
+            Wanted::Object(shape) => made_object(self.make_object(shape, reach, steps)),
+            Wanted::WeakOf(target) => made_object(self.make_weak(target, reach, steps)),
+            Wanted::Area(area) => made_area(self.make_cells(area, reach, steps)),
         }
     }
 
