@@ -101,6 +101,7 @@ impl Gc {
     }
 
     /// Makes an object and pushes its base, if there is a place for it.
+    #[inline(always)]
     fn make_object<L: Ledger>(
         &mut self,
         shape: Shape,
