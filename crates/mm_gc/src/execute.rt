@@ -1,5 +1,7 @@
 // A command whole: its row, and the reap at its end.
 ghost use Rattle.std.specs.Prelude.{◌≡◌, ◌<◌, ◌-◌, ◌^◌};
+ghost use Rattle.mm_model.specs.declared.command.Command.TheVariants as commands;
+ghost use Rattle.mm_model.specs.declared.reply.Reply.TheVariants as replies;
 ghost use Rattle.mm_gc.specs.Ending.{is_refused, Ends};
 ghost use Rattle.mm_gc.specs.Rows.{Executes, Tells};
 
@@ -13,6 +15,7 @@ use mm_sweep::Journal;
 use std::sync::ledger::Ledger;
 
 /// Whether a reply refuses.
+#[inline]
 fn is_refused(reply: Reply) -> bool
     ensures { result ≡ is_refused reply }
 {
@@ -32,6 +35,7 @@ fn is_refused(reply: Reply) -> bool
 impl Gc {
     /// Carries out a command, and tells the journal of all that it does before it replies. Where it wasn't refused and
     /// leaves as many zero-count objects as the threshold says, it reaps at its end.
+    #[inline(always)]
     pub fn execute<J: Journal, L: Ledger>(
         &mut self,
         command: &Command,
@@ -52,6 +56,7 @@ impl Gc {
     }
 
     /// Reaps where a command that wasn't refused leaves as many zero-count objects as the threshold says.
+    #[inline]
     fn end<J: Journal, L: Ledger>(&mut self, refused: bool, journal: &mut J, steps: &mut Steps<L>)
         ensures ends { Ends self.old self.new refused
             (record { bytes = J.kept journal.old; broken = J.is_broken journal.old })
@@ -65,6 +70,18 @@ impl Gc {
         if self.count.len() < self.threshold {
             return;
         }
+        self.reap_at_end(journal, steps)
+    }
+
+    /// Reaps, apart from the commands at whose end it's done: hardly any of them needs it.
+    #[cold]
+    #[inline(never)]
+    fn reap_at_end<J: Journal, L: Ledger>(&mut self, journal: &mut J, steps: &mut Steps<L>)
+        ensures row { Tells self.old self.new commands.Reap replies.Done
+            (record { bytes = J.kept journal.old; broken = J.is_broken journal.old })
+            (record { bytes = J.kept journal.new; broken = J.is_broken journal.new }) }
+        ensures kept { J.keeps journal.old journal.new }
+    {
         self.reap(journal, steps)
     }
 

@@ -15,16 +15,16 @@ returns-then-len-self-clause-ends g c =
 
 pub returns-clause-ends : goal.returns-clause-ends
 returns-clause-ends g c =
-    ends-reap c.args.self.now c.reap.new.self c.args.refused
+    ends-reap c.args.self.now c.reap_at_end.new.self c.args.refused
     (record {
       bytes = g.J.Finalizer.kept c.args.journal.now;
       broken = g.J.Finalizer.is_broken c.args.journal.now;
     })
     (record {
-      bytes = g.J.Finalizer.kept c.reap.new.journal;
-      broken = g.J.Finalizer.is_broken c.reap.new.journal;
+      bytes = g.J.Finalizer.kept c.reap_at_end.new.journal;
+      broken = g.J.Finalizer.is_broken c.reap_at_end.new.journal;
     })
     c.if-refused.false
     (at-threshold c.args.self.now (gc_of c.self.inside) c.self.view_is c.self.invariant c.len.result c.len.ensures
     c.if-len-self.false)
-    c.reap.ensures.row
+    c.reap_at_end.ensures.row
