@@ -1,6 +1,7 @@
 // Cycles of marking, which other commands come between.
-ghost use Rattle.std.specs.Prelude.{◌≡◌, ◌≤◌, ◌+◌, ◌*◌, ℕ, true, unwrap_or};
+ghost use Rattle.std.specs.Prelude.{◌≡◌, ◌≤◌, ◌+◌, ◌*◌, ℕ, true, length, unwrap_or};
 ghost use Rattle.mm_model.specs.declared.command.Command.TheVariants as commands;
+ghost use Rattle.mm_model.specs.ViewWords.{marking_words};
 ghost use Rattle.mm_mark.specs.Stale.{HasFewStale, IsPaid};
 ghost use Rattle.mm_gc.specs.Gc.{view_of_gc};
 ghost use Rattle.mm_gc.specs.Phases.{ScanAnswer, ScansTo};
@@ -18,6 +19,7 @@ impl Gc {
     /// Begins a cycle.
     pub fn begin<L: Ledger>(&mut self, steps: &mut Steps<L>) -> Result<(), Refusal>
         ensures row { Answers self.old self.new commands.Begin (done_reply result) }
+        ensures cost { steps.new ≤ steps.old + 16 * (1 + length (marking_words (view_of_gc self.old))) }
     {
         if self.marker.running() {
             return Err(Refusal::Busy);

@@ -1,7 +1,8 @@
-use Rattle.std.proofs.Common.{[], sym, ◌∙◌, subst}
+use Rattle.std.proofs.Common.{◌+◌, ◌*◌, ◌≤◌, [], length, sym, ◌∙◌, subst}
 use Rattle.mm_model.specs.declared.command.Command.TheVariants as commands
 use Rattle.mm_model.specs.declared.refusal.Refusal.TheVariants as refusals
 use Rattle.mm_model.specs.declared.reply.Reply.TheVariants as replies
+use Rattle.mm_model.specs.ViewWords.{marking_words}
 use Rattle.mm_gc.specs.Gc.{Gc, view_of_gc}
 use Rattle.mm_gc.specs.Inside.{gc_of}
 use Rattle.mm_gc.specs.Rows.{Answers}
@@ -12,16 +13,14 @@ use Rattle.mm_gc.proofs.Scanning.{keeps-begun, answers-begun}
 use Rattle.mm_gc.proofs.Shown.{row-of}
 use Rattle.mm_gc.proofs.gc.Gc.begin.Goals as goal
 
-pub returns-then-running : goal.returns-then-running
-returns-then-running g c =
+pub returns-then-running-clause-row : goal.returns-then-running-clause-row
+returns-then-running-clause-row g c =
     let gc = gc_of c.self.inside in
     let view = view_of_gc gc in
-    record {
-      row = subst (λ (gc : Gc). Answers gc gc commands.Begin (replies.Refused refusals.Busy)) c.self.view_is
-          (row-of view view commands.Begin [] (replies.Refused refusals.Busy)
-          (row-refused view commands.Begin refusals.Busy
-          (begin-busy view (runs-told gc (sym c.running.ensures ∙ c.if-running.true)))));
-    }
+    subst (λ (gc : Gc). Answers gc gc commands.Begin (replies.Refused refusals.Busy)) c.self.view_is
+    (row-of view view commands.Begin [] (replies.Refused refusals.Busy)
+    (row-refused view commands.Begin refusals.Busy
+    (begin-busy view (runs-told gc (sym c.running.ensures ∙ c.if-running.true)))))
 
 pub begin-requires-clause-white : goal.begin-requires-clause-white
 begin-requires-clause-white g c =
@@ -34,16 +33,19 @@ invariant_of-self g c =
     (c.begin.ensures.sound c.self.invariant.settled.keeps.sound.heap) c.begin.ensures.keeps.known
     c.begin.ensures.few
 
-pub returns : goal.returns
-returns g c =
+pub returns-clause-row : goal.returns-clause-row
+returns-clause-row g c =
     let old = gc_of c.self.inside in
     let now : Gc = record old {
       region = record old.region { heap = c.begin.new.heap };
       marker = c.begin.new.self;
       gone_before = old.freed;
     } in
-    record {
-      row = subst (λ (gc : Gc). Answers gc now commands.Begin replies.Done) c.self.view_is
-          (answers-begun old c.self.invariant c.begin.new.heap c.begin.new.self
-          (sym c.running.ensures ∙ c.if-running.false) c.begin.ensures.grayed c.begin.ensures.runs);
-    }
+    subst (λ (gc : Gc). Answers gc now commands.Begin replies.Done) c.self.view_is
+    (answers-begun old c.self.invariant c.begin.new.heap c.begin.new.self
+    (sym c.running.ensures ∙ c.if-running.false) c.begin.ensures.grayed c.begin.ensures.runs)
+
+pub returns-clause-cost : goal.returns-clause-cost
+returns-clause-cost g c =
+    subst (λ (gc : Gc). c.begin.new.steps ≤ c.args.steps.now + 16 * (1 + length (marking_words (view_of_gc gc))))
+    c.self.view_is c.begin.ensures.cost
