@@ -1,3 +1,4 @@
+pub mod Behind
 pub mod Contained
 pub mod Empty
 pub mod Ends

@@ -1,6 +1,7 @@
 pub mod AreaPieces
 pub mod AreasChanged
 pub mod Changed
+pub mod Enough
 pub mod Needed
 pub mod Resized
 pub mod Rewritten

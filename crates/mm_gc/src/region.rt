@@ -1,11 +1,13 @@
 // The region: objects and areas in pages, which it gets and gives back as they need them.
-ghost use Rattle.std.specs.Prelude.{◌≡◌, ◌≤◌, ◌<◌, ◌/◌, ◌==◌, not, false, length, take, Some, None, IfSome, slice_get};
+ghost use Rattle.std.specs.Prelude.{◌≡◌, ◌+◌, ◌≤◌, ◌<◌, ◌/◌, ◌==◌, min, not, false, length, take, Some, None, IfSome};
+ghost use Rattle.std.specs.Prelude.{slice_get};
+ghost use Rattle.std.specs.Int.{div_ceil};
 ghost use Rattle.std.specs.List.{filter};
 ghost use Rattle.std.specs.Option.{option_map};
 ghost use Rattle.mm_model.specs.Areas.{most_areas};
 ghost use Rattle.mm_model.specs.ByBase.{Begins, with_entry};
 ghost use Rattle.mm_model.specs.Place as places;
-ghost use Rattle.mm_model.specs.Place.{Objects, place_among};
+ghost use Rattle.mm_model.specs.Place.{Family, Objects, place_among};
 ghost use Rattle.mm_model.specs.SizeClass.{size_of, object_bytes, area_bytes};
 ghost use Rattle.mm_model.specs.View.{View};
 ghost use Rattle.mm_model.specs.ViewEffect.{new_area_view, view_area_inserted, view_free_number};
@@ -16,12 +18,13 @@ ghost use Rattle.mm_object.specs.Header.{IsShape};
 ghost use Rattle.mm_object.specs.Heap as objects;
 ghost use Rattle.mm_sweep.specs.Release.{finalized_slots, IsReleaseCost};
 ghost use Rattle.mm_weak.specs.Links.{IsLinked, IsTarget, partner_of, with_weak, newly_weak, kept_in, made_in};
-ghost use Rattle.mm_gc.specs.Gc.{objects_in, areas_in, pieces_in};
+ghost use Rattle.mm_gc.specs.Gc.{objects_in, areas_in, pieces_in, pages_needed};
 ghost use Rattle.mm_gc.specs.Kept.{KeepsRegion, IsSettled};
 ghost use Rattle.mm_gc.specs.Regions.{IsSameRegion, IsSameInside, limit_in, IsReleasable, IsReleased};
 ghost use Rattle.mm_gc.specs.Rows.{WritesLines};
 
 use crate::wanted::{AreaWanted, Reach};
+use mm_cells::PAGE_BYTES;
 use mm_model::{AreaAnswer, Colour, Phase, Shape, WeakAnswer};
 use mm_object::Heap;
 use mm_pages::{NoRun, PageHeap};
@@ -31,6 +34,12 @@ use mm_sweep::{Journal, release};
 use mm_weak::weak_of;
 use mm_words::{Arena, Words};
 use std::sync::ledger::Ledger;
+
+/// The bytes of a slot, and of a cell of an area.
+const WORD_BYTES: u32 = 4;
+
+/// The bytes of an object without slots, as a weak object is.
+const HEADER_BYTES: u32 = 16;
 
 /// Objects and areas with the pages that they lie in, and the arena of all words. Its memory is the arena's last piece.
 pub(crate) struct Region {
@@ -109,18 +118,32 @@ impl Region {
         self.resize(needed);
     }
 
-    /// Lets a search go so far.
+    /// How many pages are enough for a search for so many bytes. Behind the pages that the region needs all are free,
+    /// so the search finds no place past as many of them as the bytes take.
+    fn enough_for(&self, bytes: u32) -> u32
+        requires most { bytes ≤ 4194316 }
+        requires settled { IsSettled self.now }
+        ensures { result ≡ min (pages_needed self.now + div_ceil bytes 4096) self.now.most }
+    {
+        let enough = self.heap.size() + bytes.div_ceil(PAGE_BYTES);
+        enough.min(self.most)
+    }
+
+    /// Lets a search for so many bytes go so far.
     #[inline]
-    fn open(&mut self, reach: Reach)
-        requires { IsSettled self.old }
-        ensures limit { self.new.pages.limit ≡ limit_in reach self.old }
+    fn open(&mut self, reach: Reach, bytes: u32)
+        requires some { 1 ≤ bytes }
+        requires most { bytes ≤ 4194316 }
+        requires settled { IsSettled self.old }
+        ensures place { (family : Family) → place_among (pieces_in self.new) self.new.pages.limit family (size_of bytes)
+            ≡ place_among (pieces_in self.old) (limit_in reach self.old) family (size_of bytes) }
         ensures inside { IsSameInside self.old self.new }
         ensures same { IsSameRegion self.old self.new }
         ensures keeps { KeepsRegion self.new }
     {
         match reach {
             Reach::Now => {}
-            Reach::Grown => self.resize(self.most),
+            Reach::Grown => self.resize(self.enough_for(bytes)),
         }
     }
 
@@ -171,7 +194,7 @@ impl Region {
         ensures same { IsSameRegion self.old self.new }
         ensures settled { IsSettled self.new }
     {
-        self.open(reach);
+        self.open(reach, HEADER_BYTES + WORD_BYTES * shape.slots);
         let made = self.place_object(shape, colour, steps);
         self.settle();
         made
@@ -228,7 +251,7 @@ impl Region {
         ensures same { IsSameRegion self.old self.new }
         ensures settled { IsSettled self.new }
     {
-        self.open(reach);
+        self.open(reach, HEADER_BYTES);
         let made = self.place_weak(target, colour, steps);
         self.settle();
         made
@@ -295,7 +318,7 @@ impl Region {
         ensures same { IsSameRegion self.old self.new }
         ensures settled { IsSettled self.new }
     {
-        self.open(reach);
+        self.open(reach, WORD_BYTES * wanted.cells);
         let made = self.place_area(wanted, steps);
         self.settle();
         made

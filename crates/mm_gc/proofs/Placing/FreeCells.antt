@@ -49,16 +49,16 @@ overlaps-page p page a b =
     (lt-ltb p.base (4096 * page + 4096) a) (lt-ltb (4096 * page) (p.base + p.extent) b)
 
 -- a cell of a page of the family and class
-record IsOfPage (pieces : List Piece) (family : Family) (extent page : ℕ) : Type 0 where
-  piece : Piece
-  within : Contains pieces piece
-  family_is : piece.family ≡ family
-  extent_is : piece.extent ≡ extent
-  before_end : piece.base < 4096 * page + 4096
-  past_start : 4096 * page < piece.base + piece.extent
+pub record IsOfPage (pieces : List Piece) (family : Family) (extent page : ℕ) : Type 0 where
+  pub piece : Piece
+  pub within : Contains pieces piece
+  pub family_is : piece.family ≡ family
+  pub extent_is : piece.extent ≡ extent
+  pub before_end : piece.base < 4096 * page + 4096
+  pub past_start : 4096 * page < piece.base + piece.extent
 
-page_of-any : (pieces : List Piece) (family : Family) (extent page : ℕ) → is_page_of pieces family extent page ≡ true
-    → IsOfPage pieces family extent page
+pub page_of-any : (pieces : List Piece) (family : Family) (extent page : ℕ)
+    → is_page_of pieces family extent page ≡ true → IsOfPage pieces family extent page
 page_of-any pieces family extent page e =
     let some = some_passes
     (λ (piece : Piece). same_family piece.family family && piece.extent == extent && overlaps (4096 * page) 4096 piece)

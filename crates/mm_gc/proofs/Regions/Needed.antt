@@ -44,8 +44,16 @@ module _ (r : Region) (keeps : KeepsRegion r) where
   pub objects-end_needed : objects.EndsBy r.heap (pages_needed r)
   objects-end_needed = objects_end r.heap (pieces_in r) r.least (region-shown r keeps).objects_are
 
-  pub objects-end_most : objects.EndsBy r.heap r.most
-  objects-end_most base object begins = omega (arith, objects-end_needed base object begins, needed-most)
+  -- so do more pages
+  pub pages-end_within : (size : ℕ) → pages_needed r ≤ size → EndsBy r.pages size
+  pages-end_within size enough = record {
+    out = λ p c. omega (arith, pages-end_needed.out p c, enough);
+    parked = λ p c. omega (arith, pages-end_needed.parked p c, enough);
+  }
+
+  pub objects-end_within : (size : ℕ) → pages_needed r ≤ size → objects.EndsBy r.heap size
+  objects-end_within size enough base object begins =
+      omega (arith, objects-end_needed base object begins, enough)
 
 -- the same objects and areas need the same room
 pub pieces-same : (before after : Region) → IsSameInside before after → pieces_in after ≡ pieces_in before

@@ -1,8 +1,12 @@
 use Rattle.std.proofs.Common.{◌≡◌, ◌/◌, Some, None, sym, ◌∙◌, subst}
 use Rattle.std.specs.Prelude.{IfSome, slice_get}
 use Rattle.mm_model.specs.ByBase.{Begins, with_entry}
+use Rattle.mm_model.specs.Place.{Objects}
 use Rattle.mm_object.specs.Object.{StoredObjects, newly_stored}
 use Rattle.mm_gc.proofs.region.Region.create.Goals as goal
+
+pub returns-clause-place : goal.returns-clause-place
+returns-clause-place g c = c.place_object-made.ensures.place ∙ c.open.ensures.place Objects
 
 pub returns-clause-created : goal.returns-clause-created
 returns-clause-created g c =

@@ -1,10 +1,14 @@
 use Rattle.std.proofs.Common.{◌≡◌, ◌/◌, Some, None, sym, ◌∙◌, subst}
 use Rattle.std.specs.Prelude.{IfSome, slice_get}
 use Rattle.mm_model.specs.ByBase.{Begins, with_entry}
+use Rattle.mm_model.specs.Place.{Objects}
 use Rattle.mm_object.specs.Object.{StoredObject, StoredObjects}
 use Rattle.mm_weak.specs.Links.{with_weak, newly_weak}
 use Rattle.mm_gc.proofs.Regions.SameObjects.{linked-same}
 use Rattle.mm_gc.proofs.region.Region.create_weak.Goals as goal
+
+pub returns-clause-place : goal.returns-clause-place
+returns-clause-place g c = c.place_weak-made.ensures.place ∙ c.open.ensures.place Objects
 
 pub place_weak-made-requires-clause-linked : goal.place_weak-made-requires-clause-linked
 place_weak-made-requires-clause-linked g c =
