@@ -48,6 +48,8 @@ row 'new t 0 4, pop 1, with collections' empty $'new t 0 4\npop 1\n' 20000 2
 row 'new r 0 2, pop 1, with reaps' empty $'new r 0 2\npop 1\n' 20000 2
 row 'weak 1, look 0, pop 2' beside $'weak 1\nlook 0\npop 2\n' 20000 3
 row 'aput 0 3 0' area $'aput 0 3 0\n' 20000 1
+row 'new t 0 1000, in pages that are there' empty $'new t 0 1000\n' 100 1 --pages 4096 --max 4096
+row 'new t 0 1000, in a page more each' empty $'new t 0 1000\n' 100 1 --pages 2 --max 4096
 for objects in 10000 100000 500000; do
     list $objects >listed
     row "collect, for each of $objects objects" listed $'collect\n' 2 $objects --pages 4096 --max 4096
