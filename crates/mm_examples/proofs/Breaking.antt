@@ -1,5 +1,5 @@
 -- Logs that are legal up to their last turn, and what they keep and break.
-use Rattle.std.proofs.Common.{◌≡◌, ◌≤◌, true, List, [], ◌∷◌, ◌++◌, map, refl, sym, ap, ◌∙◌, subst, ◌⊎◌, ⊎_elim, inl}
+use Rattle.std.proofs.Common.{◌≡◌, ◌≤◌, ℕ, true, false, List, [], ◌∷◌, ◌++◌, map, refl, sym, ap, ◌∙◌, subst, ◌⊎◌, ⊎_elim, inl}
 use Rattle.std.proofs.Common.{inr}
 use Rattle.std.proofs.lemmas.List.{append-nil, map-append}
 use Rattle.std.proofs.lemmas.Grind.{flat_map-append}
@@ -8,13 +8,16 @@ use Rattle.std.specs.List.{AllByRecursion, flat_map}
 use Rattle.mm_model.specs.declared.command.Command.{Command}
 use Rattle.mm_model.specs.declared.line.Line.{Line}
 use Rattle.mm_model.specs.declared.settings.Settings.{Settings}
+use Rattle.mm_model.specs.Object.{Object}
 use Rattle.mm_model.specs.State.{State, empty_state}
 use Rattle.mm_model.specs.After.{after}
+use Rattle.mm_model.specs.Course.{IsGone}
 use Rattle.mm_model.specs.Step.{IsStep}
 use Rattle.mm_model.specs.Turns.{Turn, is_group, AreJoined, AreTurns, ComesAfter, EachTurn, AreSteps}
 use Rattle.mm_model.specs.Faithful.{IsFaithfulTurn, IsFaithful}
 use Rattle.mm_model.proofs.Faithful.Turns.{turns-same}
-use Rattle.mm_model.proofs.Good.Living.{each_append}
+use Rattle.mm_model.proofs.Good.Living.{each_get, each_append}
+use Rattle.mm_model.proofs.Lists.Truth.{no_other}
 use Rattle.mm_laws.proofs.Turning.Faithful.{faithful-steps}
 use Rattle.mm_laws.proofs.Turning.Knowing.{turn_of}
 use Rattle.mm_laws.proofs.Turning.Remembering.{Knows, knows-empty, knows-steps}
@@ -145,13 +148,19 @@ each-last P turns last each own earlier turn after =
     (λ (r : ComesAfter turns earlier turn). each earlier turn r)
     (last-cases turns earlier turn last after.later after.is)
 
+-- nothing is gone where each object lives
+pub none-gone : (b : State) → AllByRecursion (λ (object : Object). object.gone ≡ false) b.objects → (birth : ℕ)
+    → IsGone b birth → ⊥
+none-gone b all birth h =
+    no_other (each_get (λ (object : Object). object.gone ≡ false) b.objects birth h.object all h.is) h.gone
+
 -- a faithful turn keeps each promise
 promise-kept : (promise : Promise) (settings : Settings) (earlier : List Turn) (turn : Turn)
     → IsFaithfulTurn settings earlier turn → KeepsAt promise settings earlier turn
 promise-kept References settings earlier turn h = h.references
-promise-kept Protected settings earlier turn h = h.protected
+promise-kept Protected settings earlier turn h = h.lawful.protected
 promise-kept WeakReferences settings earlier turn h = h.weak
-promise-kept Collections settings earlier turn h = h.collections
+promise-kept Collections settings earlier turn h = h.lawful.collections
 promise-kept Cycles settings earlier turn h = h.cycles
 promise-kept Apart settings earlier turn h = h.apart
 

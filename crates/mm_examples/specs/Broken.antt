@@ -18,11 +18,11 @@ pub data Promise : Type 0 where
 -- what a promise says of a turn and those before it
 abbrev pub KeepsAt : Promise → Settings → List Turn → Turn → Type 0
 KeepsAt References settings earlier turn = ReadsThroughReferences earlier turn
-KeepsAt Protected settings earlier turn = SparesProtected earlier turn
+KeepsAt Protected settings earlier turn = SparesProtected turn
 KeepsAt WeakReferences settings earlier turn = FollowsTargets earlier turn
-KeepsAt Collections settings earlier turn = LeavesReached earlier turn
+KeepsAt Collections settings earlier turn = LeavesReached turn
 KeepsAt Cycles settings earlier turn = EndsCycles earlier turn
-KeepsAt Apart settings earlier turn = KeepsApart settings earlier turn
+KeepsAt Apart settings earlier turn = KeepsApart settings turn
 
 -- The log breaks the promise, and keeps every other one.
 pub record BreaksOnly (promise : Promise) (settings : Settings) (commands : List Command)

@@ -1,7 +1,7 @@
 // Logs that break one promise, keep every other one, and so aren't faithful.
 ghost use Rattle.std.specs.Prelude.{◌∷◌, [], List};
 ghost use Rattle.mm_model.specs.declared.command.Command.{Command};
-ghost use Rattle.mm_model.specs.declared.command.Command.TheVariants.{Push, Pop, Get, Put, Weak, Look};
+ghost use Rattle.mm_model.specs.declared.command.Command.TheVariants.{Push, Pop, Inner, Get, Put, Weak, Look};
 ghost use Rattle.mm_model.specs.declared.command.Command.TheVariants.{Reap, Collect, Begin, Finish};
 ghost use Rattle.mm_model.specs.declared.line.Line.{Line};
 ghost use Rattle.mm_model.specs.declared.object.Kind.TheVariants.{Traced, Counted};
@@ -9,7 +9,8 @@ ghost use Rattle.mm_model.specs.declared.settings.Settings.{Settings};
 ghost use Rattle.mm_model.specs.Faithful.{IsFaithful};
 ghost use Rattle.mm_examples.specs.Broken.{Promise, References, Protected, WeakReferences, Collections};
 ghost use Rattle.mm_examples.specs.Broken.{Cycles, Apart, BreaksOnly};
-ghost use Rattle.mm_examples.specs.Examples.{usual, new, made, word, done, reaped, collected, freed};
+ghost use Rattle.mm_model.specs.declared.refusal.Refusal.TheVariants as refusals;
+ghost use Rattle.mm_examples.specs.Examples.{usual, with_stack, new, made, word, done, refused, reaped, collected, freed};
 
 /// A log that breaks a promise isn't faithful.
 pub fn broken_logs_are_unfaithful()
@@ -53,4 +54,49 @@ pub fn a_cycle_leaves_garbage()
 /// Two objects are said to begin at one place.
 pub fn two_objects_begin_at_one_place()
     ensures { BreaksOnly Apart usual (new Traced 0 0 ∷ new Traced 0 0 ∷ []) (made 4096 ∷ made 4096 ∷ []) }
+{}
+
+/// `weak` answers on a full stack.
+pub fn weak_answers_on_a_full_stack()
+    ensures { BreaksOnly References (with_stack 2)
+        (new Traced 0 0 ∷ Push 1 ∷ Weak 1 ∷ [])
+        (made 4096 ∷ done ∷ word 4096 ∷ []) }
+{}
+
+/// `weak` of a weak reference is refused as if the cell meant nothing.
+pub fn a_weak_reference_is_said_to_mean_nothing()
+    ensures { BreaksOnly References usual
+        (new Traced 0 0 ∷ Weak 0 ∷ Weak 0 ∷ [])
+        (made 4096 ∷ made 4112 ∷ refused refusals.Nothing ∷ []) }
+{}
+
+/// `weak` through a word that lies inside of its object is refused as if the cell meant nothing.
+pub fn an_inner_reference_is_said_to_mean_nothing()
+    ensures { BreaksOnly References usual
+        (new Traced 0 4 ∷ Inner 0 4 ∷ Weak 0 ∷ [])
+        (made 4096 ∷ word 4100 ∷ refused refusals.Nothing ∷ []) }
+{}
+
+/// `put` stores a cell that there isn't.
+pub fn a_missing_cell_is_stored()
+    ensures { BreaksOnly References usual (new Traced 0 1 ∷ Put 0 0 5 ∷ []) (made 4096 ∷ done ∷ []) }
+{}
+
+/// `look` answers on a full stack.
+pub fn look_answers_on_a_full_stack()
+    ensures { BreaksOnly WeakReferences (with_stack 2)
+        (new Traced 0 0 ∷ Weak 0 ∷ Look 0 ∷ [])
+        (made 4096 ∷ made 4112 ∷ word 0 ∷ []) }
+{}
+
+/// A line tells that an object was freed where none was ever born.
+pub fn a_free_line_tells_of_nothing()
+    ensures { BreaksOnly Protected usual (Collect ∷ []) (collected 1 ∷ freed 4096 ∷ done ∷ []) }
+{}
+
+/// One object is freed twice in a phase.
+pub fn an_object_is_freed_twice()
+    ensures { BreaksOnly Protected usual
+        (new Traced 0 0 ∷ Pop 1 ∷ Collect ∷ [])
+        (made 4096 ∷ done ∷ collected 2 ∷ freed 4096 ∷ freed 4096 ∷ done ∷ []) }
 {}

@@ -3,6 +3,7 @@ pub mod Cycles
 pub mod Faithful
 pub mod Grids
 pub mod Knowing
+pub mod Lawful
 pub mod Looks
 pub mod Nothing
 pub mod Phases

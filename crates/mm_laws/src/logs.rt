@@ -14,7 +14,7 @@ ghost use Rattle.mm_model.specs.Turns.{Turn, AreTurns, AreSteps, reply_in};
 ghost use Rattle.mm_model.specs.Good.{IsGood};
 ghost use Rattle.mm_model.specs.Spelling.{spelling_of};
 ghost use Rattle.mm_laws.specs.Lines.{IsSpelledInFull};
-ghost use Rattle.mm_model.specs.Faithful.{IsFaithfulTurn, IsFaithful};
+ghost use Rattle.mm_model.specs.Faithful.{IsLawful, IsFaithfulTurn, IsFaithful};
 
 /// A legal log keeps all that is promised of logs, where the least number of pages isn't above the greatest.
 pub fn legal_logs_are_faithful()
@@ -36,6 +36,12 @@ pub fn steps_are_faithful()
     ensures one_more { (start : State) (turns : List Turn) (turn : Turn) → AreSteps start turns turn.before
         → IsStep turn.before turn.command turn.group turn.after
         → AreSteps start (turns ++ turn ∷ []) turn.after }
+{}
+
+/// What is promised of one step by itself each step keeps that begins in a good state.
+pub fn steps_are_lawful()
+    ensures { (a : State) (command : Command) (group : List Line) (b : State) → IsGood a → IsStep a command group b
+        → IsLawful (record { before = a; command = command; group = group; after = b }) }
 {}
 
 /// A legal log can be cut behind any of its commands: the lines before are legal, and those behind go on from the state

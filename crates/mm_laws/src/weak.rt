@@ -14,7 +14,7 @@ ghost use Rattle.mm_model.specs.Good.{IsGood};
 ghost use Rattle.mm_model.specs.Log.{IsRun};
 ghost use Rattle.mm_model.specs.Step.{IsStep};
 ghost use Rattle.mm_model.specs.Course.{IsGone};
-ghost use Rattle.mm_laws.specs.WeakReferences.{IsMadeFor};
+ghost use Rattle.mm_model.specs.WeakReferences.{IsMadeFor};
 
 /// A `weak` that replies a new base has made a weak reference for the object that the cell means. It has the next birth
 /// number, and lives at this base.

@@ -40,4 +40,5 @@ pub mod ViewStep
 pub mod ViewStore
 pub mod ViewTests
 pub mod ViewWords
+pub mod WeakReferences
 pub mod Words

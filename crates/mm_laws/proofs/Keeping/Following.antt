@@ -14,7 +14,7 @@ use Rattle.mm_model.proofs.Lists.Growing.{get-front}
 use Rattle.mm_model.proofs.Lists.Replaced.{get-set_same, get-set_other}
 use Rattle.mm_model.specs.Course.{IsGone}
 use Rattle.mm_model.proofs.Lists.Truth.{no_other}
-use Rattle.mm_laws.specs.WeakReferences.{IsTarget, Partner, Freed, IsMadeFor}
+use Rattle.mm_model.specs.WeakReferences.{IsTarget, Partner, Freed, IsMadeFor}
 
 -- What becomes of an object: it stands under its birth number, what was freed stays so, and a weak reference keeps its
 -- target or is emptied with it.

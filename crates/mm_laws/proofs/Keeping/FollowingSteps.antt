@@ -27,7 +27,7 @@ use Rattle.mm_model.specs.Log.{IsRun}
 use Rattle.mm_model.specs.Step.{IsPlain, Makes, MakesWeak, Reaps, Carries, Ends, Refused_as_full, Below_threshold}
 use Rattle.mm_model.specs.Step.{At_threshold, IsStepUnless, IsStep}
 use Rattle.mm_model.proofs.Good.Allowed.{all_allowed}
-use Rattle.mm_laws.specs.WeakReferences.{IsMadeFor}
+use Rattle.mm_model.specs.WeakReferences.{IsMadeFor}
 use Rattle.mm_laws.proofs.Keeping.Following.{Keeps, marks, made_for-kept, keeps-then, keeps-same_marks, keeps-same}
 use Rattle.mm_laws.proofs.Keeping.Following.{keeps-more, keeps-weak_made, keeps-released}
 use Rattle.mm_laws.proofs.Keeping.Seeing.{same-object, same-plain}

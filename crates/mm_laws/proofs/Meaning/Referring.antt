@@ -1,8 +1,8 @@
 -- What references on the stack mean, and what is read through them.
-use Rattle.std.proofs.Common.{◌≡◌, ℕ, ◌≤◌, Bool, false, not, List, [], ◌∷◌, ◌++◌, length, Some, None, ap, ◌∙◌, subst}
+use Rattle.std.proofs.Common.{◌≡◌, ℕ, ◌<◌, ◌≤◌, Bool, true, false, not, ⊎_elim, get_or, List, [], ◌∷◌, ◌++◌, length, Some, None, ap, ◌∙◌, subst}
 use Rattle.std.proofs.Common.{arith}
 use Rattle.std.proofs.lemmas.Bool.Decides.{nat_tests}
-use Rattle.std.proofs.lemmas.Option.{slice_get_within}
+use Rattle.std.proofs.lemmas.Option.{slice_get_within, slice_get_cases}
 use Rattle.std.specs.Prelude.{IsTrue, IfSome, is_some, nat_le, slice_get}
 use Rattle.std.specs.Option.{option_and_then, option_or, option_map_or}
 use Rattle.mm_model.specs.declared.command.Command.TheVariants as commands
@@ -44,6 +44,14 @@ within-get xs k x e =
     let less = slice_get_within xs k x e in
     let past : length xs ≤ k = grind (arith, nat_tests) in
     omega arith)
+
+pub past-get : {X : Type 0} (xs : List X) (k : ℕ) → slice_get xs k ≡ None → nat_le (length xs) k ≡ true
+past-get {X = X} xs k e =
+    ⊎_elim
+    (λ (l : (x : X) × (k < length xs) × (slice_get xs k ≡ Some x) × (get_or xs k x ≡ x)).
+    let first = l.2 in cc)
+    (λ (r : (length xs ≤ k) × (slice_get xs k ≡ None)). let past = r.0 in grind (arith, nat_tests))
+    (slice_get_cases xs k).1
 
 module _ (a : State) (i s birth : ℕ) (value : Value) (object : Object) (read : Value)
     (cell : slice_get a.stack i ≡ Some value) (origin : value.origin ≡ Some birth)

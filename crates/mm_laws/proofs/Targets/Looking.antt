@@ -18,7 +18,7 @@ use Rattle.mm_model.specs.Course.{IsGone}
 use Rattle.mm_model.specs.Good.{IsGood}
 use Rattle.mm_model.specs.Step.{IsStepUnless, IsCarriedOut, IsStep}
 use Rattle.mm_model.proofs.Cycle.Courses.{gone_lives_not}
-use Rattle.mm_laws.specs.WeakReferences.{IsMadeFor}
+use Rattle.mm_model.specs.WeakReferences.{IsMadeFor}
 use Rattle.mm_laws.proofs.Meaning.Referring.{within-get}
 use Rattle.mm_laws.proofs.Targets.WeakReferences.{look-gone, look-lives, gone_or_lives}
 
@@ -29,7 +29,7 @@ Tells a target group =
     × ((word ≡ 0) ↔ IsGone a target)
 
 module _ (a : State) (i weak target : ℕ) (object : Object) (good : IsGood a) (made : IsMadeFor a weak target)
-    (lives : Lives a weak object) (means : meant_at a i ≡ Some weak) (room : is_stack_full a ≡ false) where
+    (lives : Lives a weak object) (means : meant_at a i ≡ Some weak) where
   meant_object : object_meant a i ≡ Some object
   meant_object = ap (λ m. option_and_then (slice_get a.objects) m) means ∙ lives.is
 
@@ -48,8 +48,10 @@ module _ (a : State) (i weak target : ℕ) (object : Object) (good : IsGood a) (
       ap (λ o. option_map_or (λ (x : Object). is_weak x.kind) o false) meant_object
       ∙ subst (λ (o : Object). is_weak o.kind ≡ true) same made.is_weak
 
-  pub look_allowed : refusal a (commands.Look i) ≡ None
-  look_allowed =
+  -- a full stack is all that may refuse it
+  look_row : (full : Bool) → is_stack_full a ≡ full
+      → refusal a (commands.Look i) ≡ first_refusal ((full, refusals.StackFull) ∷ [])
+  look_row full room =
       let row = λ (none nothing other full : Bool).
       first_refusal ((none, refusals.NoCell) ∷ (nothing, refusals.Nothing) ∷ (other, refusals.NoWeak)
       ∷ (full, refusals.StackFull) ∷ []) in
@@ -57,11 +59,19 @@ module _ (a : State) (i weak target : ℕ) (object : Object) (good : IsGood a) (
       let fits : not (means_weak a i) ≡ false = ap not weak_is_meant in
       λ t. row (cell t) (something t) (fits t) (room t)
 
+  pub look_refused : is_stack_full a ≡ true → refusal a (commands.Look i) ≡ Some refusals.StackFull
+  look_refused = look_row true
+
+  pub look_allowed : is_stack_full a ≡ false → refusal a (commands.Look i) ≡ None
+  look_allowed = look_row false
+
   pub effect-look : plain_effect a (commands.Look i) ≡ look_effect a object.partner
   effect-look = ap (λ o. with_some o a (λ (x : Object). look_effect a x.partner)) meant_object
 
-  pub look-tells : (group : List Line) (b : State) → IsStep a (commands.Look i) group b → Tells a target group
-  look-tells group b step = carried (subst (λ r. IsStepUnless r a (commands.Look i) group b) look_allowed step)
+  pub look-tells : is_stack_full a ≡ false → (group : List Line) (b : State) → IsStep a (commands.Look i) group b
+      → Tells a target group
+  look-tells room group b step =
+      carried (subst (λ r. IsStepUnless r a (commands.Look i) group b) (look_allowed room) step)
     where
       carried : IsCarriedOut a (commands.Look i) group b → Tells a target group
       carried c = split (gone_or_lives a weak target object good made lives)

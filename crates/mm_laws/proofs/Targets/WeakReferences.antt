@@ -22,7 +22,7 @@ use Rattle.mm_model.proofs.Good.Living.{lives_from_page_1}
 use Rattle.mm_model.proofs.Good.Steps.{step_is_good}
 use Rattle.mm_model.specs.Course.{IsGone}
 use Rattle.mm_model.proofs.Cycle.Courses.{gone_lives_not}
-use Rattle.mm_laws.specs.WeakReferences.{IsTarget, Partner, Freed, IsMadeFor}
+use Rattle.mm_model.specs.WeakReferences.{IsTarget, Partner, Freed, IsMadeFor}
 use Rattle.mm_laws.proofs.Keeping.Following.{Keeps, made_for-kept, keeps-then}
 use Rattle.mm_laws.proofs.Keeping.FollowingSteps.{length-searched, keeps-ended, keeps-one_more}
 use Rattle.mm_laws.proofs.Meaning.Referring.{lives-reference}

@@ -15,8 +15,9 @@ use Rattle.mm_model.specs.Good.{IsGood}
 use Rattle.mm_model.proofs.Good.Steps.{step_is_good}
 use Rattle.mm_model.proofs.Steps.Determining.{lines_determine_the_state}
 use Rattle.mm_laws.proofs.Turning.Knowing.{turn_of}
+use Rattle.mm_laws.proofs.Turning.Lawful.{lawful-step}
 use Rattle.mm_laws.proofs.Turning.Looks.{weak-step}
-use Rattle.mm_laws.proofs.Turning.Promises.{protected-step, collections-step, cycles-step}
+use Rattle.mm_laws.proofs.Turning.Promises.{cycles-step}
 use Rattle.mm_laws.proofs.Turning.Reading.{references-step}
 use Rattle.mm_laws.proofs.Turning.Remembering.{Knows, knows-empty, knows-step, knows-steps}
 use Rattle.mm_laws.proofs.Turning.Replies.{group-step}
@@ -27,10 +28,9 @@ faithful-known : (settings : Settings) (turns : List Turn) (a : State) (command 
     → IsFaithfulTurn settings turns (turn_of a command group b)
 faithful-known settings turns a command group b known step =
     record {
+      lawful = lawful-step a command group b known.good step;
       references = references-step settings turns a command group b known step;
-      protected = protected-step settings turns a command group b known step;
       weak = weak-step settings turns a command group b known step;
-      collections = collections-step settings turns a command group b known step;
       cycles = cycles-step settings turns a command group b known step;
       apart = apart-step settings turns a command group b known step;
     }
@@ -50,26 +50,35 @@ steps-more start [] a command group b steps step = (steps, step, refl)
 steps-more start (turn ∷ turns) a command group b steps step =
     (steps.0, steps.1, steps-more turn.after turns a command group b steps.2 step)
 
--- each of some turns that are steps, after earlier ones
-pub faithful-steps : (settings : Settings) (earlier : List Turn) (a : State) (turns : List Turn) (b : State)
+-- what each step keeps after turns that are steps, each of some turns keeps that are steps, after earlier ones
+kept-steps : (P : List Turn → Turn → Type 0) (settings : Settings)
+    (own : (earlier : List Turn) (turn : Turn) → Knows settings earlier turn.before
+    → IsStep turn.before turn.command turn.group turn.after → P earlier turn)
+    (earlier : List Turn) (a : State) (turns : List Turn) (b : State)
     → Knows settings earlier a → AreSteps a turns b → (front : List Turn) (turn : Turn) (later : List Turn)
-    → front ++ turn ∷ later ≡ turns → IsFaithfulTurn settings (earlier ++ front) turn
-faithful-steps settings earlier a [] b known steps [] turn later e = cc
-faithful-steps settings earlier a [] b known steps (x ∷ front) turn later e = cc
-faithful-steps settings earlier a (first ∷ turns) b known steps [] turn later e =
+    → front ++ turn ∷ later ≡ turns → P (earlier ++ front) turn
+kept-steps P settings own earlier a [] b known steps [] turn later e = cc
+kept-steps P settings own earlier a [] b known steps (x ∷ front) turn later e = cc
+kept-steps P settings own earlier a (first ∷ turns) b known steps [] turn later e =
     let same : turn ≡ first = cc in
-    let own = faithful-known settings earlier first.before first.command first.group first.after
-    (subst (Knows settings earlier) (sym steps.0) known) steps.1 in
-    subst (λ ts. IsFaithfulTurn settings ts turn) (sym (append-nil earlier))
-    (subst (IsFaithfulTurn settings earlier) (sym same) own)
-faithful-steps settings earlier a (first ∷ turns) b known steps (x ∷ front) turn later e =
+    let here = own earlier first (subst (Knows settings earlier) (sym steps.0) known) steps.1 in
+    subst (λ ts. P ts turn) (sym (append-nil earlier)) (subst (P earlier) (sym same) here)
+kept-steps P settings own earlier a (first ∷ turns) b known steps (x ∷ front) turn later e =
     let same : x ≡ first = cc in
     let is : front ++ turn ∷ later ≡ turns = cc in
     let next = knows-step settings earlier first.before first.command first.group first.after
     (subst (Knows settings earlier) (sym steps.0) known) steps.1 in
-    subst (λ (t : Turn). IsFaithfulTurn settings (earlier ++ t ∷ front) turn) (sym same)
-    (subst (λ ts. IsFaithfulTurn settings ts turn) (append_assoc earlier (first ∷ []) front)
-    (faithful-steps settings (earlier ++ first ∷ []) first.after turns b next steps.2 front turn later is))
+    subst (λ (t : Turn). P (earlier ++ t ∷ front) turn) (sym same)
+    (subst (λ ts. P ts turn) (append_assoc earlier (first ∷ []) front)
+    (kept-steps P settings own (earlier ++ first ∷ []) first.after turns b next steps.2 front turn later is))
+
+pub faithful-steps : (settings : Settings) (earlier : List Turn) (a : State) (turns : List Turn) (b : State)
+    → Knows settings earlier a → AreSteps a turns b → (front : List Turn) (turn : Turn) (later : List Turn)
+    → front ++ turn ∷ later ≡ turns → IsFaithfulTurn settings (earlier ++ front) turn
+faithful-steps settings =
+    kept-steps (IsFaithfulTurn settings) settings
+    (λ earlier turn known step.
+    faithful-known settings earlier turn.before turn.command turn.group turn.after known step)
 
 -- the turns of a run
 pub record AreTold (a : State) (commands : List Command) (log : List Line) (b : State) : Type 0 where
@@ -117,9 +126,10 @@ legal_log_is_faithful settings commands log b growing legal =
         joined = told.joined;
       };
       references = λ earlier turn after. (each earlier turn after).references;
-      protected = λ earlier turn after. (each earlier turn after).protected;
+      protected = λ earlier turn after. (each earlier turn after).lawful.protected;
       weak = λ earlier turn after. (each earlier turn after).weak;
-      collections = λ earlier turn after. (each earlier turn after).collections;
+      collections = λ earlier turn after. (each earlier turn after).lawful.collections;
       cycles = λ earlier turn after. (each earlier turn after).cycles;
       apart = λ earlier turn after. (each earlier turn after).apart;
+      lawful = λ earlier turn after. (each earlier turn after).lawful;
     }

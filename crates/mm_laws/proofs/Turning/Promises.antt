@@ -12,9 +12,11 @@ use Rattle.mm_model.specs.Marking.{IsMarked}
 use Rattle.mm_model.specs.Phase.{AreBasesOf}
 use Rattle.mm_model.specs.Throughout.{IsUnreachable, IsThroughout}
 use Rattle.mm_model.specs.Course.{latest}
+use Rattle.mm_model.specs.Good.{IsGood}
 use Rattle.mm_model.specs.Step.{IsStep}
-use Rattle.mm_model.specs.Turns.{Turn, Way, Reaping, Collecting, Finishing, PhaseOf, phases_of, Frees}
-use Rattle.mm_model.specs.Faithful.{SparesProtected, IsLeft, LeavesReached, EndsCycle, EndsCycles}
+use Rattle.mm_model.specs.Turns.{Turn, Way, Reaping, Collecting, Finishing, PhaseOf, phases_of, EachPhase, Frees}
+use Rattle.mm_model.specs.Faithful.{TellsLiveObjects, SparesProtected, IsLeft, LeavesReached, FreesUnmarked, EndsCycle}
+use Rattle.mm_model.specs.Faithful.{EndsCycles}
 use Rattle.mm_model.proofs.Cycle.Courses.{course_is_good, throughout_is_unmarked}
 use Rattle.mm_model.proofs.Cycle.Marked.{unmarked_iff_neither, unmarked_is_not_reached}
 use Rattle.mm_model.proofs.Decided.Sets.{reached_unless_unreached}
@@ -24,7 +26,7 @@ use Rattle.mm_model.proofs.Places.Placing.{each_weaker}
 use Rattle.mm_laws.proofs.Phases.Leaving.{left-collected, lived-collected}
 use Rattle.mm_laws.proofs.Phases.Reaching.{reapable_is_not_protected, protected_is_reached}
 use Rattle.mm_laws.proofs.Turning.Knowing.{turn_of}
-use Rattle.mm_laws.proofs.Turning.Phases.{Dead, IsRight, right-step}
+use Rattle.mm_laws.proofs.Turning.Phases.{Dead, IsRight, AreRight, right-step}
 use Rattle.mm_laws.proofs.Turning.Remembering.{Knows}
 
 lives-reached : (a : State) (birth : ℕ) → IsReached a birth → (object : Object) × Lives a birth object
@@ -88,6 +90,47 @@ module _ (start : State) (phase : PhaseOf) (right : IsRight start phase) where
             (subst (λ way. Dead way phase.before birth) (sym e) (neither.1 h)),
       )
 
+  -- its bases are those of live objects
+  tells_live : TellsLiveObjects phase
+  tells_live =
+      record {
+        ascending = right.are.ascending;
+        live = each_weaker
+            (λ base. (birth : ℕ) × (object : Object) × Lives phase.before birth object × (object.base ≡ base)
+            × Dead phase.way phase.before birth)
+            (λ base. (birth : ℕ) × (object : Object) × Lives phase.before birth object × (object.base ≡ base))
+            (λ base h. (h.0, h.1, h.2, h.3)) phase.bases right.are.only;
+      }
+
+module _ (a : State) (command : Command) (group : List Line) (b : State) (good : IsGood a)
+    (step : IsStep a command group b) where
+  abbrev this : Turn
+  this = turn_of a command group b
+
+  right : AreRight a a (phases_of this) group b
+  right = right-step a command group b good step
+
+  pub protected-step : SparesProtected this
+  protected-step =
+      record {
+        told = right.told;
+        live = each_weaker (IsRight a) TellsLiveObjects (tells_live a) (phases_of this) right.each;
+        gone = right.gone;
+        spared = each_weaker (IsRight a) (λ phase. (birth : ℕ) → IsProtected phase.before birth → Frees phase birth → ⊥)
+            (spares-phase a) (phases_of this) right.each;
+      }
+
+  pub collections-step : LeavesReached this
+  collections-step =
+      each_weaker (IsRight a)
+      (λ phase. phase.way ≡ Collecting → (birth : ℕ) → IsLeft phase birth ↔ IsReached phase.before birth)
+      (left_is_reached a) (phases_of this) right.each
+
+  pub finishes-step : EachPhase Finishing this FreesUnmarked
+  finishes-step =
+      each_weaker (IsRight a) (λ phase. phase.way ≡ Finishing → FreesUnmarked phase)
+      (λ phase own e. frees_neither a phase own e) (phases_of this) right.each
+
 latest_unreachable : (begun : State) (states : List State) (birth : ℕ) → IsThroughout begun states birth
     → IsUnreachable (latest begun states) birth
 latest_unreachable begun [] birth h = h
@@ -95,25 +138,6 @@ latest_unreachable begun (a ∷ earlier) birth h = h.1
 
 module _ (settings : Settings) (turns : List Turn) (a : State) (command : Command) (group : List Line) (b : State)
     (known : Knows settings turns a) (step : IsStep a command group b) where
-  abbrev this : Turn
-  this = turn_of a command group b
-
-  pub protected-step : SparesProtected turns this
-  protected-step =
-      let right = right-step a command group b known.good step in
-      record {
-        told = right.told;
-        gone = right.gone;
-        spared = each_weaker (IsRight a) (λ phase. (birth : ℕ) → IsProtected phase.before birth → Frees phase birth → ⊥)
-            (spares-phase a) (phases_of this) right.each;
-      }
-
-  pub collections-step : LeavesReached turns this
-  collections-step =
-      each_weaker (IsRight a)
-      (λ phase. phase.way ≡ Collecting → (birth : ℕ) → IsLeft phase birth ↔ IsReached phase.before birth)
-      (left_is_reached a) (phases_of this) (right-step a command group b known.good step).each
-
   ends-cycle : (phase : PhaseOf) → IsRight a phase → phase.way ≡ Finishing → EndsCycle turns phase
   ends-cycle phase right e =
       let own = right.finishing e in
@@ -134,7 +158,7 @@ module _ (settings : Settings) (turns : List Turn) (a : State) (command : Comman
             (subst (λ s. (IsMarked s birth → ⊥) × (IsReached s birth → ⊥)) here (unmarked, last.unreached));
       }
 
-  pub cycles-step : EndsCycles turns this
+  pub cycles-step : EndsCycles turns (turn_of a command group b)
   cycles-step =
-      each_weaker (IsRight a) (λ phase. phase.way ≡ Finishing → EndsCycle turns phase) ends-cycle (phases_of this)
-      (right-step a command group b known.good step).each
+      each_weaker (IsRight a) (λ phase. phase.way ≡ Finishing → EndsCycle turns phase) ends-cycle
+      (phases_of (turn_of a command group b)) (right-step a command group b known.good step).each

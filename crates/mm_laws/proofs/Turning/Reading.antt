@@ -1,6 +1,6 @@
 -- A step keeps what is promised of references: it acts on the object for which a reference was made, as it was born.
 use Rattle.std.proofs.Common.{◌≡◌, ℕ, ◌+◌, ◌<◌, ◌≤◌, Bool, true, false, not, List, [], ◌∷◌, map, length, Option, Some}
-use Rattle.std.proofs.Common.{None, refl, sym, ap, ◌∙◌, subst, ⊎_elim, get_or, arith}
+use Rattle.std.proofs.Common.{None, refl, sym, ap, ◌∙◌, subst, ◌⊎◌, ⊎_elim, inl, inr, get_or, arith}
 use Rattle.std.proofs.lemmas.Bool.Decides.{nat_tests}
 use Rattle.std.proofs.lemmas.Option.{slice_get-map, slice_get_cases}
 use Rattle.std.specs.Prelude.{IfSome, is_some, slice_get, nat_le, nat_lt, ◌||◌, if◌then◌else◌}
@@ -17,27 +17,31 @@ use Rattle.mm_model.specs.declared.settings.Settings.{Settings}
 use Rattle.mm_model.specs.SizeClass.{extent_of, object_bytes}
 use Rattle.mm_model.specs.Value.{Value, reference}
 use Rattle.mm_model.specs.Object.{Object, is_scanned, is_weak}
-use Rattle.mm_model.specs.State.{State, Lives}
+use Rattle.mm_model.specs.State.{State, Lives, one_more_command}
 use Rattle.mm_model.specs.Words.{slot_kind_at, slot_kind, falls}
 use Rattle.mm_model.specs.Meaning.{resolved, meant, meant_at, object_meant}
+use Rattle.mm_model.specs.Place.{Family, Objects}
 use Rattle.mm_model.specs.Store.{refuses_word, store_reply}
+use Rattle.mm_model.specs.Search.{place_grown, Searches, At_once, After_reap, After_collection}
 use Rattle.mm_model.specs.Good.{IsPaired, IsGood}
 use Rattle.mm_model.specs.Effect.{Effect, with_some, map_reply, pushes, put_effect, weak_effect, weak_made}
 use Rattle.mm_model.specs.Effect.{pushes_object, plain_effect}
 use Rattle.mm_model.specs.Refusing.{first_refusal, refusal, no_cell, means_nothing, means_weak, is_outside, has_no_slot}
 use Rattle.mm_model.specs.Refusing.{refuses_in_slot, is_stack_full, word_at}
-use Rattle.mm_model.specs.Step.{MakesWeak, Carries, IsStepUnless, IsStep}
+use Rattle.mm_model.specs.Step.{Makes, MakesWeak, Carries, is_full, Ends, Refused_as_full, Below_threshold}
+use Rattle.mm_model.specs.Step.{At_threshold, IsCarriedOut, IsStepUnless, IsStep}
 use Rattle.mm_model.specs.Turns.{Turn, Born, born_at, births_if, births_of, births_in, made_for, last_written, reply_in}
-use Rattle.mm_model.specs.Faithful.{unless_full, inner_answer, get_answer, map_answer, born_slot_kind, put_answer}
-use Rattle.mm_model.specs.Faithful.{HoldsReference, HasWeak, ActsOnOrigin, ReadsThroughReferences}
+use Rattle.mm_model.specs.Faithful.{unless_full, inner_answer, get_answer, map_answer, born_slot_kind, stored_answer}
+use Rattle.mm_model.specs.Faithful.{put_answer, HoldsReference, FindsNoPlace, HasWeak, AnswersWeak, ActsOnOrigin}
+use Rattle.mm_model.specs.Faithful.{ReadsThroughReferences}
 use Rattle.mm_model.proofs.Good.Allowed.{word_at-value}
 use Rattle.mm_model.proofs.Good.Living.{each_get, each_append}
-use Rattle.mm_laws.specs.WeakReferences.{IsTarget, Partner, Freed, IsMadeFor}
+use Rattle.mm_model.specs.WeakReferences.{IsTarget, Partner, Freed, IsMadeFor}
 use Rattle.mm_model.proofs.Cycle.Courses.{gone_lives_not}
 use Rattle.mm_model.proofs.Lists.Keyed.{refuted}
 use Rattle.mm_model.proofs.Lists.Truth.{no_other}
-use Rattle.mm_laws.proofs.Keeping.FollowingSteps.{strong-allowed}
-use Rattle.mm_laws.proofs.Meaning.Referring.{lives-reference, resolved-reference, within-get}
+use Rattle.mm_laws.proofs.Keeping.FollowingSteps.{keeps-searched, strong-allowed}
+use Rattle.mm_laws.proofs.Meaning.Referring.{lives-reference, resolved-reference, within-get, past-get}
 use Rattle.mm_laws.proofs.Turning.Grids.{word_in}
 use Rattle.mm_laws.proofs.Turning.Knowing.{turn_of, Outline, outline, outline_of, slot_words}
 use Rattle.mm_laws.proofs.Turning.Remembering.{Knows}
@@ -98,6 +102,14 @@ targeted (turn ∷ turns) =
 target_is_weak : (turns : List Turn) (k : ℕ) (born : Born) → slice_get (births_in turns) k ≡ Some born
     → (target : ℕ) → born.target ≡ Some target → is_weak born.shape.kind ≡ true
 target_is_weak turns k born e = each_get IsWeakIfTargeted (births_in turns) k born (targeted turns) e
+
+-- a search that finds nothing leaves a state in which there is no place
+searched-none : (a : State) (family : Family) (bytes : ℕ) (log : List Line) (b : State) (found : Option ℕ)
+    → Searches a family bytes log b found → found ≡ None → place_grown b family bytes ≡ None
+searched-none a family bytes log b found (At_once base place lines same is) e = cc
+searched-none a family bytes log b found (After_reap base dead none reapable place lines same is) e = cc
+searched-none a family bytes log b found (After_collection dead lost none reapable no_place unreached lines same is) e =
+    ap (λ s. place_grown s family bytes) same ∙ sym is ∙ e
 
 module _ (settings : Settings) (turns : List Turn) (a : State) (known : Knows settings turns a) (i birth : ℕ)
     (holds : HoldsReference a i birth) where
@@ -254,10 +266,10 @@ module _ (settings : Settings) (turns : List Turn) (a : State) (known : Knows se
   kind_is : (s : ℕ) → slot_kind object s ≡ born_slot_kind born s
   kind_is s = ap (λ (o : Outline). slot_kind_at (is_scanned o.kind) o.counted s) (sym origin.outlined)
 
-  put-answer : (s j : ℕ) (stored : Value) → slice_get a.stack j ≡ Some stored
+  stored-answer : (s j : ℕ) (stored : Value) → slice_get a.stack j ≡ Some stored
       → answered (refusal a (commands.Put i s j)) (plain_effect a (commands.Put i s j)).reply
-      ≡ put_answer a born s stored.word
-  put-answer s j stored cell =
+      ≡ stored_answer a born s stored.word
+  stored-answer s j stored cell =
       let cells : (no_cell a i || no_cell a j) ≡ false =
       ap (λ c. c || no_cell a j) there ∙ within-get a.stack j stored cell in
       let refuses : refuses_in_slot a i s j ≡ refuses_word a (born_slot_kind born s) stored.word =
@@ -283,6 +295,18 @@ module _ (settings : Settings) (turns : List Turn) (a : State) (known : Knows se
       ∷ (refuses t, refusals.NotCounted) ∷ [])) (store_reply a (born_slot_kind born s) stored.word))
       ∙ row-answer refusals.NoCell refusals.Nothing refusals.NoSlot refusals.NotCounted (nat_lt s born.shape.slots)
       (refuses_word a (born_slot_kind born s) stored.word) (store_reply a (born_slot_kind born s) stored.word)
+
+  put-answer : (s j : ℕ) (stored : Option Value) → slice_get a.stack j ≡ stored
+      → answered (refusal a (commands.Put i s j)) (plain_effect a (commands.Put i s j)).reply
+      ≡ put_answer a born s stored
+  put-answer s j (Some stored) cell = stored-answer s j stored cell
+  put-answer s j None cell =
+      let cells : (no_cell a i || no_cell a j) ≡ true =
+      ap (λ c. c || no_cell a j) there ∙ past-get a.stack j cell in
+      λ t. answered
+      (first_refusal ((cells t, refusals.NoCell) ∷ (means_nothing a i, refusals.Nothing)
+      ∷ (has_no_slot a i s, refusals.NoSlot) ∷ (refuses_in_slot a i s j, refusals.NotCounted) ∷ []))
+      (plain_effect a (commands.Put i s j)).reply
 
   -- `weak`, of the weak reference that there is
   born_of : (k : ℕ) (x : Object) → slice_get a.objects k ≡ Some x
@@ -371,14 +395,35 @@ module _ (settings : Settings) (turns : List Turn) (a : State) (known : Knows se
                 h.lives.at,
               )
 
+  module _ (group : List Line) (b : State) (step : IsStep a (commands.Weak i) group b) where
+    kind-meant : means_weak a i ≡ is_weak object.kind
+    kind-meant = ap (λ o. option_map_or (λ (x : Object). is_weak x.kind) o false) meant_object
+
+    -- what refuses it is that it is a weak reference, or a full stack
+    weak_row : (own full : Bool) → is_weak object.kind ≡ own → is_stack_full a ≡ full
+        → refusal a (commands.Weak i)
+        ≡ first_refusal ((own, refusals.NoWeak) ∷ (full, refusals.StackFull) ∷ [])
+    weak_row own full kind room =
+        let weak : means_weak a i ≡ own = kind-meant ∙ kind in
+        λ t. first_refusal ((there t, refusals.NoCell) ∷ (something t, refusals.Nothing) ∷ (weak t, refusals.NoWeak)
+        ∷ (room t, refusals.StackFull) ∷ [])
+
+    refused-replied : (because : Refusal) → refusal a (commands.Weak i) ≡ Some because
+        → reply_in group ≡ Some (replies.Refused because)
+    refused-replied because is =
+        let m = subst (λ r. IsStepUnless r a (commands.Weak i) group b) is step in ap reply_in m.group_is
+
+    of_weak-replied : is_weak object.kind ≡ true → reply_in group ≡ Some (replies.Refused refusals.NoWeak)
+    of_weak-replied kind = refused-replied refusals.NoWeak (weak_row true (is_stack_full a) kind refl)
+
+    full-replied : is_weak object.kind ≡ false → is_stack_full a ≡ true
+        → reply_in group ≡ Some (replies.Refused refusals.StackFull)
+    full-replied kind full = refused-replied refusals.StackFull (weak_row false true kind full)
+
   module _ (group : List Line) (b : State) (step : IsStep a (commands.Weak i) group b) (fits : is_stack_full a ≡ false)
     where
       weak_allowed : is_weak object.kind ≡ false → refusal a (commands.Weak i) ≡ None
-      weak_allowed strong =
-          let own : means_weak a i ≡ false =
-          ap (λ o. option_map_or (λ (x : Object). is_weak x.kind) o false) meant_object ∙ strong in
-          λ t. first_refusal ((there t, refusals.NoCell) ∷ (something t, refusals.Nothing) ∷ (own t, refusals.NoWeak)
-          ∷ (fits t, refusals.StackFull) ∷ [])
+      weak_allowed strong = weak_row group b step false false strong fits
 
       kept-replied : (base : ℕ) → HasWeak turns a birth base → reply_in group ≡ Some (replies.Word base)
       kept-replied base h =
@@ -446,6 +491,103 @@ module _ (settings : Settings) (turns : List Turn) (a : State) (known : Knows se
               (ap (λ (o : Object). is_weak o.kind) (sym same) ∙ strong.strong) m.carries.target m.log m.effect
               m.carries.makes replied
 
+  module _ (group : List Line) (b : State) (step : IsStep a (commands.Weak i) group b) (fits : is_stack_full a ≡ false)
+      (strong : is_weak object.kind ≡ false) where
+    carried : IsCarriedOut a (commands.Weak i) group b
+    carried =
+        subst (λ r. IsStepUnless r a (commands.Weak i) group b) (weak_allowed group b step fits strong) step
+
+    same-target : carried.carries.target ≡ birth
+    same-target = let first = carried.carries.target_is in let second = means in cc
+
+    same-meant : carried.carries.object ≡ object
+    same-meant = let first = carried.carries.object_is in let second = meant_object in cc
+
+    replied-is : reply_in group ≡ Some carried.effect.reply
+    replied-is = reply-carried a (commands.Weak i) group b carried
+
+    this-weak : (weak : ℕ) → object.partner ≡ Some weak → (base : ℕ) × HasWeak turns a birth base
+    this-weak weak is =
+        let pair = subst (λ p. IfSome p (IsPaired a birth object)) is (known.good.paired birth object referred.1) in (
+          pair.partner.base,
+          record {
+            weak = weak;
+            made = made_for-partner weak is strong;
+            lives = record { object = pair.partner; lives = pair.lives; at = refl };
+          },
+        )
+
+    -- where no place was found, the state after is that of the search, but for the number of commands
+    refused-full : carried.effect.reply ≡ replies.Refused refusals.Full
+        → place_grown carried.effect.state Objects (object_bytes 0) ≡ None
+        → FindsNoPlace (turn_of a (commands.Weak i) group b)
+    refused-full full none =
+        record {
+          refused = replied-is ∙ ap (λ (r : Reply). Some r) full;
+          none = ap (λ s. place_grown s Objects (object_bytes 0)) (carried.state_is ∙ ap one_more_command end_is) ∙ none;
+        }
+      where
+        end_is : carried.end ≡ carried.effect.state
+        end_is = split (is_full carried.effect.reply) (ap is_full full) carried.ends
+          where
+            split : (c : Bool) → c ≡ true → Ends carried.effect.state c carried.end_log carried.end
+                → carried.end ≡ carried.effect.state
+            split c e (Refused_as_full is lines same) = same
+            split c e (Below_threshold is below lines same) = absurd (no_other is e)
+            split c e (At_threshold is above reaps) = absurd (no_other is e)
+
+    made-replied : ((base : ℕ) → HasWeak turns a birth base → ⊥)
+        → ((base : ℕ) × (reply_in group ≡ Some (replies.New base)))
+        ⊎ FindsNoPlace (turn_of a (commands.Weak i) group b)
+    made-replied none =
+        by_partner object.partner refl
+        (subst (λ (x : Object). MakesWeak a carried.carries.target x.partner carried.log carried.effect) same-meant
+        carried.carries.makes)
+      where
+        by_found : (m : Makes a Objects (object_bytes 0) (λ b found. weak_effect b carried.carries.target found)
+            carried.log carried.effect) → (found : Option ℕ) → m.found ≡ found
+            → ((base : ℕ) × (reply_in group ≡ Some (replies.New base)))
+            ⊎ FindsNoPlace (turn_of a (commands.Weak i) group b)
+        by_found m None e =
+            let effect : carried.effect ≡ weak_effect m.state carried.carries.target None =
+            m.effect_is ∙ ap (weak_effect m.state carried.carries.target) e in
+            inr (refused-full (ap (λ (x : Effect). x.reply) effect)
+            (ap (λ (x : Effect). place_grown x.state Objects (object_bytes 0)) effect
+            ∙ searched-none a Objects (object_bytes 0) carried.log m.state m.found m.search e))
+        by_found m (Some place) e =
+            let kept = keeps-searched a Objects (object_bytes 0) carried.log m.state m.found m.search birth object
+            referred.1.is in
+            let there : slice_get m.state.objects carried.carries.target ≡ Some kept.after =
+            ap (slice_get m.state.objects) same-target ∙ kept.is in
+            let reply : carried.effect.reply ≡ replies.New place =
+            ap (λ (x : Effect). x.reply) (m.effect_is ∙ ap (weak_effect m.state carried.carries.target) e)
+            ∙ ap
+            (λ o. (with_some o m.state
+            (λ x. record {
+              state = weak_made m.state carried.carries.target x place;
+              reply = replies.New place;
+            })).reply)
+            there in
+            inl (place, replied-is ∙ ap (λ (r : Reply). Some r) reply)
+
+        by_partner : (partner : Option ℕ) → object.partner ≡ partner
+            → MakesWeak a carried.carries.target partner carried.log carried.effect
+            → ((base : ℕ) × (reply_in group ≡ Some (replies.New base)))
+            ⊎ FindsNoPlace (turn_of a (commands.Weak i) group b)
+        by_partner (Some weak) is m = let one = this-weak weak is in absurd (none one.0 one.1)
+        by_partner None is m = by_found m m.found refl
+
+  weak-answer : (group : List Line) (b : State) → IsStep a (commands.Weak i) group b
+      → AnswersWeak turns (turn_of a (commands.Weak i) group b) birth born
+  weak-answer group b step =
+      let kind : is_weak born.shape.kind ≡ is_weak object.kind = ap (λ (o : Outline). is_weak o.kind) origin.outlined in
+      record {
+        of_weak = λ e. of_weak-replied group b step (sym kind ∙ e);
+        full = λ e room. full-replied group b step (sym kind ∙ e) room;
+        kept = λ e fits base. (kept-replied group b step fits base, replied-kept group b step fits base);
+        made = λ e fits none. made-replied group b step fits (sym kind ∙ e) none;
+      }
+
   -- all of it
   acts_on_origin : (command : Command) (group : List Line) (b : State) → IsStep a command group b
       → ActsOnOrigin turns (turn_of a command group b) i birth holds.value.word
@@ -471,13 +613,13 @@ module _ (settings : Settings) (turns : List Turn) (a : State) (known : Knows se
             answered-step a (commands.Map i) group b (subst (λ c. IsStep a c group b) e step)
             (λ log effect m. m.effect_is)
             ∙ ap (λ (r : Reply). Some r) map-answer;
-        put = λ s j stored e cell.
+        put = λ s j e.
             answered-step a (commands.Put i s j) group b (subst (λ c. IsStep a c group b) e step)
             (λ log effect m. m.effect_is)
-            ∙ ap (λ (r : Reply). Some r) (put-answer s j stored cell);
-        weak = λ base e fits.
-            let own = subst (λ c. IsStep a c group b) e step in
-            (kept-replied group b own fits base, replied-kept group b own fits base);
+            ∙ ap (λ (r : Reply). Some r) (put-answer s j (slice_get a.stack j) refl);
+        weak = λ e.
+            subst (λ c. AnswersWeak turns (turn_of a c group b) birth born) (sym e)
+            (weak-answer group b (subst (λ c. IsStep a c group b) e step));
       }
 
 -- the commands that act on what a cell means
@@ -508,8 +650,8 @@ references-idle settings turns a command group b known idle i birth holds =
       inner = λ bytes e. absurd (no_other idle (ap goes_through e));
       get = λ s e. absurd (no_other idle (ap goes_through e));
       map = λ e. absurd (no_other idle (ap goes_through e));
-      put = λ s j stored e cell. absurd (no_other idle (ap goes_through e));
-      weak = λ base e fits. absurd (no_other idle (ap goes_through e));
+      put = λ s j e. absurd (no_other idle (ap goes_through e));
+      weak = λ e. absurd (no_other idle (ap goes_through e));
     }
 
 pub references-step : (settings : Settings) (turns : List Turn) (a : State) (command : Command) (group : List Line)

@@ -30,7 +30,7 @@ use Rattle.mm_model.proofs.Good.Starting.{empty_is_good}
 use Rattle.mm_model.proofs.Good.Steps.{shape_allowed, step_is_good}
 use Rattle.mm_model.proofs.Lists.Growing.{get-push}
 use Rattle.mm_model.proofs.Lists.Truth.{no_other}
-use Rattle.mm_laws.specs.WeakReferences.{IsMadeFor}
+use Rattle.mm_model.specs.WeakReferences.{IsMadeFor}
 use Rattle.mm_laws.proofs.Keeping.FollowingSteps.{made_for-step}
 use Rattle.mm_laws.proofs.Targets.WeakReferences.{made_for-weak}
 use Rattle.mm_laws.proofs.Turning.Cycles.{follows-step, refused-runs}
@@ -194,16 +194,24 @@ module _ (turns : List Turn) (a : State) (command : Command) (group : List Line)
         here = refl;
       }
 
-  begins-refused : (because : Refusal) → reply_in group ≡ Some (replies.Refused because) → begins this ≡ false
+  pub begins-refused : (because : Refusal) → reply_in group ≡ Some (replies.Refused because) → begins this ≡ false
   begins-refused because reply =
       ap (λ found. if option_map_or is_refusal found false then false else is_begin command) reply
 
-  begins-other : is_begin command ≡ false → begins this ≡ false
+  pub begins-other : is_begin command ≡ false → begins this ≡ false
   begins-other e = split (was_refused this)
     where
       split : (c : Bool) → (if c then false else is_begin command) ≡ false
       split true = refl
       split false = e
+
+-- `begin` is refused in a cycle alone
+pub idle-begin : (a : State) → refusal a commands.Begin ≡ None → a.cycle ≡ None
+idle-begin a allowed = none_runs a.cycle (first_refusal-None (is_some a.cycle) refusals.Busy [] allowed).0
+  where
+    none_runs : (cycle : Option Cycle) → is_some cycle ≡ false → cycle ≡ None
+    none_runs None e = refl
+    none_runs (Some cycle) e = cc
 
 -- a `begin` that isn't refused begins a cycle
 course-begun : (turns : List Turn) (a : State) (group : List Line) (b : State) → IsGood a
@@ -223,16 +231,12 @@ course-begun turns a group b good allowed step m =
       course = record {
         before = a;
         good = good;
-        idle = none_runs a.cycle (first_refusal-None (is_some a.cycle) refusals.Busy [] allowed).0;
+        idle = idle-begin a allowed;
         group = group;
         step = step;
       };
       here = refl;
     }
-  where
-    none_runs : (cycle : Option Cycle) → is_some cycle ≡ false → cycle ≡ None
-    none_runs None e = refl
-    none_runs (Some cycle) e = cc
 
 course-step : (turns : List Turn) (a : State) (command : Command) (group : List Line) (b : State) → IsGood a
     → (is_some a.cycle ≡ true → HasCourse turns a) → IsStep a command group b → is_some b.cycle ≡ true

@@ -270,7 +270,7 @@ module _ (a : State) (group : List Line) (b : State) (good : IsGood b) where
 
 pub apart-step : (settings : Settings) (turns : List Turn) (a : State) (command : Command) (group : List Line)
     (b : State) → Knows settings turns a → IsStep a command group b
-    → KeepsApart settings turns (turn_of a command group b)
+    → KeepsApart settings (turn_of a command group b)
 apart-step settings turns a command group b known step =
     let good = step_is_good a command group b known.good step in
     let same = (follows-step a command group b step).settings ∙ known.settings_are in

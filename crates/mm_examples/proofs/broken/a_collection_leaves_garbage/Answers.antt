@@ -86,7 +86,7 @@ unreached birth (By_slot _ object by holder lives held named own) = unreached by
 unlisted : false ≡ true → ⊥
 unlisted e = cc
 
-broken : LeavesReached (front usual first groups) last → ⊥
+broken : LeavesReached last → ⊥
 unfolding class_sizes
 broken kept = unreached 0 ((kept.0 refl 0).0 (record { object = object; lives = record { is = refl; live = refl } }))
 
@@ -97,6 +97,7 @@ others References differs =
 others Protected differs =
     record {
       told = refl;
+      live = (record { ascending = tt; live = tt }, tt);
       gone = λ birth h. inl (record { object = h.object; is = h.is; gone = h.gone });
       spared = (λ birth own frees. unlisted frees.listed, tt);
     }

@@ -115,6 +115,7 @@ others References differs =
 others Protected differs =
     record {
       told = refl;
+      live = (record { ascending = tt; live = tt }, tt);
       gone = λ birth h. inl (record { object = h.object; is = h.is; gone = h.gone });
       spared = (λ birth own frees. unlisted frees.listed, tt);
     }

@@ -96,7 +96,7 @@ broken : FollowsTargets (front usual first groups) last → ⊥
 unfolding class_sizes
 broken kept =
     let follows = kept 1 born refl refl in
-    let gone = (follows.empty (record { i = 0; looks = refl; means = refl; fits = refl })).0 refl in
+    let gone = (follows.looks.empty (record { i = 0; looks = refl; means = refl }) refl).0 refl in
     lives_on (subst (IsGone a) (same_target follows.target follows.made) gone)
 
 others : (other : Promise) → (other ≡ WeakReferences → ⊥) → KeepsAt other usual (front usual first groups) last
@@ -106,6 +106,7 @@ others References differs =
 others Protected differs =
     record {
       told = refl;
+      live = tt;
       gone = λ birth h. inl (record { object = h.object; is = h.is; gone = h.gone });
       spared = tt;
     }

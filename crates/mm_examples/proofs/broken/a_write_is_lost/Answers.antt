@@ -95,6 +95,7 @@ others References differs = absurd (differs refl)
 others Protected differs =
     record {
       told = refl;
+      live = tt;
       gone = λ birth h. inl (record { object = h.object; is = h.is; gone = h.gone });
       spared = tt;
     }

@@ -76,7 +76,7 @@ lives : Lives a 0 object
 unfolding class_sizes
 lives = record { is = refl; live = refl }
 
-broken : SparesProtected (front usual first groups) last → ⊥
+broken : SparesProtected last → ⊥
 unfolding class_sizes
 broken kept =
     kept.spared.0 0 (By_stack 0 object lives refl) (record { object = object; lives = lives; listed = refl })

@@ -81,7 +81,7 @@ not_there : (o : Object) → Some other ≡ Some o → o.base ≡ 4096 → ⊥
 not_there o e at =
     let same : other ≡ o = cc in apart o.base (sym (ap (λ (x : Object). x.base) same)) at
 
-broken : KeepsApart usual (front usual first groups) last → ⊥
+broken : KeepsApart usual last → ⊥
 broken kept = not_there kept.there.object kept.there.lives.is kept.there.at
 
 -- both objects live
@@ -106,7 +106,7 @@ others : (other : Promise) → (other ≡ Apart → ⊥) → KeepsAt other usual
 unfolding class_sizes
 others References differs =
     references-idle usual (front usual first groups) a (new Traced 0 0) lines b known refl
-others Protected differs = record { told = refl; gone = λ birth h. absurd (none_gone birth h); spared = tt }
+others Protected differs = record { told = refl; live = tt; gone = λ birth h. absurd (none_gone birth h); spared = tt }
 others WeakReferences differs =
     weak-idle usual (front usual first groups) a (new Traced 0 0) lines b known refl
 others Collections differs = tt

@@ -1,0 +1,114 @@
+-- The turns before the last are legal, and what the last one keeps and breaks is computed.
+use Rattle.std.proofs.Common.{◌≡◌, false, List, [], ◌∷◌, Some, None, refl, sym, ap, inl, arith}
+use Rattle.mm_model.specs.declared.command.Command.{Command}
+use Rattle.mm_model.specs.declared.line.Line.{Line}
+use Rattle.mm_model.specs.SizeClass.{class_sizes}
+use Rattle.mm_model.specs.Value.{reference}
+use Rattle.mm_model.specs.Object.{Object, newborn, is_weak}
+use Rattle.mm_model.specs.State.{State, empty_state}
+use Rattle.mm_model.specs.Turns.{Turn, Born}
+use Rattle.mm_laws.proofs.Turning.Knowing.{turn_of}
+use Rattle.mm_laws.proofs.Turning.Looks.{weak-idle}
+use Rattle.mm_laws.proofs.Turning.Remembering.{Knows}
+use Rattle.mm_examples.specs.Broken.{Promise, References, Protected, WeakReferences, Collections, Cycles, Apart}
+use Rattle.mm_examples.specs.Broken.{KeepsAt}
+use Rattle.mm_examples.proofs.Breaking.{AreChecked, are_turns, front, before, front-known, breaks-last}
+use Rattle.mm_model.specs.declared.command.Command.TheVariants.{Weak}
+use Rattle.mm_model.specs.declared.object.Kind.TheVariants.{Traced}
+use Rattle.mm_model.specs.declared.refusal.Refusal.TheVariants as refusals
+use Rattle.mm_model.specs.declared.reply.Reply.TheVariants as replies
+use Rattle.mm_model.specs.Effect.{weak_shape}
+use Rattle.mm_model.specs.Faithful.{ReadsThroughReferences}
+use Rattle.mm_examples.specs.Examples.{usual, new, made, refused}
+use Rattle.mm_examples.proofs.broken.a_weak_reference_is_said_to_mean_nothing.Goals as goal
+
+abbrev first : List Command
+first = new Traced 0 0 ∷ Weak 0 ∷ []
+
+abbrev groups : List (List Line)
+groups = (made 4096 ∷ []) ∷ (made 4112 ∷ []) ∷ []
+
+abbrev lines : List Line
+lines = refused refusals.Nothing ∷ []
+
+abbrev object : Object
+object = record (newborn (record { kind = Traced; finalize = false; counted = 0; slots = 0 }) 4096) { partner = Some 1 }
+
+abbrev weak : Object
+weak = record (newborn weak_shape 4112) { partner = Some 0 }
+
+abbrev born : Born
+born = record { base = 4112; shape = weak_shape; target = Some 0 }
+
+-- the states before and after the last turn
+abbrev a : State
+a =
+    record {
+      objects = object ∷ weak ∷ [];
+      stack = reference 4112 1 ∷ reference 4096 0 ∷ [];
+      areas = [];
+      cycle = None;
+      threshold = 256;
+      commands = 2;
+      settings = usual;
+    }
+
+abbrev b : State
+b =
+    record {
+      objects = object ∷ weak ∷ [];
+      stack = reference 4112 1 ∷ reference 4096 0 ∷ [];
+      areas = [];
+      cycle = None;
+      threshold = 256;
+      commands = 3;
+      settings = usual;
+    }
+
+abbrev last : Turn
+last = turn_of a (Weak 0) lines b
+
+checked : AreChecked (empty_state usual) first groups
+unfolding class_sizes
+checked = (refl, refl, (refl, refl, tt))
+
+here : before usual first groups ≡ a
+unfolding class_sizes
+here = refl
+
+known : Knows usual (front usual first groups) a
+known = front-known usual first groups (omega arith) checked a here
+
+same_born : (other : Born) → Some born ≡ Some other → born ≡ other
+same_born other e = cc
+
+another : Some (replies.Refused refusals.Nothing) ≡ Some (replies.Refused refusals.NoWeak) → ⊥
+another e = cc
+
+broken : ReadsThroughReferences (front usual first groups) last → ⊥
+unfolding class_sizes
+broken kept =
+    let acts = kept 0 1 (record { value = reference 4112 1; cell = refl; origin = refl }) in
+    let kind = ap (λ (x : Born). is_weak x.shape.kind) (sym (same_born acts.born acts.was_born)) in
+    another ((acts.weak refl).of_weak kind)
+
+others : (other : Promise) → (other ≡ References → ⊥) → KeepsAt other usual (front usual first groups) last
+unfolding class_sizes
+others References differs = absurd (differs refl)
+others Protected differs =
+    record {
+      told = refl;
+      live = tt;
+      gone = λ birth h. inl (record { object = h.object; is = h.is; gone = h.gone });
+      spared = tt;
+    }
+others WeakReferences differs = weak-idle usual (front usual first groups) a (Weak 0) lines b known refl
+others Collections differs = tt
+others Cycles differs = tt
+others Apart differs = record { placed = known.good.placed; there = tt }
+
+pub returns : goal.returns
+unfolding class_sizes
+returns c =
+    breaks-last usual first groups (omega arith) checked last References _ _
+    (are_turns usual first groups last (refl, (refl, tt)) refl here refl) broken others
