@@ -8,6 +8,7 @@ use Rattle.mm_model.specs.Good.{IsGood}
 use Rattle.mm_model.specs.Effect.{Effect}
 use Rattle.mm_model.specs.Step.{IsRow, RowUnless}
 use Rattle.mm_model.specs.Refusing.{refusal}
+use Rattle.mm_model.specs.After.{after}
 use Rattle.mm_model.specs.declared.refusal.Refusal.{Refusal}
 use Rattle.mm_model.specs.View.{View, Shows}
 use Rattle.mm_model.specs.ViewStep.{IsViewRow, IsViewStep}
@@ -17,6 +18,7 @@ use Rattle.mm_model.proofs.View.Shown.{shown-is, view_of-shows}
 use Rattle.mm_model.proofs.View.Rows.{row-shown}
 use Rattle.mm_model.proofs.View.Steps.{step-shown}
 use Rattle.mm_model.proofs.View.GoodViews.{shown_is_good}
+use Rattle.mm_laws.proofs.Turning.Lawful.{lawful-step}
 use Rattle.mm_gc.specs.Rows.{IsAnswered, IsRowOf, IsStepOf}
 use Rattle.mm_gc.specs.Showing.{IsShowing}
 
@@ -63,7 +65,12 @@ pub step-of : (old new : View) (command : Command) (group : List Line) → IsVie
     → (a : State) → IsGood a → Shows old a → IsStepOf new command group a
 step-of old new command group step a good shows =
     let shown = step-shown old a good shows command group new step in
-    record { step = shown.step; good = shown.good; shows = shown.shows }
+    record {
+      step = shown.step;
+      lawful = lawful-step a command group (after a command group) good shown.step;
+      good = shown.good;
+      shows = shown.shows;
+    }
 
 pub showing-good : (view : View) → IsShowing view → IsGoodView view
 showing-good view showing = shown_is_good view showing.state showing.good showing.shows

@@ -9,6 +9,7 @@ use Rattle.mm_model.specs.Good.{IsGood}
 use Rattle.mm_model.specs.Effect.{Effect}
 use Rattle.mm_model.specs.Step.{IsRow, IsStep}
 use Rattle.mm_model.specs.After.{after}
+use Rattle.mm_model.specs.Faithful.{IsLawful}
 use Rattle.mm_model.specs.View.{View, Shows}
 use Rattle.mm_model.specs.ViewStep.{IsViewRow, IsViewStep}
 use Rattle.mm_model.specs.Journal.{Writes}
@@ -48,9 +49,13 @@ pub record Tells (old new : Gc) (command : Command) (reply : Reply) (before afte
   pub answers : IsRowOf (view_of_gc old) (view_of_gc new) command log reply
   pub written : WritesLines before after log
 
--- The lines of a group are a step of a state, which stays good, and the heap shows the state after it.
+-- The lines of a group are a step of a state, which stays good, and the heap shows the state after it. The step keeps
+-- the laws for one step: no phase frees a protected object, a full collection leaves exactly what is reached, the end of
+-- a cycle frees exactly what is neither marked nor reached, and a weak reference is empty exactly once its target is
+-- gone.
 pub record IsStepOf (new : View) (command : Command) (group : List Line) (a : State) : Type 0 where
   pub step : IsStep a command group (after a command group)
+  pub lawful : IsLawful (record { before = a; command = command; group = group; after = after a command group })
   pub good : IsGood (after a command group)
   pub shows : Shows new (after a command group)
 
