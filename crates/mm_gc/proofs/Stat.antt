@@ -1,5 +1,5 @@
 -- What stat tells is what the view has.
-use Rattle.std.proofs.Common.{◌≡◌, ℕ, ◌-◌, ◌*◌, [], Bool, length, sym, ap, ◌∙◌, subst}
+use Rattle.std.proofs.Common.{◌≡◌, ℕ, ◌-◌, ◌*◌, ◌^◌, ◌<◌, [], Bool, length, sym, ap, ◌∙◌, subst, arith}
 use Rattle.std.specs.List.{count_by, fold, range_with_len}
 use Rattle.mm_model.specs.declared.command.Command.TheVariants as commands
 use Rattle.mm_model.specs.declared.reply.Reply.TheVariants as replies
@@ -8,6 +8,8 @@ use Rattle.mm_model.specs.Place.{page_end, is_vacant}
 use Rattle.mm_model.specs.View.{View}
 use Rattle.mm_model.specs.ViewEffect.{view_stat, view_free_pages}
 use Rattle.mm_model.specs.ViewWords.{view_region_pages, outside_references}
+use Rattle.mm_model.proofs.View.GoodCounts.{shown_totals}
+use Rattle.mm_model.proofs.View.GoodRoom.{few_objects}
 use Rattle.mm_pages.specs.Pages.{Pages, TellsFreePages}
 use Rattle.mm_object.specs.Heap.{cells_in}
 use Rattle.mm_fixed.specs.Cells.{cells_of}
@@ -18,7 +20,7 @@ use Rattle.mm_gc.specs.Pieces.{IsRegion}
 use Rattle.mm_gc.specs.Rows.{Answers}
 use Rattle.mm_gc.proofs.Placing.Vacant.{vacant_tells}
 use Rattle.mm_gc.proofs.Rows.Reading.{stat-row}
-use Rattle.mm_gc.proofs.Shown.{row-of}
+use Rattle.mm_gc.proofs.Shown.{row-of, showing-good}
 use Rattle.mm_gc.proofs.ZeroCount.{entries_are_zero_count}
 
 -- so many pages pass each test that tells which of them are free
@@ -33,6 +35,14 @@ IsShownRegion r = IsRegion r.pages (cells_in r.heap) (cells_of r.areas.fixed) (p
 module _ (gc : Gc) (keeps : KeepsGc gc) where
   abbrev view : View
   view = view_of_gc gc
+
+  -- so many objects live, which fits in 32 bits
+  pub live-few : gc.born - gc.freed < 2 ^ 32
+  live-few =
+      let shown = keeps.shown in
+      let totals = shown_totals view shown.state shown.good shown.shows in
+      let few = few_objects view (showing-good view shown).placed in
+      omega (arith, totals.live, few, keeps.rooms.within.most_pages)
 
   -- it has as many pages as the model says
   pages_are : gc.region.pages.limit ≡ view_region_pages view

@@ -1,5 +1,5 @@
 -- What takes room: an object, a weak object for a target, or an area.
-use Rattle.std.specs.Prelude.{◌≡◌, ◌≢◌, ◌<◌, ℕ, false, if◌then◌else◌, IsTrue, List, length, Option, Some, None}
+use Rattle.std.specs.Prelude.{◌≡◌, ◌≢◌, ◌<◌, ◌-◌, ◌^◌, ⊤, ℕ, false, if◌then◌else◌, IsTrue, List, length, Option, Some, None}
 use Rattle.mm_model.specs.declared.object.Kind.{Kind}
 use Rattle.mm_model.specs.declared.line.Line.{Line}
 use Rattle.mm_model.specs.declared.command.Command.{Command}
@@ -44,6 +44,12 @@ abbrev pub effect_of : Wanted → View → Option ℕ → ViewEffect
 effect_of (wanted.Object shape) view found = view_new_effect view shape found
 effect_of (wanted.WeakOf target) view found = view_weak_effect view target found
 effect_of (wanted.Area shape) view found = view_area_effect view shape.scanned shape.counted shape.cells found
+
+-- where an object is wanted, one more birth can be counted
+abbrev pub CanBear : Wanted → ℕ → Type 0
+CanBear (wanted.Object shape) born = born < 2 ^ 64 - 1
+CanBear (wanted.WeakOf target) born = born < 2 ^ 64 - 1
+CanBear (wanted.Area shape) born = ⊤
 
 -- where it goes
 abbrev pub place_in_reach : Reach → View → Wanted → Option ℕ

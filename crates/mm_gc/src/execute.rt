@@ -42,8 +42,8 @@ impl Gc {
         journal: &mut J,
         steps: &mut Steps<L>,
     ) -> Reply
-        requires commands { self.old.commands < 2 ^ 32 - 1 }
-        requires births { self.old.born < 2 ^ 32 - 1 }
+        requires commands { self.old.commands < 2 ^ 64 - 1 }
+        requires births { self.old.born < 2 ^ 64 - 1 }
         ensures step { Executes self.old self.new command.now result
             (record { bytes = J.kept journal.old; broken = J.is_broken journal.old })
             (record { bytes = J.kept journal.new; broken = J.is_broken journal.new }) }
@@ -92,7 +92,7 @@ impl Gc {
         journal: &mut J,
         steps: &mut Steps<L>,
     ) -> Reply
-        requires births { self.old.born < 2 ^ 32 - 1 }
+        requires births { self.old.born < 2 ^ 64 - 1 }
         ensures row { Tells self.old self.new command.now result
             (record { bytes = J.kept journal.old; broken = J.is_broken journal.old })
             (record { bytes = J.kept journal.new; broken = J.is_broken journal.new }) }

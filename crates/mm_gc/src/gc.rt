@@ -47,11 +47,11 @@ pub struct Gc {
     pub(crate) settings: Settings,
     // At so many zero-count objects a command reaps at its end.
     pub(crate) threshold: u32,
-    pub(crate) commands: u32,
-    pub(crate) born: u32,
-    pub(crate) freed: u32,
+    pub(crate) commands: u64,
+    pub(crate) born: u64,
+    pub(crate) freed: u64,
     // How many objects were gone when the cycle began.
-    pub(crate) gone_before: u32,
+    pub(crate) gone_before: u64,
 }
 
 impl Model for Gc {
@@ -108,7 +108,7 @@ fn make_region(mut arena: Arena, least: u32, most: u32) -> Region
 }
 
 impl Gc {
-    /// A heap without objects, areas and stack cells. It is refused only where there is no memory.
+    /// A heap without objects, areas and stack cells. All memory that it will ever use is asked for at once.
     pub fn make(alloc: Global, settings: Settings) -> Result<Gc, NoMemory>
         requires { IsWithinLimits settings }
         ensures { IfOk result (λ gc. Shows (view_of_gc gc) (empty_state settings)) }

@@ -42,7 +42,7 @@ impl Gc {
         journal: &mut J,
         steps: &mut Steps<L>,
     ) -> Result<u32, Refusal>
-        requires births { self.old.born < 2 ^ 32 - 1 }
+        requires births { self.old.born < 2 ^ 64 - 1 }
         ensures row { Tells self.old self.new (commands.New shape) (new_reply result)
             (record { bytes = J.kept journal.old; broken = J.is_broken journal.old })
             (record { bytes = J.kept journal.new; broken = J.is_broken journal.new }) }
@@ -75,7 +75,7 @@ impl Gc {
         journal: &mut J,
         steps: &mut Steps<L>,
     ) -> Result<WeakAnswer, Refusal>
-        requires births { self.old.born < 2 ^ 32 - 1 }
+        requires births { self.old.born < 2 ^ 64 - 1 }
         ensures row { Tells self.old self.new (commands.Weak i) (weak_reply result)
             (record { bytes = J.kept journal.old; broken = J.is_broken journal.old })
             (record { bytes = J.kept journal.new; broken = J.is_broken journal.new }) }
@@ -108,7 +108,6 @@ impl Gc {
         journal: &mut J,
         steps: &mut Steps<L>,
     ) -> Result<AreaAnswer, Refusal>
-        requires births { self.old.born < 2 ^ 32 - 1 }
         ensures row { Tells self.old self.new (commands.Root counted cells) (area_reply result)
             (record { bytes = J.kept journal.old; broken = J.is_broken journal.old })
             (record { bytes = J.kept journal.new; broken = J.is_broken journal.new }) }
@@ -129,7 +128,6 @@ impl Gc {
         journal: &mut J,
         steps: &mut Steps<L>,
     ) -> Result<AreaAnswer, Refusal>
-        requires births { self.old.born < 2 ^ 32 - 1 }
         ensures row { Tells self.old self.new (commands.Fixed cells) (area_reply result)
             (record { bytes = J.kept journal.old; broken = J.is_broken journal.old })
             (record { bytes = J.kept journal.new; broken = J.is_broken journal.new }) }
@@ -150,7 +148,6 @@ impl Gc {
         journal: &mut J,
         steps: &mut Steps<L>,
     ) -> Result<AreaAnswer, Refusal>
-        requires births { self.old.born < 2 ^ 32 - 1 }
         requires raw { area.scanned ≡ false → area.counted ≡ 0 }
         ensures row { Tells self.old self.new (area_command area) (area_reply result)
             (record { bytes = J.kept journal.old; broken = J.is_broken journal.old })

@@ -1,5 +1,5 @@
 // Phases: they free objects.
-ghost use Rattle.std.specs.Prelude.{◌≡◌, ◌≤◌, ◌+◌, ◌*◌, IfOk};
+ghost use Rattle.std.specs.Prelude.{◌≡◌, ◌≤◌, ◌+◌, ◌*◌, IfOk, OnErr};
 ghost use Rattle.mm_model.specs.declared.command.Command.TheVariants as commands;
 ghost use Rattle.mm_model.specs.declared.reply.Reply.TheVariants as replies;
 ghost use Rattle.mm_gc.specs.Replies.{done_reply};
@@ -32,7 +32,7 @@ impl Gc {
             steps,
         );
         forget_freed(&mut self.marker, &self.region.heap, steps);
-        self.freed += found;
+        self.freed += found as u64;
         self.threshold = self.settings.zct.max(2 * self.count.len());
     }
 
@@ -59,7 +59,7 @@ impl Gc {
             steps,
         );
         self.marker.end();
-        self.freed += found;
+        self.freed += found as u64;
     }
 
     /// Ends the cycle, and frees what it didn't reach.
@@ -73,6 +73,7 @@ impl Gc {
             (record { bytes = J.kept journal.new; broken = J.is_broken journal.new }) }
         ensures kept { J.keeps journal.old journal.new }
         ensures cost { IfOk result (λ _. IsFinishCost self.old steps.old steps.new) }
+        ensures refused { OnErr result (steps.new ≡ steps.old) }
     {
         if !self.marker.running() {
             return Err(Refusal::Idle);
@@ -92,7 +93,7 @@ impl Gc {
             steps,
         );
         self.marker.end();
-        self.freed += found;
+        self.freed += found as u64;
         Ok(())
     }
 }

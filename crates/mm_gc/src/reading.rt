@@ -96,7 +96,7 @@ impl Gc {
         ensures row { Answers self.now self.now commands.Stat (replies.Stat result) }
     {
         Stat {
-            objects: self.born - self.freed,
+            objects: (self.born - self.freed) as u32,
             zero: self.count.len(),
             areas: self.region.areas.live(),
             free: self.region.pages.free_pages(),

@@ -14,7 +14,7 @@ ghost use Rattle.mm_gc.specs.declared.wanted.Wanted.TheVariants as wanted;
 ghost use Rattle.mm_gc.specs.declared.wanted.Made.TheVariants as made;
 ghost use Rattle.mm_gc.specs.declared.wanted.Reach.TheVariants as reach;
 ghost use Rattle.mm_gc.specs.Gc.{view_of_gc, cycle_in};
-ghost use Rattle.mm_gc.specs.Making.{IsNewAt, IsWanted, IsMade, Searches, place_in_reach};
+ghost use Rattle.mm_gc.specs.Making.{IsNewAt, IsWanted, CanBear, IsMade, Searches, place_in_reach};
 
 use crate::gc::Gc;
 use crate::wanted::{AreaWanted, Made, Reach, Wanted};
@@ -109,7 +109,7 @@ impl Gc {
         steps: &mut Steps<L>,
     ) -> Option<u32>
         requires wanted { IsWanted (view_of_gc self.old) (wanted.Object shape) }
-        requires births { self.old.born < 2 ^ 32 - 1 }
+        requires births { self.old.born < 2 ^ 64 - 1 }
         ensures { IsMade (view_of_gc self.old) (wanted.Object shape) reach (view_of_gc self.new)
             (option_map made.Object result) }
     {
@@ -135,7 +135,7 @@ impl Gc {
         steps: &mut Steps<L>,
     ) -> Option<u32>
         requires wanted { IsWanted (view_of_gc self.old) (wanted.WeakOf target) }
-        requires births { self.old.born < 2 ^ 32 - 1 }
+        requires births { self.old.born < 2 ^ 64 - 1 }
         ensures { IsMade (view_of_gc self.old) (wanted.WeakOf target) reach (view_of_gc self.new)
             (option_map made.Object result) }
     {
@@ -170,7 +170,7 @@ impl Gc {
         steps: &mut Steps<L>,
     ) -> Option<Made>
         requires wanted { IsWanted (view_of_gc self.old) wanted }
-        requires births { self.old.born < 2 ^ 32 - 1 }
+        requires births { CanBear wanted self.old.born }
         ensures { IsMade (view_of_gc self.old) wanted reach (view_of_gc self.new) result }
     {
         match wanted {
@@ -190,7 +190,7 @@ impl Gc {
         steps: &mut Steps<L>,
     ) -> Option<Made>
         requires wanted { IsWanted (view_of_gc self.old) wanted }
-        requires births { self.old.born < 2 ^ 32 - 1 }
+        requires births { CanBear wanted self.old.born }
         ensures searched { Searches self.old self.new wanted result
             (record { bytes = J.kept journal.old; broken = J.is_broken journal.old })
             (record { bytes = J.kept journal.new; broken = J.is_broken journal.new }) }
@@ -213,7 +213,7 @@ impl Gc {
         steps: &mut Steps<L>,
     ) -> Option<Made>
         requires wanted { IsWanted (view_of_gc self.old) wanted }
-        requires births { self.old.born < 2 ^ 32 - 1 }
+        requires births { CanBear wanted self.old.born }
         requires nowhere { place_in_reach reach.Now (view_of_gc self.old) wanted ≡ None }
         ensures searched { Searches self.old self.new wanted result
             (record { bytes = J.kept journal.old; broken = J.is_broken journal.old })

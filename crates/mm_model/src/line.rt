@@ -15,13 +15,13 @@ pub enum Phase {
 #[derive(Clone, Copy, Debug, PartialEq, Eq)]
 pub struct Totals {
     /// Commands carried out, refused ones included.
-    pub commands: u32,
+    pub commands: u64,
     /// Objects that were ever made.
-    pub born: u32,
+    pub born: u64,
     /// Objects that were freed.
-    pub freed: u32,
+    pub freed: u64,
     /// Objects that live.
-    pub live: u32,
+    pub live: u64,
 }
 
 /// A line of the log.

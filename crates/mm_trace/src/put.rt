@@ -98,6 +98,17 @@ pub(crate) fn put_number(number: u32, to: &mut Lines)
     }
 }
 
+/// Appends a space and a number of up to 20 digits, as a total line has them. It is written once a log.
+#[inline(never)]
+pub(crate) fn put_count(number: u64, to: &mut Lines)
+    requires { array_vec_len to.old + 21 ≤ 4096 }
+    ensures items { to.new.items ≡ to.old.items ++ 32 ∷ decimal number }
+    ensures len { array_vec_len to.new ≤ array_vec_len to.old + 21 }
+{
+    to.push(b' ');
+    put_text(itoa::Buffer::new().format(number).as_bytes(), to);
+}
+
 /// Appends a line: a name and then numbers.
 #[inline(always)]
 pub(crate) fn put_sentence(name: &[u8], numbers: &[u32], to: &mut Lines)

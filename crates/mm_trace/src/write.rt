@@ -3,15 +3,15 @@ ghost use Rattle.std.specs.Prelude.{◌≡◌, ◌+◌, ◌≤◌, ◌++◌};
 ghost use Rattle.arrayvec.specs.ArrayVec.{array_vec_len};
 ghost use Rattle.mm_model.specs.Spelling as model;
 
-use crate::put::{Lines, put_kind, put_number, put_sentence, put_text};
+use crate::put::{Lines, put_count, put_kind, put_number, put_sentence, put_text};
 use crate::refusal_text;
 use arrayvec::ArrayVec;
 use mm_model::{AreaAnswer, Line, Mapped, Phase, Refusal, Reply, Stat, Totals};
 
-/// Appends the spelling of a line, its newline with it. No line takes more than 50 bytes.
+/// Appends the spelling of a line, its newline with it. No line takes more than 90 bytes.
 #[inline]
 pub fn write_line(line: &Line, to: &mut ArrayVec<u8, 4096>)
-    requires { array_vec_len to.old + 64 ≤ 4096 }
+    requires { array_vec_len to.old + 96 ≤ 4096 }
     ensures { to.new.items ≡ to.old.items ++ model.spelling line.now }
 {
     // What is handed on is a copy, so that a line which is most often `ok` stays in registers.
@@ -25,7 +25,7 @@ pub fn write_line(line: &Line, to: &mut ArrayVec<u8, 4096>)
 // Each line with numbers is a function of its own, so that none pays for the registers of another.
 #[inline(never)]
 fn put_line(line: &Line, to: &mut Lines)
-    requires { array_vec_len to.old + 64 ≤ 4096 }
+    requires { array_vec_len to.old + 96 ≤ 4096 }
     ensures { to.new.items ≡ to.old.items ++ model.spelling line.now }
 {
     match line {
@@ -75,11 +75,15 @@ fn put_free(base: u32, to: &mut Lines)
 
 #[inline(never)]
 fn put_total(totals: &Totals, to: &mut Lines)
-    requires { array_vec_len to.old + 64 ≤ 4096 }
+    requires { array_vec_len to.old + 96 ≤ 4096 }
     ensures { to.new.items ≡ to.old.items ++ model.spelling (Line.Total totals.now) }
 {
-    let t = *totals;
-    put_sentence(b"total", &[t.commands, t.born, t.freed, t.live], to);
+    put_text(b"total", to);
+    put_count(totals.commands, to);
+    put_count(totals.born, to);
+    put_count(totals.freed, to);
+    put_count(totals.live, to);
+    put_text(b"\n", to);
 }
 
 #[inline(never)]

@@ -24,8 +24,8 @@ fn execute_quietly<L: Ledger>(heap: &mut Gc, command: &Command, blank: Blank)
     requires name { blank.name ≡ L.name }
     requires parts { blank.parts ≡ L.parts }
     requires shared { 0 < L.parts }
-    requires commands { (view_of_gc heap.old).totals.commands < 2 ^ 32 - 1 }
-    requires births { (view_of_gc heap.old).totals.born < 2 ^ 32 - 1 }
+    requires commands { (view_of_gc heap.old).totals.commands < 2 ^ 64 - 1 }
+    requires births { (view_of_gc heap.old).totals.born < 2 ^ 64 - 1 }
     ensures { CarriesOutQuietly heap.old heap.new command.now }
 {
     let mut steps = Steps::<L>::open(blank);
@@ -36,8 +36,8 @@ fn execute_quietly<L: Ledger>(heap: &mut Gc, command: &Command, blank: Blank)
 /// Carries out the command of this number, and gives the generator's next state.
 fn execute_generated(heap: &mut Gc, seed: u32, number: u32, state: u32) -> u32
     requires number { 1 ≤ number }
-    requires commands { (view_of_gc heap.old).totals.commands < 2 ^ 32 - 1 }
-    requires births { (view_of_gc heap.old).totals.born < 2 ^ 32 - 1 }
+    requires commands { (view_of_gc heap.old).totals.commands < 2 ^ 64 - 1 }
+    requires births { (view_of_gc heap.old).totals.born < 2 ^ 64 - 1 }
     ensures next { result ≡ next_state seed number state }
     ensures carried { CarriesOutQuietly heap.old heap.new (generated_command seed number state) }
 {

@@ -85,17 +85,17 @@ impl<'a, K: Sink> LogWriter<'a, K> {
 
     // The longest line fits behind what is pending.
     fn make_room(&mut self)
-        ensures room { array_vec_len self.new.pending + 64 ≤ 4096 }
+        ensures room { array_vec_len self.new.pending + 96 ≤ 4096 }
         ensures written { Grew (kept_by K.taken self.old) (kept_by K.taken self.new) [] }
         ensures kept { KeepsOn K.faults K.taken self.old self.new }
     {
-        if self.pending.remaining_capacity() < 64 {
+        if self.pending.remaining_capacity() < 96 {
             self.write_pending();
         }
     }
 
     fn append(&mut self, line: &Line)
-        requires { array_vec_len self.old.pending + 64 ≤ 4096 }
+        requires { array_vec_len self.old.pending + 96 ≤ 4096 }
         ensures written { Grew (kept_by K.taken self.old) (kept_by K.taken self.new) (spelling line.now) }
         ensures kept { KeepsOn K.faults K.taken self.old self.new }
     {

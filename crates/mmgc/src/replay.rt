@@ -55,8 +55,8 @@ fn execute<K: Sink, L: Ledger>(
     requires name { blank.name ≡ L.name }
     requires parts { blank.parts ≡ L.parts }
     requires shared { 0 < L.parts }
-    requires commands { (view_of_gc heap.old).totals.commands < 2 ^ 32 - 1 }
-    requires births { (view_of_gc heap.old).totals.born < 2 ^ 32 - 1 }
+    requires commands { (view_of_gc heap.old).totals.commands < 2 ^ 64 - 1 }
+    requires births { (view_of_gc heap.old).totals.born < 2 ^ 64 - 1 }
     ensures carried { CarriesOut heap.old heap.new command.now
         (kept_by K.taken log.old) (kept_by K.taken log.new) }
     ensures kept { KeepsOn K.faults K.taken log.old log.new }
@@ -74,8 +74,8 @@ fn take_line<K: Sink>(
     log: &mut LogWriter<'_, K>,
     line: &[u8],
 ) -> Result<(), LineFault>
-    requires commands { (view_of_gc heap.old).totals.commands < 2 ^ 32 - 1 }
-    requires births { (view_of_gc heap.old).totals.born < 2 ^ 32 - 1 }
+    requires commands { (view_of_gc heap.old).totals.commands < 2 ^ 64 - 1 }
+    requires births { (view_of_gc heap.old).totals.born < 2 ^ 64 - 1 }
     ensures done { DoesLine (line_reading line.now) result
         ((heap.new ≡ heap.old) × (log.new ≡ log.old))
         (λ command. CarriesOut heap.old heap.new command
@@ -98,8 +98,8 @@ fn take_whole_line<K: Sink>(
     log: &mut LogWriter<'_, K>,
     line: &[u8],
 ) -> Result<(), LineFault>
-    requires commands { (view_of_gc heap.old).totals.commands < 2 ^ 32 - 1 }
-    requires births { (view_of_gc heap.old).totals.born < 2 ^ 32 - 1 }
+    requires commands { (view_of_gc heap.old).totals.commands < 2 ^ 64 - 1 }
+    requires births { (view_of_gc heap.old).totals.born < 2 ^ 64 - 1 }
     ensures done { DoesLine (line_reading line.now) result
         ((heap.new ≡ heap.old) × (log.new ≡ log.old))
         (λ command. CarriesOut heap.old heap.new command
@@ -123,8 +123,8 @@ impl Replay {
         log: &mut LogWriter<'_, K>,
         rest: &[u8],
     ) -> Result<(), LineFault>
-        requires commands { (view_of_gc heap.old).totals.commands < 2 ^ 32 - 1 }
-        requires births { (view_of_gc heap.old).totals.born < 2 ^ 32 - 1 }
+        requires commands { (view_of_gc heap.old).totals.commands < 2 ^ 64 - 1 }
+        requires births { (view_of_gc heap.old).totals.born < 2 ^ 64 - 1 }
         ensures done { DoesLine (line_reading (self.old.cutter ++ rest.now)) result
             ((heap.new ≡ heap.old) × (log.new ≡ log.old))
             (λ command. CarriesOut heap.old heap.new command

@@ -1,12 +1,15 @@
-use Rattle.std.proofs.Common.{◌-◌, subst}
+use Rattle.std.proofs.Common.{◌-◌, subst, arith}
 use Rattle.mm_model.specs.declared.command.Command.TheVariants as commands
 use Rattle.mm_model.specs.declared.reply.Reply.TheVariants as replies
 use Rattle.mm_gc.specs.Gc.{Gc}
 use Rattle.mm_gc.specs.Inside.{gc_of}
 use Rattle.mm_gc.specs.Rows.{Answers}
 use Rattle.mm_gc.proofs.Regions.Shown.{region-shown}
-use Rattle.mm_gc.proofs.Stat.{stat-answers}
+use Rattle.mm_gc.proofs.Stat.{live-few, stat-answers}
 use Rattle.mm_gc.proofs.gc.Gc.stat.Goals as goal
+
+pub overflow_cast-result : goal.overflow_cast-result
+overflow_cast-result c = let few = live-few (gc_of c.self.inside) c.self.invariant in omega (arith, few)
 
 pub returns : goal.returns
 returns c =
