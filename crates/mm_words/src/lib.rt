@@ -6,8 +6,6 @@ mod arena;
 mod backing;
 mod loan;
 mod run;
-#[cfg(test)]
-mod tests;
 mod words;
 
 pub use arena::Arena;

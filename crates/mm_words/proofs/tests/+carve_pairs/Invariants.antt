@@ -1,4 +1,0 @@
-use Rattle.mm_words.proofs.tests.+carve_pairs.Given as goal
-
-abbrev pub decreases-carve_pairs : goal.decreases-carve_pairs
-decreases-carve_pairs l = l.pairs
