@@ -7,8 +7,6 @@ mod page_run;
 mod parking;
 mod runs;
 mod table;
-#[cfg(test)]
-mod tests;
 mod tree;
 
 pub use page_heap::{NoRun, PageHeap, table_words};
