@@ -9,8 +9,6 @@ mod page_use;
 mod placing;
 mod table;
 mod taking;
-#[cfg(test)]
-mod tests;
 mod walks;
 
 pub use cells::{Cell, Cells, cells_words};
