@@ -9,8 +9,6 @@ mod raw;
 mod resizing;
 mod slot;
 mod slots;
-#[cfg(test)]
-mod tests;
 
 pub use heap::{Found, Heap};
 pub use slot::Slot;
