@@ -1,12 +1,11 @@
 -- Blocks lie as their cells do.
-use Rattle.std.proofs.Common.{◌≡◌, ℕ, ◌/◌, ◌<◌, inl, inr, refl, arith, sym, ◌∙◌, ap, slice_index}
+use Rattle.std.proofs.Common.{◌≡◌, ℕ, inl, inr, refl, arith, sym, ◌∙◌, ap}
 use Rattle.std.specs.Option.{option_map}
 use Rattle.std.proofs.lemmas.List.{length-map}
 use Rattle.mm_model.specs.Good.{IsInside, AreApart}
-use Rattle.mm_model.proofs.Places.SizeClasses.{class_bounds}
 use Rattle.mm_cells.specs.Cells as cells
-use Rattle.mm_cells.specs.Cells.{Taken, Cells, IsSoundCells}
-use Rattle.mm_fixed.specs.Fixed.{Block, Fixed, piece_at, HasNoBlock, IsSoundFixed}
+use Rattle.mm_cells.specs.Cells.{Taken, IsSoundCells}
+use Rattle.mm_fixed.specs.Fixed.{Block, Fixed, piece_at, IsSoundFixed}
 use Rattle.mm_fixed.specs.Cells.{cell_of, cells_of}
 use Rattle.mm_fixed.proofs.Shown.{begins-cell, begins-block}
 
@@ -55,13 +54,3 @@ IsSoundFixed-cells v sound = record {
         needed = omega (arith, run.needed, bytes);
       };
 }
-
--- where there are no runs there are no blocks
-pub HasNoBlock-runs : (v : Fixed) → IsSoundFixed v → ((page : ℕ) → slice_index v.runs page ≡ 0) → HasNoBlock v
-HasNoBlock-runs v sound none base block begins =
-    let inside = sound.inside base block begins in
-    let some : 0 < block.extent = elim inside.placed [
-      | inl small ↦ omega (arith, (class_bounds block.extent small.class).least)
-      | inr whole ↦ whole.some
-    ] in
-    absurd (omega (arith, sound.in_run base block begins, none (base / 4096), some))

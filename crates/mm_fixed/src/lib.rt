@@ -3,8 +3,6 @@
 
 mod block;
 mod fixed;
-#[cfg(test)]
-mod tests;
 
 pub use block::FixedBlock;
 pub use fixed::{Fixed, fixed_words};
