@@ -8,8 +8,6 @@ mod area_table;
 mod areas;
 mod scanned;
 mod stack;
-#[cfg(test)]
-mod tests;
 
 pub use area_shape::{AreaRefusal, AreaShape, ScannedArea};
 pub use area_table::MOST_AREAS;
