@@ -9,7 +9,5 @@ mod marker;
 mod roots;
 mod scanning;
 mod shading;
-#[cfg(test)]
-mod tests;
 
 pub use marker::Marker;
