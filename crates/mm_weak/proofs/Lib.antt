@@ -5,4 +5,3 @@ pub mod Partners
 pub mod Making
 pub mod Places
 pub mod Writes
-pub mod Trials
