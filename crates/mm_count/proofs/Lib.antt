@@ -6,7 +6,6 @@ pub mod Counted
 pub mod Entries
 pub mod Leaving
 pub mod Lowering
-pub mod Named
 pub mod Newborn
 pub mod Null
 pub mod Places

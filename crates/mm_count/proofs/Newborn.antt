@@ -1,28 +1,26 @@
 -- A new object is one that nothing counted holds, so counts stay right.
 use Rattle.std.proofs.Common.{◌≡◌, ◌≢◌, ⊎_elim, ℕ, zero, suc, ◌/◌, ◌≤◌, Bool, true, false}
 use Rattle.std.proofs.Common.{List, [], ◌∷◌, take, replicate, Option, Some, None, refl, sym, ap, ◌∙◌, subst}
-use Rattle.std.proofs.Common.{IsTrue, eqb-true, ◌+◌, arith}
+use Rattle.std.proofs.Common.{IsTrue, arith}
 use Rattle.std.specs.Prelude.{◌==◌, slice_get, slice_set, slice_index, if◌then◌else◌}
 use Rattle.std.specs.List.{count_by}
 use Rattle.std.specs.Option.{option_map}
-use Rattle.std.proofs.lemmas.Bool.{cases_eq, eq-eqb}
+use Rattle.std.proofs.lemmas.Bool.{cases_eq}
 use Rattle.std.proofs.lemmas.Option.{slice_get-map}
 use Rattle.mm_model.specs.Object.{is_counted, is_scanned}
 use Rattle.mm_model.specs.ByBase.{Begins, with_entry}
-use Rattle.mm_model.specs.ObjectView.{ObjectView, ObjectsByBase, counted_words_of, references_in}
+use Rattle.mm_model.specs.ObjectView.{ObjectView, ObjectsByBase, references_in}
 use Rattle.mm_model.specs.SetsByBase.{count_at}
-use Rattle.mm_model.proofs.Lists.Keyed.{refuted}
 use Rattle.mm_model.proofs.Lists.Replaced.{get-set_other, get-set_cases, map-set}
 use Rattle.mm_model.proofs.View.Entries.{begins_same}
 use Rattle.mm_model.proofs.View.MappedEntries.{begins_mapped, mapped_begins}
-use Rattle.mm_model.proofs.View.ReplacedEntries.{begins_get}
 use Rattle.mm_object.specs.Object.{StoredObject, StoredObjects, view_of_stored, views_of}
 use Rattle.mm_count.specs.Composite.{composite_in}
 use Rattle.mm_count.specs.Table.{composite_of}
 use Rattle.mm_count.specs.Counts.{counts_of, IsCountedBy, NamesCounted}
 use Rattle.mm_count.specs.Listed.{IsListedAtZero, AllListed, AllListedBut, NonePinned}
 use Rattle.mm_count.proofs.Counted.{counts_of-begins}
-use Rattle.mm_count.proofs.References.{references_of, count-other, references-unnamed, references-cleared}
+use Rattle.mm_count.proofs.References.{references_of, count-other, references-cleared}
 
 -- an entry that was replaced is put back
 set-back : {X : Type 0} (xs : List X) (k : ℕ) (x y : X) → slice_get xs k ≡ Some x
@@ -42,41 +40,10 @@ pub counted-zero : (scanned : Bool) (k count : ℕ) (n word : ℕ)
 counted-zero true k count n word e = take-zero k count n word e
 counted-zero false k count n word e = cc
 
--- a counted word of an object is one of its words
-word-at : (scanned : Bool) (k : ℕ) (words : List ℕ) (s word : ℕ)
-    → slice_get (if scanned then take k words else []) s ≡ Some word → slice_index words s ≡ word
-word-at false k words s word e = cc
-word-at true zero words s word e = cc
-word-at true (suc k) [] s word e = cc
-word-at true (suc k) (w ∷ words) zero word e = cc
-word-at true (suc k) (w ∷ words) (suc s) word e = word-at true k words s word e
-
--- where words name counted objects alone, no counted slot holds a base at which nothing begins
-pub references-vacant : (objects : StoredObjects) (base : ℕ) → base ≢ 0
-    → ((o : StoredObject) → Begins objects base o → ⊥)
-    → ((b s : ℕ) (o : StoredObject) → Begins objects b o → NamesCounted objects (slice_index o.words s))
-    → references_in (views_of objects) base ≡ 0
-references-vacant objects base some none named =
-    references-unnamed (views_of objects) base
-    (λ b v there s word is same.
-    let m = mapped_begins view_of_stored objects b v there in
-    let held : slice_index m.value.words s ≡ word =
-    word-at (is_scanned m.value.kind) m.value.counted m.value.words s word
-    (ap (λ (x : ObjectView). slice_get (counted_words_of x) s) m.is ∙ is) in
-    let k = named b s m.value m.begins (λ e. some (sym same ∙ sym held ∙ e)) in
-    none k.object (subst (λ (w : ℕ). Begins objects w k.object) (held ∙ same) k.begins))
-
 blank-word : (slots s : ℕ) → slice_index (replicate slots 0) s ≡ 0
 blank-word zero s = refl
 blank-word (suc slots) zero = refl
 blank-word (suc slots) (suc s) = blank-word slots s
-
--- nothing is held at a base from outside
-abbrev pub unheld : ℕ → (ℕ → ℕ) → ℕ → ℕ
-unheld base outside b = if b == base then 0 else outside b
-
-pub unheld-own : (base : ℕ) (outside : ℕ → ℕ) → unheld base outside base ≡ 0
-unheld-own base outside = ap (λ (t : Bool). if t then 0 else outside base) (eq-eqb base base refl)
 
 -- what an object is as it is made: each slot is 0, and so is its composite word
 pub record IsBlank (object : StoredObject) : Type 0 where
@@ -112,29 +79,6 @@ module _ (objects : StoredObjects) (base : ℕ) (o : StoredObject) (none : slice
     (begins : Begins (with_entry base (Some o) objects) base o) (blank : IsBlank o) where
   abbrev after : StoredObjects
   after = with_entry base (Some o) objects
-
-  -- nothing began there
-  pub none-there : (x : StoredObject) → Begins objects base x → ⊥
-  none-there x there =
-      let no : ◌≡◌ {A = Option (Option StoredObject)} (Some (Some x)) (Some None) =
-      sym (begins_get objects base x there) ∙ none in
-      cc
-
-  -- so counts are right whatever is said to hold it from outside
-  pub counted-unheld : (outside : ℕ → ℕ) → IsCountedBy objects outside → IsCountedBy objects (unheld base outside)
-  counted-unheld outside right = record {
-    exact = λ b v there counted exact. right.exact b v there counted exact ∙ kept b v there;
-    few = right.few;
-  }
-    where
-      kept : (b : ℕ) (v : ObjectView) → Begins (views_of objects) b v
-          → count_at (views_of objects) outside b ≡ count_at (views_of objects) (unheld base outside) b
-      kept b v there =
-          let m = mapped_begins view_of_stored objects b v there in
-          let other : (b == base) ≡ false =
-          refuted (b == base)
-          (λ e. none-there m.value (subst (λ (n : ℕ). Begins objects n m.value) (eqb-true b base e) m.begins)) in
-          ap (λ (t : Bool). references_in (views_of objects) b + (if t then 0 else outside b)) (sym other)
 
   -- the new object, or what was there
   pub data IsBornOr (b : ℕ) (x : StoredObject) : Type 0 where

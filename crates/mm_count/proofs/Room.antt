@@ -77,12 +77,6 @@ begins_room h sound base o begins =
     let to = inside.to in
     record { grain = begins.grain; aligned = a; from = omega arith; to = omega arith }
 
--- no object begins at 0
-pub bases-some : (h : Heap) → IsSound h → (base : ℕ) (o : StoredObject) → Begins h.objects base o → base ≢ 0
-bases-some h sound base o begins none =
-    let room = begins_room h sound base o begins in
-    absurd (omega (arith, room.aligned, room.from, none))
-
 module _ (table : Table) (h : Heap) (right : IsRight table h) (sound : IsSound h) (base : ℕ) (o : StoredObject)
     (begins : Begins h.objects base o) (out : (composite_of o).listed ≡ false) where
   abbrev all : List ℕ

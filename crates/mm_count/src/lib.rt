@@ -7,8 +7,6 @@ mod dead;
 mod pins;
 mod store;
 mod table;
-#[cfg(test)]
-mod tests;
 
 pub use composite::Composite;
 pub use counts::Count;
