@@ -5,7 +5,5 @@ mod dead;
 mod following;
 mod pins;
 mod reaping;
-#[cfg(test)]
-mod tests;
 
 pub use reaping::reap;
