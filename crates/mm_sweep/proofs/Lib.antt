@@ -11,6 +11,5 @@ pub mod Parted
 pub mod Partners
 pub mod Released
 pub mod Right
-pub mod Trials
 pub mod Whitened
 pub mod Whites

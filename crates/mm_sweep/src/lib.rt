@@ -6,8 +6,6 @@ mod freeing;
 mod journal;
 mod releasing;
 mod sweeping;
-#[cfg(test)]
-mod tests;
 
 pub use journal::{Finalizer, Journal};
 pub use releasing::release;
