@@ -9,8 +9,6 @@ mod number;
 mod parse;
 mod plain;
 mod put;
-#[cfg(test)]
-mod tests;
 mod text;
 mod word;
 mod write;
