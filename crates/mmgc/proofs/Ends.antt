@@ -19,21 +19,27 @@ use Rattle.mm_gc.specs.Rows.{Kept}
 use Rattle.mmgc.specs.Writing.{kept_bytes, Grows}
 use Rattle.mmgc.specs.Replaying.{reading_of, most_bytes, Grew, GrewSince, Start, Moment, Stopped, Progress}
 use Rattle.mmgc.specs.Run.{Input, Output, Reach, lines_in, NothingLeft, HasCause, IsFaultOf, IsLogOf, IsWritten}
-use Rattle.mmgc.specs.Run.{Replayed, Ended, Logged}
+use Rattle.mmgc.specs.Run.{IsWithinTrace, Replayed, Ended, Logged}
 use Rattle.mmgc.specs.Generating.{EndsWritten}
 use Rattle.mmgc.specs.declared.replay.End.{End}
 use Rattle.mmgc.specs.declared.replay.End.TheVariants.{Whole, Fault, ReadFailed, WriteFailed, TooLong}
 use Rattle.mmgc.proofs.Replays.{spelling_of-append, progress-stopped}
 use Rattle.mmgc.proofs.WritingLemmas.{all_taken, broken_front}
 
+-- all that was read is carried out, and is no more than a trace has
+all_within : (bytes : List ℕ) (at_end : Bool) → length bytes ≤ most_bytes →
+    IsWithinTrace (record { read = bytes; over = []; at_end = at_end })
+all_within bytes at_end fits = record { fits = fits; one_read = omega arith; none_over = λ e. refl }
+
 -- The last line of an input is carried out, or has a fault.
-module _ {start : Start} {bytes : List ℕ} {input : Input} {now : Moment}
+module _ {start : Start} {bytes : List ℕ} {input : Input} {now : Moment} (fits : length bytes ≤ most_bytes)
     (given : Gives input.left input.left_after []) (nothing_left : NothingLeft input.left_after)
     (clean : input.faults_after ≡ input.faults) where
   pub ended-whole : Stopped start (lines_of bytes) None now.heap now.kept → Ended Whole start bytes input now
   ended-whole s =
       record {
         reach = record { read = bytes; over = []; at_end = true };
+        within = all_within bytes true fits;
         piece = [];
         bytes_are = refl;
         given = given;
@@ -50,6 +56,7 @@ module _ {start : Start} {bytes : List ℕ} {input : Input} {now : Moment}
   ended-last_fault fault s =
       record {
         reach = record { read = bytes; over = []; at_end = true };
+        within = all_within bytes true fits;
         piece = [];
         bytes_are = refl;
         given = given;
@@ -64,11 +71,12 @@ module _ {start : Start} {bytes : List ℕ} {input : Input} {now : Moment}
 -- A piece of an input has a line with a fault, or is too much.
 module _ {start : Start} {bytes : List ℕ} {input : Input} {now : Moment} (piece : List ℕ)
     (given : Gives input.left input.left_after piece) (clean : input.faults_after ≡ input.faults) where
-  pub ended-fault : (fault : FaultAt) → Stopped start (complete_lines (bytes ++ piece)) (Some fault) now.heap now.kept →
+  pub ended-fault : length (bytes ++ piece) ≤ most_bytes → (fault : FaultAt) → Stopped start (complete_lines (bytes ++ piece)) (Some fault) now.heap now.kept →
       Ended (Fault fault.line fault.fault) start bytes input now
-  ended-fault fault s =
+  ended-fault fits fault s =
       record {
         reach = record { read = bytes ++ piece; over = []; at_end = false };
+        within = all_within (bytes ++ piece) false fits;
         piece = piece;
         bytes_are = append-nil (bytes ++ piece);
         given = given;
@@ -86,15 +94,14 @@ module _ {start : Start} {bytes : List ℕ} {input : Input} {now : Moment} (piec
       let more = length-append bytes piece in
       record {
         reach = record { read = bytes; over = piece; at_end = false };
+        within = record { fits = fits; one_read = one; none_over = λ e. cc e };
         piece = piece;
         bytes_are = refl;
         given = given;
         nothing_left = λ e. cc e;
         cause = record {
           more_follow = refl;
-          fits = fits;
           passes = omega (arith, more, passes);
-          one_read = one;
           clean = clean;
         };
         fault = None;
@@ -104,12 +111,13 @@ module _ {start : Start} {bytes : List ℕ} {input : Input} {now : Moment} (piec
       }
 
 -- A read failed, or a write before it.
-module _ {start : Start} {bytes : List ℕ} {input : Input} {now : Moment}
+module _ {start : Start} {bytes : List ℕ} {input : Input} {now : Moment} (fits : length bytes ≤ most_bytes)
     (given : Gives input.left input.left_after []) (p : Progress start bytes now) where
   pub ended-read_fault : Rose input.faults input.faults_after → Ended ReadFailed start bytes input now
   ended-read_fault rose =
       record {
         reach = record { read = bytes; over = []; at_end = false };
+        within = all_within bytes false fits;
         piece = [];
         bytes_are = refl;
         given = given;
@@ -125,6 +133,7 @@ module _ {start : Start} {bytes : List ℕ} {input : Input} {now : Moment}
   ended-write_fault broken =
       record {
         reach = record { read = bytes; over = []; at_end = false };
+        within = all_within bytes false fits;
         piece = [];
         bytes_are = refl;
         given = given;
@@ -150,9 +159,7 @@ cause-since WriteFailed reach input left faults e h = tt
 cause-since TooLong reach input left faults e h =
     record {
       more_follow = h.more_follow;
-      fits = h.fits;
       passes = h.passes;
-      one_read = h.one_read;
       clean = h.clean ∙ e;
     }
 
@@ -162,6 +169,7 @@ pub ended-since : {end : End} {start : Start} {bytes : List ℕ} {input : Input}
 ended-since {end} {bytes = bytes} {input = input} left faults given e ended =
     record {
       reach = ended.reach;
+      within = ended.within;
       piece = bytes ++ ended.piece;
       bytes_are = ended.bytes_are;
       given = Gives-append left input.left input.left_after bytes ended.piece given ended.given;
@@ -286,6 +294,7 @@ module _ {end : End} {start : Start} {input : Input} {now : Moment} (output : Ou
   replayed false pending result is still f l =
       subst (λ r. Replayed r start.settings input output heap) (sym is) (record {
         reach = ended.reach;
+        within = ended.within;
         given = given_all;
         nothing_left = ended.nothing_left;
         cause = ended.cause;
@@ -305,6 +314,7 @@ module _ {end : End} {start : Start} {input : Input} {now : Moment} (output : Ou
   replayed true pending result is still f l =
       subst (λ r. Replayed r start.settings input output heap) (sym is) (record {
         reach = ended.reach;
+        within = ended.within;
         given = given_all;
         nothing_left = ended.nothing_left;
         cause = tt;

@@ -48,17 +48,25 @@ pub record LacksMemory (choice : Choice) (traffic : Traffic) (outcome : Outcome)
       traffic.input.left_after
   pub unwritten : IsUnwritten traffic.output
 
--- The file that is asked for couldn't be opened.
+-- An end at which nothing was written: that of a source that failed, unless the flush of the sink failed then.
+abbrev pub EndsUnwritten : End → Output → Type 0
+EndsUnwritten ReadFailed output = IsUnwritten output
+EndsUnwritten WriteFailed output =
+    (output.taken_after ≡ output.taken) × Rose output.faults output.faults_after
+EndsUnwritten _ output = ⊥
+
+-- The file that is asked for couldn't be opened. Nothing was read or written, and the sink was flushed.
 pub record FailsToOpen (choice : Choice) (traffic : Traffic) (outcome : Outcome) (says : List ℕ → Type 0) :
     Type 0 where
   pub replays : choice.generated ≡ None
   pub asked : IsSome choice.file
-  pub status : outcome.status ≡ 3
+  pub end : End
+  pub status : outcome.status ≡ status_of end
   pub no_heap : outcome.heap ≡ None
-  pub text : says (codes "mmgc: read failed\n")
+  pub text : says (end_text end)
   pub cause : Rose traffic.input.faults traffic.input.faults_after
   pub unread : traffic.input.left_after ≡ traffic.input.left
-  pub unwritten : IsUnwritten traffic.output
+  pub ends : EndsUnwritten end traffic.output
 
 -- The input was replayed to this end, on the heap that is handed back. The lines of the commands that were carried out
 -- are legal and keep what is promised of logs.

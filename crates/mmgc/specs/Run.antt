@@ -61,13 +61,18 @@ NothingLeft left = IfSome left (λ rest. rest ≡ [])
 abbrev pub IsClean : Reach → Input → Type 0
 IsClean reach input = (reach.over ≡ []) × (input.faults_after ≡ input.faults)
 
+-- What was carried out isn't more than a trace has. What was read behind it is at most one read, and nothing where no
+-- more come.
+pub record IsWithinTrace (reach : Reach) : Type 0 where
+  pub fits : length reach.read ≤ most_bytes
+  pub one_read : length reach.over ≤ 4096
+  pub none_over : reach.at_end ≡ true → reach.over ≡ []
+
 -- A read took the bytes past the most that a trace has. What stood before it was carried out, up to the last whole
 -- line.
 pub record PassesLength (reach : Reach) (input : Input) : Type 0 where
   pub more_follow : reach.at_end ≡ false
-  pub fits : length reach.read ≤ most_bytes
   pub passes : most_bytes < length (reach.read ++ reach.over)
-  pub one_read : length reach.over ≤ 4096
   pub clean : input.faults_after ≡ input.faults
 
 -- Why a replay ended so.
@@ -108,6 +113,7 @@ IsWritten _ output text =
 -- How a replay ended, by what the source gave, what the sink took, and what the heap shows.
 pub record Replayed (end : End) (settings : Settings) (input : Input) (output : Output) (heap : Gc) : Type 0 where
   pub reach : Reach
+  pub within : IsWithinTrace reach
   pub given : Gives input.left input.left_after (reach.read ++ reach.over)
   pub nothing_left : reach.at_end ≡ true → NothingLeft input.left_after
   pub cause : HasCause end reach input
@@ -125,6 +131,7 @@ pub record Replayed (end : End) (settings : Settings) (input : Input) (output : 
 -- A replay that had taken these bytes came to its end with the next piece, or with none.
 pub record Ended (end : End) (start : Start) (bytes : List ℕ) (input : Input) (now : Moment) : Type 0 where
   pub reach : Reach
+  pub within : IsWithinTrace reach
   pub piece : List ℕ
   pub bytes_are : reach.read ++ reach.over ≡ bytes ++ piece
   pub given : Gives input.left input.left_after piece

@@ -6,7 +6,7 @@ ghost use Rattle.mm_model.specs.Limits.{IsWithinLimits};
 ghost use Rattle.mmgc.specs.Completing.{IsComplete};
 ghost use Rattle.mm_io.specs.Told.{NamedFile};
 ghost use Rattle.mmgc.specs.Generator.{most_generated};
-ghost use Rattle.mmgc.specs.Program.{IsInput, IsUnread, Ran, Serves, status_of};
+ghost use Rattle.mmgc.specs.Program.{EndsUnwritten, IsInput, IsUnread, Ran, Serves, status_of};
 ghost use Rattle.mmgc.specs.Requests.{IsAllowed, asked_by};
 ghost use Rattle.mmgc.specs.Run.{Input};
 ghost use Rattle.mmgc.specs.Telling.{IsTold, Takes, end_text, line_text};
@@ -170,6 +170,23 @@ fn replay<S: Source, K: Sink, E: Sink>(
     }
 }
 
+/// Flushes a sink of which nothing was asked, and says how a run ends whose source failed before it was read.
+fn end_unwritten<K: Sink>(out: &mut K) -> End
+    ensures ends { EndsUnwritten result
+        (record {
+          taken = K.taken out.old;
+          taken_after = K.taken out.new;
+          faults = K.faults out.old;
+          faults_after = K.faults out.new;
+        }) }
+    ensures out { K.faults out.old ≤ K.faults out.new }
+{
+    match out.flush() {
+        Ok(()) => End::ReadFailed,
+        Err(_) => End::WriteFailed,
+    }
+}
+
 /// Opens the file that is asked for, and then replays it.
 fn open_and_replay<S: Source, K: Sink, E: Sink>(
     alloc: Global,
@@ -208,9 +225,10 @@ fn open_and_replay<S: Source, K: Sink, E: Sink>(
         Ok(()) => replay(alloc, settings, source, out, err),
         Err(ChooseFault::NoMemory) => no_memory(err),
         Err(ChooseFault::Failed) => {
-            tell(err, b"mmgc: read failed\n");
+            let end = end_unwritten(out);
+            tell_end(err, end);
             Outcome {
-                status: 3,
+                status: end.status(),
                 heap: None,
             }
         }

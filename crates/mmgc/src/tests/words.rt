@@ -145,6 +145,18 @@ fn the_write_of_a_total_line_may_fail(rt: HostRuntime) -> Result<(), Fail> {
     Ok(())
 }
 
+// Where nothing was written, the one call of the log's sink is a flush.
+#[test]
+fn a_failed_flush_comes_before_a_file_that_is_not_opened(rt: HostRuntime) -> Result<(), Fail> {
+    let given = Given {
+        words: &["t"],
+        reads: &[1],
+        writes: &[1],
+        ..Given::whole(b"pop")
+    };
+    check(&rt, rt.alloc(), &given, 4, b"", b"mmgc: write failed\n")
+}
+
 #[test]
 fn a_named_file_takes_the_place_of_the_input(rt: HostRuntime) -> Result<(), Fail> {
     let alloc = rt.alloc();

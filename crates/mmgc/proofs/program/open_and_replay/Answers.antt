@@ -25,10 +25,11 @@ returns-in-Err-Failed-clause-served g c =
     inr (inl (record {
       replays = refl;
       asked = asked_name c.args.file failed.asked;
-      status = refl;
+      end = c.end_unwritten-end.result;
+      status = c.status.ensures;
       no_heap = refl;
-      text = c.tell.ensures;
+      text = c.tell_end.ensures;
       cause = failed.faults.cause (search rules);
       unread = failed.refused;
-      unwritten = record { taken = refl; faults = refl };
+      ends = c.end_unwritten-end.ensures.ends;
     }))

@@ -1,4 +1,4 @@
-use Rattle.std.proofs.Common.{refl, arith}
+use Rattle.std.proofs.Common.{refl, arith, length-append}
 use Rattle.mmgc.proofs.Ends.{ended-fault, ended-too_long}
 use Rattle.mmgc.proofs.replay.Replay.next_piece.Goals as goal
 
@@ -21,4 +21,5 @@ returns-in-Ok-clause-taken g c start bytes input room clean given p =
 
 pub returns-in-Err-clause-taken : goal.returns-in-Err-clause-taken
 returns-in-Err-clause-taken g c start bytes input room clean given p =
-    ended-fault c.args.piece.now given clean _ (c.in-Err.ensures.progress start bytes (omega arith) p)
+    let more = length-append bytes c.args.piece.now in
+    ended-fault c.args.piece.now given clean (omega (arith, room, more)) _ (c.in-Err.ensures.progress start bytes (omega arith) p)

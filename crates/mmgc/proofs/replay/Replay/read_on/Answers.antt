@@ -6,7 +6,7 @@ use Rattle.mmgc.proofs.replay.Replay.read_on.Goals as goal
 
 pub returns-in-Err-clause-turned : goal.returns-in-Err-clause-turned
 returns-in-Err-clause-turned g c start bytes room p =
-    ended-read_fault
+    ended-read_fault (omega (arith, room))
     (subst (λ left. Gives (g.S.Source.left c.args.source.now) left []) (sym c.in-Err.ensures.failed)
     (Gives-nothing (g.S.Source.left c.args.source.now))) p c.in-Err.ensures.faults.cause
 

@@ -1,4 +1,4 @@
-use Rattle.std.proofs.Common.{refl}
+use Rattle.std.proofs.Common.{refl, arith}
 use Rattle.mm_io.proofs.ToldLemmas.{Gives-nothing}
 use Rattle.mmgc.specs.Keeping.{keeps-trans}
 use Rattle.mmgc.proofs.Replays.{progress-written_out}
@@ -14,5 +14,5 @@ returns-in-Ok-clause-kept g c = keeps-trans c.write_out.ensures.kept c.read_on.e
 
 pub returns-in-Err-clause-turned : goal.returns-in-Err-clause-turned
 returns-in-Err-clause-turned g c start bytes room p =
-    ended-write_fault (Gives-nothing (g.S.Source.left c.args.source.now))
+    ended-write_fault (omega (arith, room)) (Gives-nothing (g.S.Source.left c.args.source.now))
     (progress-written_out p c.write_out.ensures.written) (c.in-Err.ensures.broken.0 refl)
