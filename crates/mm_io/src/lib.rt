@@ -8,6 +8,7 @@
 mod fault;
 mod fault_plan;
 mod host;
+mod host_streams;
 mod mem_sink;
 mod mem_source;
 mod sink;
@@ -22,6 +23,7 @@ mod zero_fault_sink;
 mod zero_fault_source;
 
 pub use fault::{ChooseFault, Failed, NoMemory};
+pub use host_streams::{NamedFiles, SteadyRead, SteadyWrite};
 pub use mem_sink::MemSink;
 pub use mem_source::MemSource;
 pub use sink::{Sink, write_all};

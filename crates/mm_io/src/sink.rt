@@ -16,6 +16,9 @@ pub trait Sink {
     /// The bytes taken so far, where they are told.
     ghost taken: { Self → Option (List ℕ) };
 
+    /// The bytes passed on so far, where they are told: those taken without what is still held back.
+    ghost passed: { Self → Option (List ℕ) };
+
     /// As long as it has taken no more bytes than this, a sink that tells them goes on telling them.
     ghost room: { Self → ℕ } = { λ _. 0 };
 
@@ -38,6 +41,7 @@ pub trait Sink {
 
     /// Passes on what the sink still holds back.
     fn flush(&mut self) -> Result<(), Failed>
+        ensures passed { OnOk result (passed self.new ≡ taken self.new) }
         ensures same { taken self.new ≡ taken self.old }
         ensures same_kept { kept self.new ≡ kept self.old }
         ensures same_room { room self.new ≡ room self.old }

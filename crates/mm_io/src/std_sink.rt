@@ -1,52 +1,41 @@
-// Standard output and standard error of the host.
-ghost use Rattle.std.specs.Prelude.{◌≡◌, None, IfOk};
+// A writer of the host.
+ghost use Rattle.std.specs.Prelude.{◌≡◌};
 
 use crate::host::{flush_once, write_once};
-use crate::{Failed, NoMemory, Sink};
-use std::alloc::Global;
+use crate::host_streams::SteadyWrite;
+use crate::{Failed, Sink};
 
-/// Writes standard output or standard error. It tells no bytes.
+/// Writes a writer of the host, and tells the bytes that this tells: standard output and standard error tell none.
 ///
 /// Each error is counted, in a u64 that stays at its last value. A write that takes nothing is one.
 #[derive(Drop)]
-pub struct StdSink {
-    rt: HostRuntime,
-    to_error: bool,
+pub struct StdSink<W: SteadyWrite + Drop> {
+    pub(crate) host: W,
     faults: u64,
 }
 
-impl StdSink {
-    /// Stands for standard error where `to_error` is true, and for standard output otherwise. NoMemory
-    /// comes from the clone of the runtime.
-    pub fn make(rt: &HostRuntime, _alloc: Global, to_error: bool) -> Result<StdSink, NoMemory>
-        ensures { IfOk result (λ sink. ⟦<StdSink as Sink>⟧.faults sink ≡ 0) }
+impl<W: SteadyWrite + Drop> StdSink<W> {
+    pub fn make(host: W) -> StdSink<W>
+        ensures taken { ⟦<StdSink<W> as Sink>⟧.taken result ≡ W.contents host }
+        ensures faults { ⟦<StdSink<W> as Sink>⟧.faults result ≡ 0 }
     {
-        Ok(StdSink {
-            rt: rt.clone()?,
-            to_error,
-            faults: 0,
-        })
+        StdSink { host, faults: 0 }
     }
 }
 
-impl Sink for StdSink {
+impl<W: SteadyWrite + Drop> Sink for StdSink<W> {
     ghost faults = { λ sink. sink.faults };
 
-    ghost taken = { λ _. None };
+    ghost taken = { λ sink. W.contents sink.host };
+
+    // A writer doesn't tell what it holds back of its contents.
+    ghost passed = { λ sink. W.contents sink.host };
 
     fn write(&mut self, bytes: &[u8]) -> Result<usize, Failed> {
-        if self.to_error {
-            write_once(&mut self.rt.stderr(), bytes, &mut self.faults)
-        } else {
-            write_once(&mut self.rt.stdout(), bytes, &mut self.faults)
-        }
+        write_once(&mut self.host, bytes, &mut self.faults)
     }
 
     fn flush(&mut self) -> Result<(), Failed> {
-        if self.to_error {
-            flush_once(&mut self.rt.stderr(), &mut self.faults)
-        } else {
-            flush_once(&mut self.rt.stdout(), &mut self.faults)
-        }
+        flush_once(&mut self.host, &mut self.faults)
     }
 }

@@ -3,6 +3,7 @@ ghost use Rattle.mm_io.specs.Faults.{Rose};
 ghost use Rattle.mm_io.specs.Told.{Gives, Appends};
 
 mod host;
+mod streams;
 
 use crate::{
     ChooseFault, Failed, MemSink, MemSource, Sink, Source, StdSink, StdSource, ZeroFaultSink,
@@ -273,8 +274,7 @@ fn objects_without_faults_move_every_byte(rt: HostRuntime) -> Result<(), Fail> {
 
 #[test]
 fn the_host_tells_ends_and_faults(rt: HostRuntime) -> Result<(), Fail> {
-    let alloc = rt.alloc();
-    let mut source = StdSource::make(&rt, alloc)?;
+    let mut source = StdSource::make(rt.stdin(), rt);
     assert_eq!(rt; source.choose("/no/such/file"), Err(ChooseFault::Failed));
     assert_eq!(rt; source.choose("/dev/zero"), Ok(()));
     assert_eq!(rt; source.read(&mut [1; 3]), Ok(3));
@@ -282,10 +282,8 @@ fn the_host_tells_ends_and_faults(rt: HostRuntime) -> Result<(), Fail> {
     assert_eq!(rt; source.read(&mut [1; 3]), Ok(0));
     assert_eq!(rt; source.choose("/"), Ok(()));
     assert_eq!(rt; source.read(&mut [1; 3]), Err(Failed));
-    for to_error in [false, true] {
-        let mut sink = StdSink::make(&rt, alloc, to_error)?;
-        assert_eq!(rt; sink.flush(), Ok(()));
-    }
-    assert_eq!(rt; StdSink::make(&rt, alloc, true)?.write(b"\n"), Ok(1));
+    assert_eq!(rt; StdSink::make(rt.stdout()).flush(), Ok(()));
+    assert_eq!(rt; StdSink::make(rt.stderr()).flush(), Ok(()));
+    assert_eq!(rt; StdSink::make(rt.stderr()).write(b"\n"), Ok(1));
     Ok(())
 }

@@ -42,6 +42,9 @@ impl Sink for ZeroFaultSink {
 
     ghost taken = { λ sink. told_of sink.store };
 
+    // Nothing is held back.
+    ghost passed = { λ sink. told_of sink.store };
+
     ghost room = { λ sink. sink.store.room };
 
     ghost kept = { λ sink. Some sink.store.kept.items };

@@ -18,7 +18,7 @@ use Rattle.mm_gc.specs.Gc.{Gc, totals_in}
 use Rattle.mm_gc.specs.Rows.{Kept}
 use Rattle.mmgc.specs.Writing.{kept_bytes, Grows}
 use Rattle.mmgc.specs.Replaying.{reading_of, most_bytes, Grew, GrewSince, Start, Moment, Stopped, Progress}
-use Rattle.mmgc.specs.Run.{Input, Output, Reach, lines_in, NothingLeft, HasCause, IsFaultOf, IsLogOf, IsWritten}
+use Rattle.mmgc.specs.Run.{Input, Output, Reach, lines_in, NothingLeft, HasCause, IsFaultOf, IsLogOf, IsPassedOn, IsWritten}
 use Rattle.mmgc.specs.Run.{IsWithinTrace, Replayed, Ended, Logged}
 use Rattle.mmgc.specs.Generating.{EndsWritten}
 use Rattle.mmgc.specs.declared.replay.End.{End}
@@ -254,12 +254,13 @@ cut_short WriteFailed reach input groups state log cause any l = l
 cut_short TooLong reach input groups state log cause none l = inl l
 
 all_written : (end : End) (output : Output) (text : List ℕ) → (end ≡ WriteFailed → ⊥) →
-    output.faults_after ≡ output.faults → Appends output.taken output.taken_after text → IsWritten end output text
-all_written Whole output text well clean appended = (clean, appended)
-all_written (Fault line fault) output text well clean appended = (clean, appended)
-all_written ReadFailed output text well clean appended = (clean, appended)
-all_written WriteFailed output text well clean appended = absurd (well refl)
-all_written TooLong output text well clean appended = (clean, appended)
+    output.faults_after ≡ output.faults → Appends output.taken output.taken_after text → IsPassedOn output →
+    IsWritten end output text
+all_written Whole output text well clean appended passed = (clean, appended, passed)
+all_written (Fault line fault) output text well clean appended passed = (clean, appended, passed)
+all_written ReadFailed output text well clean appended passed = (clean, appended, passed)
+all_written WriteFailed output text well clean appended passed = absurd (well refl)
+all_written TooLong output text well clean appended passed = (clean, appended, passed)
 
 -- what was whole didn't break before
 pub was_whole : {A : Type 0} (broken : Bool) → broken ≡ false → IsTrue broken ⊎ A → A
@@ -277,6 +278,7 @@ pub record Finished (output : Output) (kept : Option (List ℕ)) (broken : Bool)
   pub grows : Grows output.taken output.taken_after
   pub cause : IsTrue broken → Rose output.faults output.faults_after
   pub clean : broken ≡ false → output.faults_after ≡ output.faults
+  pub passed : broken ≡ false → IsPassedOn output
 
 module _ {end : End} {start : Start} {input : Input} {now : Moment} (output : Output) (heap : Gc)
     (ended : Ended end start [] input now) where
@@ -309,7 +311,7 @@ module _ {end : End} {start : Start} {input : Input} {now : Moment} (output : Ou
         written = all_written end output (spelling_of l.log) (λ e. let lost = still e in cc lost) (f.clean refl)
             (all_taken output.taken output.taken_after (spelling_of l.log)
             (subst₂ (λ x y. Writes x false y false (spelling_of l.log)) f.started
-            (ap (kept_bytes output.taken_after false) (f.nothing_pending refl)) l.written));
+            (ap (kept_bytes output.taken_after false) (f.nothing_pending refl)) l.written)) (f.passed refl);
       })
   replayed true pending result is still f l =
       subst (λ r. Replayed r start.settings input output heap) (sym is) (record {
@@ -346,6 +348,7 @@ text_written output kept text false pending end is f w =
         all_taken output.taken output.taken_after text
             (subst₂ (λ x y. Writes x false y false text) f.started
             (ap (kept_bytes output.taken_after false) (f.nothing_pending refl)) w),
+        f.passed refl,
       );
     })
 text_written output kept text true pending end is f w =

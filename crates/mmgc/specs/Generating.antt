@@ -29,7 +29,7 @@ pub record HasCarriedOut (settings : Settings) (commands : List Command) (heap :
   pub log : List Line
   pub carried : CarriedOut settings commands log heap
 
--- A text was written alone and passed on, or a front of it, and then a fault was counted.
+-- A text was written alone and passed on, or a front of it and a fault was counted.
 pub record EndsWritten (end : End) (output : Output) (text : List ℕ) : Type 0 where
   pub end_is : (end ≡ Whole) ⊎ (end ≡ WriteFailed)
   pub written : IsWritten end output text

@@ -7,7 +7,7 @@ use Rattle.mm_gc.specs.Gc.{Gc}
 use Rattle.mmgc.specs.declared.program.Outcome.{Outcome}
 use Rattle.mmgc.specs.declared.replay.End.{End}
 use Rattle.mmgc.specs.declared.replay.End.TheVariants.{Whole, Fault, ReadFailed, WriteFailed, TooLong}
-use Rattle.mmgc.specs.Run.{Input, Output, Replayed, commands_in}
+use Rattle.mmgc.specs.Run.{Input, IsPassedOn, Output, Replayed, commands_in}
 use Rattle.mmgc.specs.declared.generator.GeneratedTrace.{GeneratedTrace}
 use Rattle.mmgc.specs.Generator.{commands_of}
 use Rattle.mmgc.specs.Generating.{Generated}
@@ -50,7 +50,7 @@ pub record LacksMemory (choice : Choice) (traffic : Traffic) (outcome : Outcome)
 
 -- An end at which nothing was written: that of a source that failed, unless the flush of the sink failed then.
 abbrev pub EndsUnwritten : End → Output → Type 0
-EndsUnwritten ReadFailed output = IsUnwritten output
+EndsUnwritten ReadFailed output = IsUnwritten output × IsPassedOn output
 EndsUnwritten WriteFailed output =
     (output.taken_after ≡ output.taken) × Rose output.faults output.faults_after
 EndsUnwritten _ output = ⊥

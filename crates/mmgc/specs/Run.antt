@@ -27,10 +27,11 @@ pub record Input : Type 0 where
   pub faults : ℕ
   pub faults_after : ℕ
 
--- the bytes that a sink had taken and the faults that it had counted, at two moments
+-- the bytes that a sink had taken and the faults that it had counted, at two moments, and what it then had passed on
 pub record Output : Type 0 where
   pub taken : Option (List ℕ)
   pub taken_after : Option (List ℕ)
+  pub passed_after : Option (List ℕ)
   pub faults : ℕ
   pub faults_after : ℕ
 
@@ -103,12 +104,16 @@ IsLogOf WriteFailed reach groups state log =
     × (log ≡ with_total groups state))
 IsLogOf _ reach groups state log = log ≡ groups
 
--- All of the text was written and no fault counted, or a front of it and a fault.
+-- All that the sink took was passed on.
+abbrev pub IsPassedOn : Output → Type 0
+IsPassedOn output = output.passed_after ≡ output.taken_after
+
+-- All of the text was written and passed on, and no fault counted, or a front of it and a fault.
 abbrev pub IsWritten : End → Output → List ℕ → Type 0
 IsWritten WriteFailed output text =
     Rose output.faults output.faults_after × AppendsFront output.taken output.taken_after text
 IsWritten _ output text =
-    (output.faults_after ≡ output.faults) × Appends output.taken output.taken_after text
+    (output.faults_after ≡ output.faults) × Appends output.taken output.taken_after text × IsPassedOn output
 
 -- How a replay ended, by what the source gave, what the sink took, and what the heap shows.
 pub record Replayed (end : End) (settings : Settings) (input : Input) (output : Output) (heap : Gc) : Type 0 where

@@ -67,6 +67,7 @@ fn write_total<K: Sink>(heap: &Gc, log: &mut LogWriter<'_, K>) -> End
         (record {
           taken = K.taken log.old.sink.now;
           taken_after = K.taken log.new.sink.now;
+          passed_after = K.passed log.new.sink.now;
           faults = K.faults log.old.sink.now;
           faults_after = K.faults log.new.sink.now;
         }) (spelling (lines.Total (totals_in heap.now))) }
@@ -87,6 +88,7 @@ fn generate_log<K: Sink>(heap: &mut Gc, trace: GeneratedTrace, log: &mut LogWrit
         (record {
           taken = K.taken log.old.sink.now;
           taken_after = K.taken log.new.sink.now;
+          passed_after = K.passed log.new.sink.now;
           faults = K.faults log.old.sink.now;
           faults_after = K.faults log.new.sink.now;
         }) heap.new }
@@ -105,6 +107,7 @@ pub(crate) fn carry_out_generated<K: Sink>(heap: &mut Gc, trace: GeneratedTrace,
         (record {
           taken = K.taken out.old;
           taken_after = K.taken out.new;
+          passed_after = K.passed out.new;
           faults = K.faults out.old;
           faults_after = K.faults out.new;
         }) heap.new }

@@ -48,7 +48,7 @@ impl<'a, K: Sink> LogWriter<'a, K> {
     }
 
     /// Writes what is pending to the sink. An error says that the writer is broken.
-    pub fn write_out(&mut self) -> Result<(), Failed>
+    pub fn settle(&mut self) -> Result<(), Failed>
         ensures broken { IsErr result ↔ IsTrue self.new.broken }
         ensures nothing_pending { OnOk result (self.new.pending.items ≡ []) }
         ensures written { Grew (kept_by K.taken self.old) (kept_by K.taken self.new) [] }
@@ -62,6 +62,7 @@ impl<'a, K: Sink> LogWriter<'a, K> {
     pub(crate) fn finish(&mut self) -> Result<(), Failed>
         ensures broken { IsErr result ↔ IsTrue self.new.broken }
         ensures nothing_pending { OnOk result (self.new.pending.items ≡ []) }
+        ensures passed { self.new.broken ≡ false → K.passed self.new.sink.now ≡ K.taken self.new.sink.now }
         ensures written { Grew (kept_by K.taken self.old) (kept_by K.taken self.new) [] }
         ensures kept { KeepsOn K.faults K.taken self.old self.new }
     {
@@ -118,6 +119,7 @@ impl<'a, K: Sink> LogWriter<'a, K> {
 
     fn flush(&mut self)
         ensures pending { self.new.pending ≡ self.old.pending }
+        ensures passed { self.new.broken ≡ false → K.passed self.new.sink.now ≡ K.taken self.new.sink.now }
         ensures written { Grew (kept_by K.taken self.old) (kept_by K.taken self.new) [] }
         ensures kept { KeepsOn K.faults K.taken self.old self.new }
     {
@@ -201,7 +203,7 @@ mod tests {
             write_two(&mut log);
             expected.extend_from_slice(b" free 4096\n scan 8 2\n")?;
         }
-        assert_eq!(rt; log.write_out(), Ok(()));
+        assert_eq!(rt; log.settle(), Ok(()));
         assert!(rt; log.whole());
         assert_eq!(rt; sink.taken(), expected.as_slice());
         Ok(())
@@ -214,10 +216,10 @@ mod tests {
         let mut log = LogWriter::make(&mut sink);
         write_two(&mut log);
         assert!(rt; log.whole());
-        assert_eq!(rt; log.write_out(), Err(Failed));
+        assert_eq!(rt; log.settle(), Err(Failed));
         assert!(rt; !log.whole());
         write_two(&mut log);
-        assert_eq!(rt; log.write_out(), Err(Failed));
+        assert_eq!(rt; log.settle(), Err(Failed));
         assert_eq!(rt; log.finish(), Err(Failed));
         assert_eq!(rt; sink.taken(), b" free 4".as_slice());
         Ok(())
@@ -243,7 +245,7 @@ mod tests {
         let mut sink = MemSink::make(alloc, 100, 7, Vec::new(alloc))?;
         let mut log = LogWriter::make(&mut sink);
         tell(&mut log);
-        assert_eq!(rt; log.write_out(), Ok(()));
+        assert_eq!(rt; log.settle(), Ok(()));
         assert_eq!(rt;
             sink.taken(),
             b" reap 1\n final 16 2 1\n free 16\n scan 24 3\n".as_slice()

@@ -19,7 +19,7 @@ mod words;
 
 pub use generator::generated;
 pub use log::LogWriter;
-use mm_io::{NoMemory, Sink, Source, StdSink, StdSource};
+use mm_io::{Sink, Source, StdSink, StdSource};
 pub use program::{Outcome, run};
 pub use quiet::Quiet;
 use std::alloc::Global;
@@ -53,6 +53,7 @@ fn exit_status<S: Source, K: Sink, E: Sink>(
           output = record {
             taken = K.taken out.old;
             taken_after = K.taken out.new;
+            passed_after = K.passed out.new;
             faults = K.faults out.old;
             faults_after = K.faults out.new;
           };
@@ -67,13 +68,12 @@ fn exit_status<S: Source, K: Sink, E: Sink>(
     status
 }
 
-/// Runs over standard input, standard output and standard error.
-fn run_on_host(rt: &HostRuntime, words: &[String]) -> Result<u8, NoMemory> {
-    let alloc = rt.alloc();
-    let mut source = StdSource::make(rt, alloc)?;
-    let mut out = StdSink::make(rt, alloc, false)?;
-    let mut err = StdSink::make(rt, alloc, true)?;
-    Ok(exit_status(alloc, words, &mut source, &mut out, &mut err))
+/// Runs over standard input, or the file that is named, and over standard output and standard error.
+fn run_on_host(rt: &HostRuntime, words: &[String]) -> u8 {
+    let mut source = StdSource::make(rt.stdin(), *rt);
+    let mut out = StdSink::make(rt.stdout());
+    let mut err = StdSink::make(rt.stderr());
+    exit_status(rt.alloc(), words, &mut source, &mut out, &mut err)
 }
 
 /// Where the words can't be had the status is 5 if there was no memory, and else 7.
@@ -90,7 +90,7 @@ fn words_status(error: &io::Error) -> u8
 
 fn main(rt: HostRuntime) -> ExitCode {
     ExitCode::from(match fetch_words(&rt, rt.alloc()) {
-        Ok(words) => run_on_host(&rt, &words).unwrap_or(5),
+        Ok(words) => run_on_host(&rt, &words),
         Err(error) => words_status(&error),
     })
 }

@@ -146,6 +146,7 @@ fn replay<S: Source, K: Sink, E: Sink>(
           output = record {
             taken = K.taken out.old;
             taken_after = K.taken out.new;
+            passed_after = K.passed out.new;
             faults = K.faults out.old;
             faults_after = K.faults out.new;
           };
@@ -176,6 +177,7 @@ fn end_unwritten<K: Sink>(out: &mut K) -> End
         (record {
           taken = K.taken out.old;
           taken_after = K.taken out.new;
+          passed_after = K.passed out.new;
           faults = K.faults out.old;
           faults_after = K.faults out.new;
         }) }
@@ -210,6 +212,7 @@ fn open_and_replay<S: Source, K: Sink, E: Sink>(
           output = record {
             taken = K.taken out.old;
             taken_after = K.taken out.new;
+            passed_after = K.passed out.new;
             faults = K.faults out.old;
             faults_after = K.faults out.new;
           };
@@ -253,6 +256,7 @@ fn generate<K: Sink, E: Sink>(
           output = record {
             taken = K.taken out.old;
             taken_after = K.taken out.new;
+            passed_after = K.passed out.new;
             faults = K.faults out.old;
             faults_after = K.faults out.new;
           };
@@ -297,6 +301,7 @@ fn serve<S: Source, K: Sink, E: Sink>(
           output = record {
             taken = K.taken out.old;
             taken_after = K.taken out.new;
+            passed_after = K.passed out.new;
             faults = K.faults out.old;
             faults_after = K.faults out.new;
           };
@@ -334,6 +339,7 @@ fn serve_words<S: Source, K: Sink, E: Sink>(
           output = record {
             taken = K.taken out.old;
             taken_after = K.taken out.new;
+            passed_after = K.passed out.new;
             faults = K.faults out.old;
             faults_after = K.faults out.new;
           };
@@ -387,6 +393,7 @@ pub fn run<S: Source, K: Sink, E: Sink>(
           output = record {
             taken = K.taken out.old;
             taken_after = K.taken out.new;
+            passed_after = K.passed out.new;
             faults = K.faults out.old;
             faults_after = K.faults out.new;
           };
@@ -404,6 +411,7 @@ pub fn run<S: Source, K: Sink, E: Sink>(
           output = record {
             taken = K.taken out.old;
             taken_after = K.taken out.new;
+            passed_after = K.passed out.new;
             faults = K.faults out.old;
             faults_after = K.faults out.new;
           };

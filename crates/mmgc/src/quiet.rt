@@ -1,5 +1,5 @@
 // A journal for runs that write no lines.
-ghost use Rattle.std.specs.Prelude.{[], Some, true, ⊤};
+ghost use Rattle.std.specs.Prelude.{◌≡◌, [], Some, true, ⊤};
 
 use mm_gc::{Finalizer, Journal};
 use mm_model::Phase;
@@ -9,7 +9,10 @@ use mm_model::Phase;
 pub struct Quiet;
 
 impl Quiet {
-    pub fn make() -> Quiet {
+    pub fn make() -> Quiet
+        ensures kept { ⟦<Quiet as Finalizer>⟧.kept result ≡ Some [] }
+        ensures broken { ⟦<Quiet as Finalizer>⟧.is_broken result ≡ true }
+    {
         Quiet
     }
 }

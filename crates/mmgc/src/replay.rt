@@ -250,7 +250,7 @@ impl Replay {
         ensures faults { S.faults source.old ≤ S.faults source.new }
         ensures kept { KeepsOn K.faults K.taken log.old log.new }
     {
-        match log.write_out() {
+        match log.settle() {
             Ok(()) => self.read_on(heap, log, source, buffer, room),
             Err(_) => Err(End::WriteFailed),
         }
@@ -400,6 +400,7 @@ impl Replay {
             (record {
               taken = K.taken log.old.sink.now;
               taken_after = K.taken log.new.sink.now;
+              passed_after = K.passed log.new.sink.now;
               faults = K.faults log.old.sink.now;
               faults_after = K.faults log.new.sink.now;
             }) heap.new }
@@ -429,6 +430,7 @@ fn total<K: Sink>(heap: &Gc, log: &mut LogWriter<'_, K>, end: End)
 pub(crate) fn finish_log<K: Sink>(log: &mut LogWriter<'_, K>, end: End) -> End
     ensures ends { result ≡ cond log.new.broken End.WriteFailed end }
     ensures nothing_pending { log.new.broken ≡ false → log.new.pending.items ≡ [] }
+    ensures passed { log.new.broken ≡ false → K.passed log.new.sink.now ≡ K.taken log.new.sink.now }
     ensures written { Grew (kept_by K.taken log.old) (kept_by K.taken log.new) [] }
     ensures kept { KeepsOn K.faults K.taken log.old log.new }
 {
@@ -445,6 +447,7 @@ fn finish<K: Sink>(heap: &Gc, log: &mut LogWriter<'_, K>, end: End) -> End
         Logged end start reach heap.now (kept_by K.taken log.new) }
     ensures ends { result ≡ cond log.new.broken End.WriteFailed end }
     ensures nothing_pending { log.new.broken ≡ false → log.new.pending.items ≡ [] }
+    ensures passed { log.new.broken ≡ false → K.passed log.new.sink.now ≡ K.taken log.new.sink.now }
     ensures kept { KeepsOn K.faults K.taken log.old log.new }
     ensures same_sink { log.new.sink.ghost_name ≡ log.old.sink.ghost_name }
 {
@@ -466,6 +469,7 @@ pub(crate) fn carry_out<S: Source, K: Sink>(heap: &mut Gc, source: &mut S, out: 
         (record {
           taken = K.taken out.old;
           taken_after = K.taken out.new;
+          passed_after = K.passed out.new;
           faults = K.faults out.old;
           faults_after = K.faults out.new;
         }) heap.new }

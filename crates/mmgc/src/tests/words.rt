@@ -117,7 +117,7 @@ fn a_generated_trace_writes_its_totals_alone(rt: HostRuntime) -> Result<(), Fail
 #[test]
 fn a_seed_gives_the_same_totals_again(rt: HostRuntime) -> Result<(), Fail> {
     let given = Given {
-        words: &["--gen", "7", "--count", "100000"],
+        words: &["--gen", "7", "--count", "200000", "--queue", "1"],
         ..Given::whole(b"")
     };
     let first = ended(rt.alloc(), &given)?;
@@ -174,7 +174,7 @@ fn a_named_file_takes_the_place_of_the_input(rt: HostRuntime) -> Result<(), Fail
 fn run_over_file(rt: &HostRuntime, name: &str) -> Result<(u8, MemSink), Fail> {
     let alloc = rt.alloc();
     let words = listed(alloc, &[name])?;
-    let mut source = StdSource::make(rt, alloc)?;
+    let mut source = StdSource::make(rt.stdin(), *rt);
     let mut out = MemSink::make(alloc, 100, 7, Vec::new(alloc))?;
     let mut err = MemSink::make(alloc, 100, 3, Vec::new(alloc))?;
     let Outcome { status, heap } = run(alloc, &words, &mut source, &mut out, &mut err);

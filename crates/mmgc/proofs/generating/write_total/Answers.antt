@@ -28,6 +28,7 @@ returns-clause-ends g c =
     (record {
       taken = taken first.sink.now;
       taken_after = taken last.sink.now;
+      passed_after = g.K.Sink.passed last.sink.now;
       faults = faults first.sink.now;
       faults_after = faults last.sink.now;
     })
@@ -39,5 +40,6 @@ returns-clause-ends g c =
       grows = kept.grows;
       cause = λ broken. was_whole first.broken c.requires.whole (kept.cause broken);
       clean = kept.clean;
+      passed = c.finish_log.ensures.passed;
     })
     written

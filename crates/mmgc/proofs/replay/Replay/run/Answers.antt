@@ -31,6 +31,7 @@ returns-clause-replayed g c settings shows =
     (record {
       taken = taken first.sink.now;
       taken_after = taken last.sink.now;
+      passed_after = g.K.Sink.passed last.sink.now;
       faults = faults first.sink.now;
       faults_after = faults last.sink.now;
     })
@@ -43,5 +44,6 @@ returns-clause-replayed g c settings shows =
       grows = kept.grows;
       cause = λ broken. was_whole first.broken c.requires.whole (kept.cause broken);
       clean = kept.clean;
+      passed = c.finish.ensures.passed;
     })
     logged
