@@ -1,0 +1,4 @@
+pub mod Work
+pub mod Recent
+pub mod Rules
+pub mod Paced

@@ -1,0 +1,13 @@
+//! Cycles that are driven by allocation: when one begins, how much of it is done for each birth, and when it ends.
+#![tactic(auto)]
+
+mod laws;
+mod pace;
+#[cfg(test)]
+mod tests;
+
+/* pub use laws::{
+    a_paced_list_is_determined, a_trace_is_at_most_quadrupled, cycles_end_in_time, one_more_turn,
+    paced_lists_can_be_carried_on,
+}; */
+pub use pace::Pace;
