@@ -4,7 +4,8 @@ use Rattle.std.specs.List.{flat_map}
 use Rattle.mm_model.specs.declared.command.Command.{Command}
 use Rattle.mm_model.specs.declared.line.Line.{Line}
 use Rattle.mm_model.specs.declared.settings.Settings.{Settings}
-use Rattle.mm_model.specs.Turns.{Turn, AreTurns}
+use Rattle.mm_model.specs.State.{State, empty_state}
+use Rattle.mm_model.specs.Turns.{Turn, AreTurns, AreSteps}
 use Rattle.mm_pace.specs.Rules.{Rule, rules_at}
 
 -- A command of the trace as it is carried out: its own turn, and those of the commands that are added after it.
@@ -64,3 +65,11 @@ abbrev pub EachOwn : List Stretch → (List Turn → Turn → Type 0) → Type 0
 EachOwn stretches P =
     (front : List Stretch) (stretch : Stretch) (later : List Stretch) → front ++ stretch ∷ later ≡ stretches
     → P (flat_map turns_in front) stretch.own
+
+-- Turns behind these ones, with which they are paced from a trace, and are steps from the empty state on.
+pub record GoesOn (rate : ℕ) (settings : Settings) (trace : List Command) (turns : List Turn) : Type 0 where
+  pub later : List Turn
+  pub own : List Turn
+  pub state : State
+  pub paced : IsPaced rate trace (turns ++ later) own
+  pub steps : AreSteps (empty_state settings) (turns ++ later) state

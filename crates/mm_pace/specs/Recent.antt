@@ -1,5 +1,5 @@
 -- What has been allocated since a cycle began or ended last, and what the running one had to do as it began.
-use Rattle.std.specs.Prelude.{ℕ, Bool, false, not, if◌then◌else◌, List, [], ◌∷◌, reverse, Option, Some, None}
+use Rattle.std.specs.Prelude.{ℕ, Bool, not, if◌then◌else◌, List, [], ◌∷◌, reverse, Option}
 use Rattle.std.specs.List.{list_any, find, sum_by}
 use Rattle.std.specs.Option.{option_map_or}
 use Rattle.mm_model.specs.SizeClass.{extent_of, object_bytes}

@@ -1,6 +1,8 @@
 // A pacer, which counts what is born and says what of a cycle is due.
 ghost use Rattle.std.specs.Prelude.{◌≡◌, ◌*◌, ◌/◌, ◌%◌, ◌+◌, ◌≤◌, ◌↔◌, IsTrue, MatchOption};
 
+use std::mem::replace;
+
 /// What is needed to say when a cycle begins, how much of it is done for each birth, and when it ends.
 ///
 /// The cycle's work is the number of live objects plus the number of their scanned slots.
@@ -84,12 +86,10 @@ impl Pace {
         ensures since { self.new.since ≡ self.old.since }
         ensures work { self.new.work ≡ self.old.work }
     {
-        if self.last == 0 {
-            return None;
+        match replace(&mut self.last, 0) {
+            0 => None,
+            last => Some((u64::from(self.rate) * u64::from(last) / 16) as u32),
         }
-        let steps = u64::from(self.rate) * u64::from(self.last) / 16;
-        self.last = 0;
-        Some(steps as u32)
     }
 
     /// Whether so much was allocated since the cycle began that it must end.

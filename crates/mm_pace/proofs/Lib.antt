@@ -1,0 +1,7 @@
+pub mod Beginning
+pub mod Bound
+pub mod Determined
+pub mod Growing
+pub mod Joined
+pub mod Lengths
+pub mod OneMore
