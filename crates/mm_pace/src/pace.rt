@@ -1,5 +1,5 @@
 // A pacer, which counts what is born and says what of a cycle is due.
-ghost use Rattle.std.specs.Prelude.{◌≡◌, ◌*◌, ◌/◌, ◌%◌, ◌+◌, ◌≤◌, ◌↔◌, IsTrue, MatchOption};
+ghost use Rattle.std.specs.Prelude.{◌≡◌, ◌*◌, ◌/◌, ◌%◌, ◌+◌, ◌≤◌, ◌↔◌, IsTrue, IsNone, IfSome};
 
 use std::mem::replace;
 
@@ -80,7 +80,8 @@ impl Pace {
 
     /// How many steps are due for the object that was born last, once.
     pub fn step_size(&mut self) -> Option<u32>
-        ensures size { MatchOption result (self.old.last ≡ 0) (λ k. k ≡ self.old.rate * self.old.last / 16) }
+        ensures none { IsNone result ↔ (self.old.last ≡ 0) }
+        ensures size { IfSome result (λ k. k ≡ self.old.rate * self.old.last / 16) }
         ensures last { self.new.last ≡ 0 }
         ensures rate { self.new.rate ≡ self.old.rate }
         ensures since { self.new.since ≡ self.old.since }

@@ -1,13 +1,15 @@
-// A library with one function.
+//! How much the live objects of each site take, counted on with each birth and each free.
 #![tactic(auto)]
 
-ghost use Rattle.std.specs.Prelude.{◌≡◌};
-ghost use Rattle.mm_sites.specs.Echo.{echo_of};
+mod entry;
+mod site_total;
+mod sites;
+#[cfg(test)]
+mod tests;
 
-// The `ensures` clause is the contract: what `echo` returns is `echo_of` of its argument, a definition
-// in `specs/Echo.antt`, which a caller's clause can cite too.
-pub fn echo(x: usize) -> usize
-    ensures { result ≡ echo_of x }
-{
-    x
-}
+pub use entry::Entry;
+pub use site_total::SiteTotal;
+pub use sites::Sites;
+
+/// Want of memory, the one refusal of this crate.
+pub type NoMemory = std::alloc::AllocError;

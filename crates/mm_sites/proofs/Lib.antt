@@ -1,0 +1,5 @@
+pub mod Bounds
+pub mod Empty
+pub mod Entered
+pub mod Kept
+pub mod Totals

@@ -1,0 +1,22 @@
+-- The lines that tell of sites.
+use Rattle.std.specs.Prelude.{ℕ, if◌then◌else◌, ◌==◌, List, [], ◌∷◌, codes, decimal}
+use Rattle.std.specs.List.{flat_map, range_with_len}
+use Rattle.mm_model.specs.Spelling.{sentence}
+use Rattle.mm_model.specs.State.{State}
+use Rattle.mm_sites.specs.declared.site_total.SiteTotal.{SiteTotal}
+use Rattle.mm_sites.specs.Births.{total_in}
+use Rattle.mm_sites.specs.Lines.{most_sites}
+
+-- the line of a site: its number, its objects and their bytes, and none where there is no object
+abbrev pub site_text : ℕ → SiteTotal → List ℕ
+site_text site total =
+    if total.objects == 0 then []
+    else sentence (codes "site" ∷ decimal site ∷ decimal total.objects ∷ decimal total.bytes ∷ [])
+
+-- the lines of all sites by ascending number
+abbrev pub sites_text : (ℕ → SiteTotal) → List ℕ
+sites_text total_at = flat_map (λ site. site_text site (total_at site)) (range_with_len 0 most_sites)
+
+-- what is added to a log that leaves this state, where the objects' sites are given by birth number
+abbrev pub text_of_sites : State → List ℕ → List ℕ
+text_of_sites a sites = sites_text (total_in a sites)
