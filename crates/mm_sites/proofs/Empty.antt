@@ -1,14 +1,13 @@
 -- Where nothing is entered, each total is that of nothing.
-use Rattle.std.proofs.Common.{◌≡◌, ℕ, zero, suc, ◌+◌, ◌*◌, ◌^◌, ◌<◌, ◌≤◌, List, [], ◌∷◌, length, Option, Some, None, replicate}
-use Rattle.std.proofs.Common.{refl, sym, ap, ◌∙◌, subst, arith}
+use Rattle.std.proofs.Common.{◌≡◌, ℕ, zero, suc, ◌^◌, ◌<◌, ◌≤◌, List, length, Option, Some, None, replicate}
+use Rattle.std.proofs.Common.{refl, sym, ap, ◌∙◌, arith}
 use Rattle.std.proofs.lemmas.List.{length-replicate}
 use Rattle.std.proofs.lemmas.List.Folds.{sum_by-replicate}
 use Rattle.std.specs.Prelude.{slice_get}
-use Rattle.std.specs.List.{sum_by}
 use Rattle.mm_sites.specs.declared.entry.Entry.{Entry}
 use Rattle.mm_sites.specs.declared.site_total.SiteTotal.{SiteTotal}
 use Rattle.mm_sites.specs.Entries.{EntriesByBase, total_of}
-use Rattle.mm_sites.specs.Kept.{FitsEntry, KeepsTotals}
+use Rattle.mm_sites.specs.Kept.{KeepsTotals}
 use Rattle.mm_sites.proofs.Totals.{objects_at, bytes_at, objects-total, bytes-total}
 
 replicate_only : {X : Type 0} (n : ℕ) (x : X) (k : ℕ) (y : X) → slice_get (replicate n x) k ≡ Some y → y ≡ x

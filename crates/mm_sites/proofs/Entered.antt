@@ -1,8 +1,7 @@
 -- Whether something is entered at a base, as the entry there says.
-use Rattle.std.proofs.Common.{◌≡◌, ℕ, ◌*◌, ◌/◌, ◌%◌, ◌<◌, ◌≤◌, Bool, true, false, List, length, Option, Some, None, refl, sym, ap, ◌∙◌, arith}
+use Rattle.std.proofs.Common.{◌≡◌, ℕ, ◌/◌, ◌%◌, ◌≤◌, true, false, length, Option, Some, None, refl, arith}
 use Rattle.std.proofs.lemmas.Option.{slice_get_past}
 use Rattle.std.specs.Prelude.{is_some, slice_get}
-use Rattle.mm_model.specs.ByBase.{Begins}
 use Rattle.mm_model.proofs.View.ReplacedEntries.{begins_get}
 use Rattle.mm_sites.specs.declared.entry.Entry.{Entry}
 use Rattle.mm_sites.specs.Entries.{EntriesByBase, HasEntry}

@@ -2,4 +2,5 @@ pub mod Bounds
 pub mod Empty
 pub mod Entered
 pub mod Kept
+pub mod Parallel
 pub mod Totals

@@ -1,15 +1,14 @@
 -- The totals of a site as sums over all entries, and what becomes of them where one entry is replaced.
-use Rattle.std.proofs.Common.{◌≡◌, ℕ, ◌+◌, ◌*◌, ◌<◌, ◌≤◌, Bool, true, false, cond, List, [], ◌∷◌, length, Option, Some, None}
+use Rattle.std.proofs.Common.{◌≡◌, ℕ, ◌+◌, Bool, true, false, cond, List, [], ◌∷◌, length, Option, Some, None}
 use Rattle.std.proofs.Common.{refl, sym, ap, ◌∙◌, arith, zero-add}
 use Rattle.std.proofs.Math.ListN.{get_or}
 use Rattle.std.proofs.lemmas.List.Sums.{sum_by-cons, sum_by-set}
 use Rattle.std.proofs.lemmas.Option.{get_or_from_slice_get, slice_get_within}
 use Rattle.std.specs.Prelude.{◌==◌, slice_get, slice_set}
 use Rattle.std.specs.List.{filter, sum_by}
-use Rattle.mm_model.specs.ByBase.{Based, based_from, based}
+use Rattle.mm_model.specs.ByBase.{Based, based_from}
 use Rattle.mm_sites.specs.declared.entry.Entry.{Entry}
-use Rattle.mm_sites.specs.declared.site_total.SiteTotal.{SiteTotal}
-use Rattle.mm_sites.specs.Entries.{EntriesByBase, entries_of, total_of}
+use Rattle.mm_sites.specs.Entries.{EntriesByBase, total_of}
 
 -- what an entry adds to the objects of a site, and to its bytes
 abbrev pub objects_at : ℕ → Option Entry → ℕ

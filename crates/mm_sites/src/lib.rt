@@ -2,12 +2,14 @@
 #![tactic(auto)]
 
 mod entry;
+mod laws;
 mod site_total;
 mod sites;
 #[cfg(test)]
 mod tests;
 
 pub use entry::Entry;
+pub use laws::{each_birth_has_a_site, each_command_has_a_site, lines_of_sites_are_passed_over};
 pub use site_total::SiteTotal;
 pub use sites::Sites;
 

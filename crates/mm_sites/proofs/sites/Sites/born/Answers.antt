@@ -1,8 +1,8 @@
 -- What stands at the base before, and that the totals stay right.
-use Rattle.std.proofs.Common.{◌≡◌, ◌/◌, ◌<◌, length, Some, None, true, false, refl, ap, sym, ◌∙◌, subst, arith}
+use Rattle.std.proofs.Common.{◌≡◌, ◌/◌, ◌<◌, length, Some, true, refl, ap, sym, ◌∙◌, subst, arith}
 use Rattle.std.proofs.lemmas.Option.{slice_get_read}
-use Rattle.std.specs.Prelude.{slice_get, is_some}
-use Rattle.mm_sites.specs.Entries.{HasEntry, total_of}
+use Rattle.std.specs.Prelude.{is_some}
+use Rattle.mm_sites.specs.Entries.{HasEntry}
 use Rattle.mm_sites.proofs.Bounds.{objects-le, bytes-le, read-total}
 use Rattle.mm_sites.proofs.Entered.{entered_if, nothing_if, none_entered}
 use Rattle.mm_sites.proofs.Kept.{with_object, kept-born}

@@ -1,8 +1,7 @@
 -- What stands at the base before, and that the totals stay right.
-use Rattle.std.proofs.Common.{◌≡◌, ◌≤◌, ◌/◌, ◌<◌, length, Some, None, true, false, refl, ap, sym, ◌∙◌, subst, arith}
+use Rattle.std.proofs.Common.{◌/◌, length, Some, refl, ap, sym, ◌∙◌, subst, arith}
 use Rattle.std.proofs.lemmas.Option.{slice_get_read}
-use Rattle.std.specs.Prelude.{slice_get}
-use Rattle.mm_sites.specs.Entries.{HasEntry, total_of}
+use Rattle.mm_sites.specs.Entries.{HasEntry}
 use Rattle.mm_sites.proofs.Bounds.{read-total}
 use Rattle.mm_sites.proofs.Entered.{is_entered, none_entered}
 use Rattle.mm_sites.proofs.Kept.{without_object, kept-freed, within-objects, within-bytes}
