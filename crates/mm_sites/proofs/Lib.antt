@@ -2,5 +2,6 @@ pub mod Bounds
 pub mod Empty
 pub mod Entered
 pub mod Kept
+pub mod Living
 pub mod Parallel
 pub mod Totals

@@ -1,9 +1,13 @@
-// Laws of the sites of commands and births.
+// Laws of the sites of commands and births, and of what is entered.
 ghost use Rattle.std.specs.Prelude.{◌≡◌, ℕ, List, length, Ok, Some, None};
+ghost use Rattle.mm_model.specs.Good.{IsGood};
+ghost use Rattle.mm_model.specs.State.{State};
 ghost use Rattle.mm_model.specs.Trace.{line_reading, reading_from, trace_reading};
 ghost use Rattle.mm_model.specs.Turns.{Turn, births_in};
-ghost use Rattle.mm_sites.specs.Births.{birth_sites};
+ghost use Rattle.mm_sites.specs.Births.{birth_sites, total_in};
+ghost use Rattle.mm_sites.specs.Entries.{EntriesByBase, total_of};
 ghost use Rattle.mm_sites.specs.Lines.{site_line, sites_of_lines, sites_of_trace};
+ghost use Rattle.mm_sites.specs.Living.{AreEntered};
 
 /// A line that names a site is passed over, as each line that begins with the number sign and isn't too long.
 pub fn lines_of_sites_are_passed_over()
@@ -22,4 +26,11 @@ pub fn each_command_has_a_site()
 pub fn each_birth_has_a_site()
     ensures { (turns : List Turn) (sites : List ℕ) → length sites ≡ length turns
         → length (birth_sites turns sites) ≡ length (births_in turns) }
+{}
+
+/// Where exactly the live objects of a state are entered, the totals of the entries are those of the state.
+pub fn totals_are_those_of_the_living()
+    ensures { (a : State) (sites : List ℕ) (entries : EntriesByBase) (site : ℕ) → IsGood a
+        → length sites ≡ length a.objects → AreEntered a sites entries
+        → total_of entries site ≡ total_in a sites site }
 {}
