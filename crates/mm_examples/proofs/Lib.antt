@@ -1,3 +1,4 @@
+pub mod Adding
 pub mod Breaking
 pub mod Freeing
 pub mod Refuting

@@ -12,21 +12,21 @@ use Rattle.mm_model.specs.Log.{IsRun}
 use Rattle.mm_examples.specs.Examples.{IsLogOf}
 use Rattle.mm_examples.proofs.Stepping.{step_log, step_checks, step_if}
 
-abbrev onto_group : Line → List (List Line) → List (List Line)
+abbrev pub onto_group : Line → List (List Line) → List (List Line)
 onto_group line [] = (line ∷ []) ∷ []
 onto_group line (group ∷ groups) = (line ∷ group) ∷ groups
 
 -- the groups of a log, each of which ends with a reply
-abbrev groups_in : List Line → List (List Line)
+abbrev pub groups_in : List Line → List (List Line)
 groups_in [] = []
 groups_in (lines.Reply reply ∷ log) = (lines.Reply reply ∷ []) ∷ groups_in log
 groups_in (line ∷ log) = onto_group line (groups_in log)
 
-abbrev first_group : List (List Line) → List Line
+abbrev pub first_group : List (List Line) → List Line
 first_group [] = []
 first_group (group ∷ groups) = group
 
-abbrev later_groups : List (List Line) → List (List Line)
+abbrev pub later_groups : List (List Line) → List (List Line)
 later_groups [] = []
 later_groups (group ∷ groups) = groups
 

@@ -12,6 +12,7 @@ mod finishing;
 mod full;
 mod held_often;
 mod illegal;
+mod pacing;
 mod places;
 mod room;
 mod text;

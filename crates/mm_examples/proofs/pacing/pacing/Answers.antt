@@ -1,0 +1,58 @@
+-- The turns and the log are computed.
+use Rattle.std.proofs.Common.{ℕ, List, [], ◌∷◌, ◌++◌, map, take, get_or, refl}
+use Rattle.mm_model.specs.declared.command.Command.{Command}
+use Rattle.mm_model.specs.declared.command.Command.TheVariants.{Begin, Step, Finish, Stat}
+use Rattle.mm_model.specs.declared.line.Line.{Line}
+use Rattle.mm_model.specs.declared.object.Kind.TheVariants.{Leaf}
+use Rattle.mm_model.specs.SizeClass.{class_sizes}
+use Rattle.mm_model.specs.State.{empty_state}
+use Rattle.mm_model.specs.Turns.{Turn}
+use Rattle.mm_pace.specs.Paced.{Stretch}
+use Rattle.mm_examples.specs.Examples.{usual, new, made, done, stat, scanned, collected}
+use Rattle.mm_examples.proofs.Adding.{turns_from, are_turns, stretches_of, none_added, step_and_finish}
+use Rattle.mm_examples.proofs.Running.{groups_in, log_if}
+use Rattle.mm_examples.proofs.pacing.pacing.Goals as goal
+
+abbrev carried : List Command
+carried = new Leaf 0 0 ∷ Begin ∷ Stat ∷ new Leaf 0 0 ∷ Step 1 ∷ Finish ∷ []
+
+abbrev log : List Line
+log = made 4096 ∷ done ∷ stat 1 0 0 1022 ∷ made 4112 ∷ scanned 4096 0 ∷ done ∷ collected 0 ∷ done ∷ []
+
+abbrev turns : List Turn
+turns = turns_from (empty_state usual) carried (groups_in log)
+
+abbrev stretches : List Stretch
+stretches = stretches_of (0 ∷ 0 ∷ 0 ∷ 2 ∷ []) turns
+
+-- the turn of the command with this number, counted from 0
+abbrev turn_at : ℕ → Turn
+turn_at k = get_or turns k (record { before = empty_state usual; command = Stat; group = []; after = empty_state usual })
+
+pub returns-clause-paced : goal.returns-clause-paced
+unfolding class_sizes
+returns-clause-paced c = record {
+  turns = turns;
+  own = map (λ (s : Stretch). s.own) stretches;
+  are = are_turns usual carried log (groups_in log) refl (refl, (refl, (refl, (refl, (refl, (refl, tt))))));
+  paced = record {
+    stretches = stretches;
+    each_command = refl;
+    own_are = refl;
+    turns_are = refl;
+    ruled = (
+      none_added 1 (take 1 turns) refl refl refl,
+      (
+        none_added 1 (take 2 turns) refl refl refl,
+        (
+          none_added 1 (take 3 turns) refl refl refl,
+          (step_and_finish 1 (take 4 turns) (turn_at 4) (turn_at 5) refl refl refl, tt),
+        ),
+      ),
+    );
+  };
+}
+
+pub returns-clause-legal : goal.returns-clause-legal
+unfolding class_sizes
+returns-clause-legal c = log_if _ _ _ (search) (search)
