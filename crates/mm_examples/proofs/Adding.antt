@@ -1,8 +1,9 @@
 -- The turns of a log, as they are computed, and what the rules of pacing add to them.
-use Rattle.std.proofs.Common.{◌≡◌, ℕ, List, [], ◌∷◌, ◌++◌, map, take, drop, Option, Some, None, refl, sym, ap}
+use Rattle.std.proofs.Common.{◌≡◌, ℕ, List, [], ◌∷◌, ◌++◌, map, take, drop, get_or, Some, None, refl, sym, ap}
 use Rattle.std.specs.Prelude.{IsTrue}
 use Rattle.std.specs.List.{AllByRecursion, flat_map}
 use Rattle.mm_model.specs.declared.command.Command.{Command}
+use Rattle.mm_model.specs.declared.command.Command.TheVariants as commands
 use Rattle.mm_model.specs.declared.line.Line.{Line}
 use Rattle.mm_model.specs.declared.settings.Settings.{Settings}
 use Rattle.mm_model.specs.State.{State, empty_state}
@@ -46,6 +47,12 @@ are_turns settings commands log groups cut are =
       joined = joined-from (empty_state settings) commands groups;
     }
 
+-- the turn of the command with this number, counted from 0
+abbrev pub turn_at : Settings → List Turn → ℕ → Turn
+turn_at settings turns k =
+    let a = empty_state settings in
+    get_or turns k (record { before = a; command = commands.Stat; group = []; after = a })
+
 -- turns cut into stretches, each with so many that were added
 abbrev pub stretches_of : List ℕ → List Turn → List Stretch
 stretches_of [] turns = []
@@ -58,8 +65,16 @@ pub none_added : (rate : ℕ) (earlier : List Turn) → due_step rate earlier �
     → due_finish rate (earlier ++ []) ≡ None → due_begin (earlier ++ [] ++ []) ≡ None
     → AreAdded (rules_at rate) earlier []
 none_added rate earlier step finish begin = (
-  [], [], refl, sym (ap list_of step), (
-    [], [], refl, sym (ap list_of finish), ([], [], refl, sym (ap list_of begin), refl),
+  [],
+  [],
+  refl,
+  sym (ap list_of step),
+  (
+    [],
+    [],
+    refl,
+    sym (ap list_of finish),
+    ([], [], refl, sym (ap list_of begin), refl),
   ),
 )
 
@@ -69,7 +84,33 @@ pub step_and_finish : (rate : ℕ) (earlier : List Turn) (stepped finished : Tur
     → due_begin (earlier ++ stepped ∷ [] ++ finished ∷ []) ≡ None
     → AreAdded (rules_at rate) earlier (stepped ∷ finished ∷ [])
 step_and_finish rate earlier stepped finished step finish begin = (
-  stepped ∷ [], finished ∷ [], refl, sym (ap list_of step), (
-    finished ∷ [], [], refl, sym (ap list_of finish), ([], [], refl, sym (ap list_of begin), refl),
+  stepped ∷ [],
+  finished ∷ [],
+  refl,
+  sym (ap list_of step),
+  (
+    finished ∷ [],
+    [],
+    refl,
+    sym (ap list_of finish),
+    ([], [], refl, sym (ap list_of begin), refl),
+  ),
+)
+
+-- the last rule alone adds a command
+pub begin_alone : (rate : ℕ) (earlier : List Turn) (begun : Turn) → due_step rate earlier ≡ None
+    → due_finish rate (earlier ++ []) ≡ None → due_begin (earlier ++ [] ++ []) ≡ Some begun.command
+    → AreAdded (rules_at rate) earlier (begun ∷ [])
+begin_alone rate earlier begun step finish begin = (
+  [],
+  begun ∷ [],
+  refl,
+  sym (ap list_of step),
+  (
+    [],
+    begun ∷ [],
+    refl,
+    sym (ap list_of finish),
+    (begun ∷ [], [], refl, sym (ap list_of begin), refl),
   ),
 )

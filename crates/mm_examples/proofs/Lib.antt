@@ -1,5 +1,6 @@
 pub mod Adding
 pub mod Breaking
+pub mod Ending
 pub mod Freeing
 pub mod Refuting
 pub mod Running

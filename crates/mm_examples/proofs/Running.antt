@@ -37,7 +37,7 @@ run_log a (command ∷ commands) groups =
     step_log a command (first_group groups)
     ++ run_log (after a command (first_group groups)) commands (later_groups groups)
 
-abbrev run_checks : State → List Command → List (List Line) → Bool
+abbrev pub run_checks : State → List Command → List (List Line) → Bool
 run_checks a [] groups = true
 run_checks a (command ∷ commands) groups =
     step_checks a command (first_group groups)

@@ -1,3 +1,4 @@
 pub mod Broken
 pub mod Examples
 pub mod Pieces
+pub mod SiteText

@@ -15,6 +15,7 @@ mod illegal;
 mod pacing;
 mod places;
 mod room;
+mod sites;
 mod text;
 mod weak;
 mod words;

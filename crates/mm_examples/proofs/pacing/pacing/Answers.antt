@@ -1,5 +1,5 @@
 -- The turns and the log are computed.
-use Rattle.std.proofs.Common.{ℕ, List, [], ◌∷◌, ◌++◌, map, take, get_or, refl}
+use Rattle.std.proofs.Common.{List, [], ◌∷◌, map, take, refl}
 use Rattle.mm_model.specs.declared.command.Command.{Command}
 use Rattle.mm_model.specs.declared.command.Command.TheVariants.{Begin, Step, Finish, Stat}
 use Rattle.mm_model.specs.declared.line.Line.{Line}
@@ -9,7 +9,7 @@ use Rattle.mm_model.specs.State.{empty_state}
 use Rattle.mm_model.specs.Turns.{Turn}
 use Rattle.mm_pace.specs.Paced.{Stretch}
 use Rattle.mm_examples.specs.Examples.{usual, new, made, done, stat, scanned, collected}
-use Rattle.mm_examples.proofs.Adding.{turns_from, are_turns, stretches_of, none_added, step_and_finish}
+use Rattle.mm_examples.proofs.Adding.{turns_from, turn_at, are_turns, stretches_of, none_added, step_and_finish}
 use Rattle.mm_examples.proofs.Running.{groups_in, log_if}
 use Rattle.mm_examples.proofs.pacing.pacing.Goals as goal
 
@@ -24,10 +24,6 @@ turns = turns_from (empty_state usual) carried (groups_in log)
 
 abbrev stretches : List Stretch
 stretches = stretches_of (0 ∷ 0 ∷ 0 ∷ 2 ∷ []) turns
-
--- the turn of the command with this number, counted from 0
-abbrev turn_at : ℕ → Turn
-turn_at k = get_or turns k (record { before = empty_state usual; command = Stat; group = []; after = empty_state usual })
 
 pub returns-clause-paced : goal.returns-clause-paced
 unfolding class_sizes
@@ -46,7 +42,7 @@ returns-clause-paced c = record {
         none_added 1 (take 2 turns) refl refl refl,
         (
           none_added 1 (take 3 turns) refl refl refl,
-          (step_and_finish 1 (take 4 turns) (turn_at 4) (turn_at 5) refl refl refl, tt),
+          (step_and_finish 1 (take 4 turns) (turn_at usual turns 4) (turn_at usual turns 5) refl refl refl, tt),
         ),
       ),
     );
