@@ -1,0 +1,2 @@
+pub mod BitWrites
+pub mod Queues

@@ -1,0 +1,4 @@
+pub mod Path
+pub mod Queue
+pub mod Search
+pub mod Why

@@ -1,0 +1,15 @@
+//! Why an object is kept: a shortest path that leads to it from the stack or from a scanned area.
+#![tactic(auto)]
+
+mod bits;
+mod following;
+mod found;
+mod hop;
+mod noting;
+mod queue;
+mod roots;
+mod tracing;
+mod why;
+
+pub use hop::{Hop, Via};
+pub use why::{NoMemory, Why};
