@@ -1,2 +1,9 @@
+pub mod AreaWords
 pub mod BitWrites
+pub mod Costs
+pub mod Followed
+pub mod Noted
+pub mod Objects
 pub mod Queues
+pub mod Searched
+pub mod Traced

@@ -84,7 +84,7 @@ pub record AreFollowed (objects : ObjectsByBase) (found : List Found) (next : �
 pub record IsSearched (objects : ObjectsByBase) (found : List Found) (target : ℕ) : Type 0 where
   pub next : ℕ
   pub followed : AreFollowed objects found next
-  pub enough : IsFound found target ⊎ (next ≡ length found)
+  pub enough : IsFound found target ⊎ (length found ≤ next)
 
 -- how many scanned slots the object at a base has
 abbrev pub slots_in : Option ObjectView → ℕ

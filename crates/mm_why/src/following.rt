@@ -1,11 +1,11 @@
 // Following objects: finding those in which the words of their scanned slots fall.
-ghost use Rattle.std.specs.Prelude.{◌≡◌, ℕ, ◌+◌, ◌*◌, ◌<◌, ◌≤◌, List, Some, slice_get};
+ghost use Rattle.std.specs.Prelude.{◌≡◌, ℕ, ◌+◌, ◌*◌, ◌<◌, ◌≤◌, ◌⊎◌, List, Some, slice_get, length, MatchBool};
 ghost use Rattle.mm_model.specs.ByBase.{Begins};
 ghost use Rattle.mm_model.specs.ObjectView.{ObjectView, scanned_words_of};
 ghost use Rattle.mm_model.specs.View.{AreaView};
 ghost use Rattle.mm_object.specs.Object.{views_of};
 ghost use Rattle.mm_why.specs.declared.found.Found.{Found as Entry};
-ghost use Rattle.mm_why.specs.Queue.{AreShort, IsGrown, IsPlace};
+ghost use Rattle.mm_why.specs.Queue.{AreShort, IsGrown, IsPlace, IsFound, IsSoundQueue};
 ghost use Rattle.mm_why.specs.Search.{shown_with, HaveReasons, AreWordsFound, AreLive, IsSearched, cost_of, slots_at};
 
 use crate::found::{Found, Lead};
@@ -32,15 +32,26 @@ impl Queue {
         ensures cost { steps.new ≤ steps.old + cost_of (views_of heap.now.objects) self.new.found }
     {
         let mut next = 0;
-        'objects: while next < self.len() && !self.contains(target) {
+        'objects: while self.goes_on(next, target) {
             let by = self.at(next);
             self.note_slots(heap, next, by, steps);
             next += 1;
         }
     }
 
+    /// Whether an object is left to follow, and the target isn't found.
+    fn goes_on(&self, next: u32, target: u32) -> bool
+        requires { IsPlace self.now.places target }
+        ensures left { MatchBool result (next < length self.now.found)
+            (IsFound self.now.found target ⊎ (length self.now.found ≤ next)) }
+        ensures sound { IsSoundQueue self.now }
+    {
+        next < self.len() && !self.contains(target)
+    }
+
     /// Notes the words of the scanned slots of an object that stands at a place in the queue.
     fn note_slots<L: Ledger>(&mut self, heap: &Heap, from: u32, by: Found, steps: &mut Steps<L>)
+        requires sound { IsSoundQueue self.old }
         requires there { slice_get self.old.found from ≡ Some by }
         requires short { AreShort self.old.found (by.lead.length + 1) }
         requires live { AreLive (views_of heap.now.objects) self.old.found }

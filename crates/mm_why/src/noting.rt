@@ -1,7 +1,7 @@
 // Words that may fall in an object that wasn't found yet.
 ghost use Rattle.std.specs.Prelude.{◌≡◌, ◌+◌, ◌*◌, ◌≤◌};
 ghost use Rattle.mm_object.specs.Object.{views_of};
-ghost use Rattle.mm_why.specs.Queue.{HasLength, AreShort, IsSoundQueue};
+ghost use Rattle.mm_why.specs.Queue.{HasLength, AreShort};
 ghost use Rattle.mm_why.specs.Search.{IsNoted};
 
 use crate::found::{Found, Lead};
@@ -25,7 +25,6 @@ impl Queue {
         requires ordered { AreShort self.old.found lead.length }
         ensures noted { IsNoted (views_of heap.now.objects) self.old.found self.new.found word lead }
         ensures places { self.new.places ≡ self.old.places }
-        ensures sound { IsSoundQueue self.new }
         ensures cost { steps.new ≡ steps.old + 1 }
     {
         match heap.find(word, steps) {

