@@ -3,7 +3,7 @@ use Rattle.std.proofs.Common.{◌≡◌, ◌≢◌, ℕ, ◌+◌, ◌<◌, ◌�
 use Rattle.std.proofs.Common.{refl, sym, ap, subst, ◌∙◌, arith, append_assoc, append-nil, length-append, get_or, ◌-◌}
 use Rattle.std.specs.Prelude.{slice_get}
 use Rattle.std.proofs.lemmas.List.{reverse-append, length-reverse, get_or-reverse}
-use Rattle.std.proofs.lemmas.Option.{slice_get_read}
+use Rattle.std.proofs.lemmas.Option.{slice_get_within, slice_get_read}
 use Rattle.mm_model.specs.ByBase.{Begins}
 use Rattle.mm_model.proofs.Lists.Fronts.{get-take, get-take_within}
 use Rattle.mm_why.specs.declared.hop.Hop.{Hop}
@@ -107,3 +107,11 @@ pub hop-kept : (path : List Hop) (k : ℕ) (hop : Hop) → k < length path
 hop-kept path k hop below is =
     let size = length-reverse path in
     slice_get_read (reverse path) (length path) k hop (sym size) below (is ∙ sym (get_or-reverse path k hop below))
+
+-- so much room there is for the hops that are left
+pub trace-bounded : (q : Queue) (place : ℕ) (last : Found) (hops count : ℕ) → IsSoundQueue q
+    → slice_get q.found place ≡ Some last → hops + count ≡ last.lead.length → 1 ≤ count → hops < length q.found
+trace-bounded q place last hops count sound is all some =
+    let bound = sound.bounded place last is in
+    let inside = slice_get_within q.found place last is in
+    omega arith

@@ -29,6 +29,7 @@ impl Queue {
         ensures live { AreLive (views_of heap.now.objects) self.new.found }
         ensures grown { IsGrown self.old.found self.new.found }
         ensures places { self.new.places ≡ self.old.places }
+        ensures sound { IsSoundQueue self.new }
         ensures cost { steps.new ≤ steps.old + cost_of (views_of heap.now.objects) self.new.found }
     {
         let mut next = 0;

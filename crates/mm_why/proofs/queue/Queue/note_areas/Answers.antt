@@ -1,5 +1,8 @@
-use Rattle.std.proofs.Common.{◌≡◌, ℕ, ◌+◌, ◌*◌, ◌++◌, List, length, sym, ap, subst, ◌∙◌, arith}
+use Rattle.std.proofs.Common.{◌≡◌, ℕ, ◌+◌, ◌*◌, ◌++◌, List, length, sym, ap, subst, ◌∙◌, arith, append-nil}
+use Rattle.std.specs.List.{flat_map}
+use Rattle.mm_model.specs.ViewWords.{scanned_cells_of}
 use Rattle.mm_object.specs.Object.{views_of}
+use Rattle.mm_roots.specs.Views.{views_of_areas}
 use Rattle.mm_why.specs.Search.{AreWordsFound}
 use Rattle.mm_why.proofs.AreaWords.{area-noted}
 use Rattle.mm_why.proofs.Noted.{grown-then}
@@ -20,4 +23,10 @@ areas-preserved g c =
     }
 
 pub returns-clause-found : goal.returns-clause-found
-returns-clause-found g c = let h = c.areas in ?
+returns-clause-found g c =
+    let raw = c.args.heap.now.raw in
+    let h = c.areas.invariant.noted in
+    let all : h.words ≡ flat_map scanned_cells_of (views_of_areas c.args.areas.now raw) =
+    sym (append-nil h.words) ∙ ap (λ (ws : List ℕ). h.words ++ ws) (sym (c.in_default.ensures.words raw))
+    ∙ h.rest ∙ c.in_default.ensures.all raw in
+    subst (λ (ws : List ℕ). AreWordsFound (views_of c.args.heap.now.objects) c.areas.self.found ws 1) all h.noted

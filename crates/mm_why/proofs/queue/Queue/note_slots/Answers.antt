@@ -1,9 +1,11 @@
 use Rattle.std.proofs.Common.{◌≡◌, ℕ, ◌+◌, ◌*◌, ◌^◌, ◌<◌, ◌≤◌, Some, List, length, refl, sym, ap, subst, ◌∙◌, arith}
-use Rattle.std.specs.Prelude.{slice_get}
+use Rattle.std.specs.Prelude.{slice_get, slice_index}
 use Rattle.std.proofs.lemmas.Option.{slice_get_within}
 use Rattle.mm_model.specs.ObjectView.{scanned_words_of}
 use Rattle.mm_object.specs.Object.{view_of_stored, views_of}
-use Rattle.mm_why.specs.Search.{shown_with, AreWordsFound}
+use Rattle.mm_why.specs.declared.hop.Via.TheVariants.{Slot}
+use Rattle.mm_why.specs.declared.found.Lead.{Lead}
+use Rattle.mm_why.specs.Search.{shown_with, AreWordsFound, IsNoted}
 use Rattle.mm_why.proofs.Objects.{seen-object, few-slots, length-scanned, scanned-seen, slots-at}
 use Rattle.mm_why.proofs.Noted.{get-index, grown-then, grown-get, noted-grown, noted-live, noted-reasons, noted-words}
 use Rattle.mm_why.proofs.Noted.{noted-short, whole-found}
@@ -49,7 +51,34 @@ loop-slot-preserved g c =
     let h = c.loop-slot.invariant in
     let holder = c.requires.live c.args.from c.args.by c.requires.there in
     let are = scanned-seen heap c.args.by.base words c.scanned-words.ensures.words holder.0 holder.1 in
-    ?
+    let word = slice_index words c.loop-slot.slot in
+    let lead : Lead = record { via = Slot c.loop-slot.slot; from = c.args.from; length = c.args.by.lead.length + 1 } in
+    let is : slice_get words c.loop-slot.slot ≡ Some word =
+    get-index words c.loop-slot.slot word c.loop-slot-test.true refl in
+    let noted : IsNoted objects before after word lead = c.note.ensures.noted in
+    let most = c.args.by.lead.length + 1 in
+    record {
+      reasons = λ stack areas old.
+          noted-reasons (shown_with objects stack areas) before after word lead noted
+          (record {
+            by = c.args.by;
+            is = grown-get c.args.self.now.found before c.args.from c.args.by h.grown c.requires.there;
+            holder = holder.0;
+            begins = holder.1;
+            holds = sym (ap (λ (ws : List ℕ). slice_get ws c.loop-slot.slot) are) ∙ is;
+          }) (h.reasons stack areas old);
+      found = noted-words objects before after word lead noted words c.loop-slot.slot most h.short (omega arith) is
+          h.found;
+      short = noted-short objects before after word lead noted most h.short (omega arith);
+      live = noted-live objects before after word lead noted h.live;
+      grown = grown-then c.args.self.now.found before after h.grown
+          (noted-grown objects before after word lead noted);
+      places = c.note.ensures.places ∙ h.places;
+      ticked =
+          let a = h.ticked in
+          let b = c.note.ensures.cost in
+          omega arith;
+    }
 
 pub returns-clause-found : goal.returns-clause-found
 returns-clause-found g c = λ holder begins.
