@@ -15,7 +15,7 @@ use Rattle.mm_why.specs.declared.hop.Hop.{Hop}
 use Rattle.mm_why.specs.declared.found.Found.{Found}
 use Rattle.mm_why.specs.Path.{Shown, FallsIn, IsAreaWord, IsPath, HasNoPath, IsPathOf, IsLeastLength, hop_by, root_words_of}
 use Rattle.mm_why.specs.Queue.{Queue, IsFound, AreShort, IsSoundQueue}
-use Rattle.mm_why.specs.Search.{AreWordsFound, IsFoundWithin, AreFollowed, IsSearched, IsEntry}
+use Rattle.mm_why.specs.Search.{AreWordsFound, IsFoundWithin, HaveReasons, AreFollowed, IsSearched, IsEntry}
 
 past-end : {X : Type 0} (xs : List X) (i : ℕ) → slice_get xs i ≡ None → length xs ≤ i
 past-end [] i e = omega arith
@@ -146,3 +146,11 @@ module _ (shown : Shown) (q : Queue) (sound : IsSoundQueue q)
             let short = least some.1.place some.0 some.1.is some.1.at others other in
             omega arith;
       }
+
+-- the hops that are traced are a path over what is shown
+pub told : (shown : Shown) (found : List Found) (target : ℕ) (hops : List Hop) (result : Option ℕ)
+    → HaveReasons shown found → IfSome result (λ count. (other : Shown) → HaveReasons other found
+    → IsPathOf other target count hops)
+    → IfSome result (λ count. IsPathOf shown target count hops)
+told shown found target hops None reasons path = tt
+told shown found target hops (Some count) reasons path = path shown reasons

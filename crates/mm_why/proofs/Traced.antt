@@ -43,6 +43,17 @@ length-some q i entry sound is = split entry.lead.via (sound.lengths i entry is)
     split (Area number cell) one = omega arith
     split (Slot slot) own = let longer = own.longer in omega arith
 
+-- a path has one hop where no slot leads to it
+pub length-root : (q : Queue) (i : ℕ) (entry : Found) → IsSoundQueue q → slice_get q.found i ≡ Some entry
+    → ((slot : ℕ) → entry.lead.via ≡ Slot slot → ⊥) → entry.lead.length ≡ 1
+length-root q i entry sound is none = split entry.lead.via refl (sound.lengths i entry is)
+  where
+    split : (via : Via) → entry.lead.via ≡ via
+        → IsLengthBy (take i q.found) via entry.lead.from entry.lead.length → entry.lead.length ≡ 1
+    split (Stack cell) e one = one
+    split (Area number cell) e one = one
+    split (Slot slot) e own = absurd (none slot e)
+
 reversed : (path : List Hop) (hop : Hop) → reverse (path ++ hop ∷ []) ≡ hop ∷ reverse path
 reversed path hop = reverse-append path (hop ∷ [])
 

@@ -6,7 +6,7 @@ use Rattle.mm_why.specs.declared.hop.Hop.{Hop}
 use Rattle.mm_why.specs.declared.found.Found.{Found}
 use Rattle.mm_why.specs.Path.{Shown, IsPathOf, hop_by}
 use Rattle.mm_why.specs.Search.{LeadsOn}
-use Rattle.mm_why.proofs.Traced.{before-slot, length-some, leads-slot, leads-root, leads-nowhere, traced, trace-bounded}
+use Rattle.mm_why.proofs.Traced.{before-slot, length-some, length-root, leads-slot, leads-root, leads-nowhere, traced, trace-bounded}
 use Rattle.mm_why.proofs.queue.Queue.trace_back.Goals as goal
 
 pub hops-init : goal.hops-init
@@ -90,7 +90,14 @@ returns-clause-path g c = λ shown reasons.
     let hop = hop_by c.hops.entry.lead.via c.hops.entry.base in
     let items : c.hops.path.items ++ hop ∷ [] ≡ c.push_reserved-2.new.self.items =
     ap (λ (x : Hop). c.hops.path.items ++ x ∷ []) (sym c.hop-2.ensures) ∙ sym c.push_reserved-2.ensures.items in
-    ?
+    let one = length-root c.args.self.now h.entry.place c.hops.entry c.requires.sound h.entry.is
+    c.in_default.not-Slot in
+    let count = h.count in
+    let size : length c.hops.path.items + 1 ≡ c.args.last.lead.length = omega arith in
+    subst (λ (hs : List Hop). IsPathOf shown c.args.last.base c.args.last.lead.length (reverse hs)) items
+    (traced shown c.hops.path.items hop c.args.last.base c.args.last.lead.length
+    (leads-root shown c.args.self.now h.entry.place c.hops.entry c.hops.path.items c.args.last.base reasons
+    h.entry.is c.in_default.not-Slot (h.leads shown reasons)) size)
 
 pub returns-clause-room : goal.returns-clause-room
 returns-clause-room g c = c.push_reserved-2.ensures.capacity ∙ c.hops.invariant.room

@@ -5,7 +5,7 @@ use Rattle.mm_why.specs.Path.{shown_by, root_words_of}
 use Rattle.mm_why.specs.Why.{Why}
 use Rattle.mm_why.proofs.Objects.{object-place}
 use Rattle.mm_why.proofs.Noted.{found-grown, reasons-live}
-use Rattle.mm_why.proofs.Searched.{answered}
+use Rattle.mm_why.proofs.Searched.{answered, told}
 use Rattle.mm_why.proofs.Costs.{found-live, cost-bounded}
 use Rattle.mm_why.proofs.why.Why.search.Goals as goal
 
@@ -42,7 +42,8 @@ returns-clause-length g c =
     c.follow.ensures.grown c.note_roots.ensures.found in
     answered shown c.follow.new.self c.follow.ensures.sound roots c.args.target c.follow.ensures.searched
     c.trace-length.result (reverse c.trace-length.new.path.items) c.trace-length.ensures.entry
-    ?
+    (told shown found c.args.target (reverse c.trace-length.new.path.items) c.trace-length.result reasons
+    c.trace-length.ensures.path)
 
 pub returns-clause-cost : goal.returns-clause-cost
 returns-clause-cost g c =
