@@ -5,5 +5,6 @@ pub mod Followed
 pub mod Noted
 pub mod Objects
 pub mod Queues
+pub mod Reached
 pub mod Searched
 pub mod Traced

@@ -23,14 +23,14 @@ past-end (x ∷ xs) zero e = cc
 past-end (x ∷ xs) (suc i) e = let rest = past-end xs i e in omega arith
 
 -- an element of a joined list
-get-behind : (xs ys : List ℕ) (i : ℕ) (word : ℕ) → slice_get ys i ≡ Some word
+pub get-behind : (xs ys : List ℕ) (i : ℕ) (word : ℕ) → slice_get ys i ≡ Some word
     → slice_get (xs ++ ys) (length xs + i) ≡ Some word
 get-behind [] ys i word h = let same : 0 + i ≡ i = omega arith in ap (slice_get ys) same ∙ h
 get-behind (x ∷ xs) ys i word h =
     let same : suc (length xs) + i ≡ suc (length xs + i) = omega arith in
     ap (slice_get (x ∷ xs ++ ys)) same ∙ get-behind xs ys i word h
 
-get-flat : (f : AreaView → List ℕ) (areas : List AreaView) (place : ℕ) (area : AreaView) (cell word : ℕ)
+pub get-flat : (f : AreaView → List ℕ) (areas : List AreaView) (place : ℕ) (area : AreaView) (cell word : ℕ)
     → slice_get areas place ≡ Some area → slice_get (f area) cell ≡ Some word
     → (k : ℕ) × (slice_get (flat_map f areas) k ≡ Some word)
 get-flat f [] place area cell word e h = cc

@@ -4,7 +4,7 @@ use Rattle.std.specs.List.{flat_map, sum_by}
 use Rattle.mm_model.specs.Words.{falls}
 use Rattle.mm_model.specs.ByBase.{Begins, based}
 use Rattle.mm_model.specs.ObjectView.{ObjectView, ObjectsByBase, scanned_words_of}
-use Rattle.mm_model.specs.View.{AreaView}
+use Rattle.mm_model.specs.View.{View, AreaView}
 use Rattle.mm_model.specs.ViewWords.{scanned_cells_of}
 use Rattle.mm_object.specs.Object.{views_of}
 use Rattle.mm_object.specs.Heap.{Heap}
@@ -25,6 +25,10 @@ pub record Shown : Type 0 where
 abbrev pub shown_by : Heap → Cells → Areas → Shown
 shown_by heap stack areas =
     record { objects = views_of heap.objects; stack = stack.words; areas = views_of_areas areas heap.raw }
+
+-- what a view shows of them
+abbrev pub shown_in : View → Shown
+shown_in view = record { objects = view.objects; stack = view.stack; areas = view.areas }
 
 -- the word falls in the live object that begins at the base
 pub record FallsIn (objects : ObjectsByBase) (word base : ℕ) : Type 0 where

@@ -5,6 +5,7 @@ mod bits;
 mod following;
 mod found;
 mod hop;
+mod laws;
 mod noting;
 mod queue;
 mod roots;
@@ -12,4 +13,5 @@ mod tracing;
 mod why;
 
 pub use hop::{Hop, Via};
+pub use laws::{paths_lead_to_what_a_state_reaches, paths_lead_to_what_is_reached};
 pub use why::{NoMemory, Why};
