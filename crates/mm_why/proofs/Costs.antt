@@ -47,12 +47,14 @@ module _ {X : Type 0} (key : X → ℕ) (own : ℕ → ℕ) (f : X → ℕ) wher
           → AllByRecursion (IsWorth (without key k xs)) js
       others [] apart w = tt
       others (j ∷ js) apart w =
-          let ne : j ≡ k → ⊥ = λ e. clash (sym apart.0 ∙ eq-eqb k j (sym e)) in
-          (record {
-            value = w.0.value;
-            is = at-without_other key k xs j ne ∙ w.0.is;
-            worth = w.0.worth;
-          }, others js apart.1 w.1)
+          let ne : j ≡ k → ⊥ = λ e. clash (sym apart.0 ∙ eq-eqb k j (sym e)) in (
+            record {
+              value = w.0.value;
+              is = at-without_other key k xs j ne ∙ w.0.is;
+              worth = w.0.worth;
+            },
+            others js apart.1 w.1,
+          )
         where
           clash : false ≡ true → ⊥
           clash e = cc
@@ -110,12 +112,14 @@ module _ (objects : ObjectsByBase) (q : Queue) (sound : IsSoundQueue q) (live : 
       (map (λ (entry : Found). entry.base) found)
   all-worth own f within [] each = tt
   all-worth own f within (entry ∷ found) each =
-      let object = each 0 entry refl in
-      (record {
-        value = record { base = entry.base; value = object.0 };
-        is = object-under objects entry.base object.0 object.1;
-        worth = within entry.base object.0 object.1;
-      }, all-worth own f within found (λ i x h. each (suc i) x h))
+      let object = each 0 entry refl in (
+        record {
+          value = record { base = entry.base; value = object.0 };
+          is = object-under objects entry.base object.0 object.1;
+          worth = within entry.base object.0 object.1;
+        },
+        all-worth own f within found (λ i x h. each (suc i) x h),
+      )
 
   worth-all : (own : ℕ → ℕ) (f : Based ObjectView → ℕ)
       → ((base : ℕ) (object : ObjectView) → Begins objects base object

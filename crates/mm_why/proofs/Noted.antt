@@ -86,9 +86,10 @@ module _ (objects : ObjectsByBase) (before after : List Found) (word : ℕ) (lea
           elim (get-push before (record { lead = lead; base = base }) i entry
           (sym (ap (λ (xs : List Found). slice_get xs i) new) ∙ h)) [
             | inl old ↦ live i entry old
-            | inr last ↦
-                (falls.object,
-                subst (λ (f : Found). Begins objects f.base falls.object) last.1 falls.begins)
+            | inr last ↦ (
+              falls.object,
+              subst (λ (f : Found). Begins objects f.base falls.object) last.1 falls.begins,
+            )
           ]
 
   -- what the word falls in is found, with a path of at most this length

@@ -44,14 +44,17 @@ area-of (area ∷ areas) i word h =
       | inl own ↦
           (area.number, i, record { place = 0; area = area; is = refl; numbered = refl; holds = own })
       | inr rest ↦
-          let at = area-of areas (i - length (scanned_cells_of area)) word rest.1 in
-          (at.0, at.1, record {
-            place = suc at.2.place;
-            area = at.2.area;
-            is = at.2.is;
-            numbered = at.2.numbered;
-            holds = at.2.holds;
-          })
+          let at = area-of areas (i - length (scanned_cells_of area)) word rest.1 in (
+            at.0,
+            at.1,
+            record {
+              place = suc at.2.place;
+              area = at.2.area;
+              is = at.2.is;
+              numbered = at.2.numbered;
+              holds = at.2.holds;
+            },
+          )
     ]
 
 module _ (shown : Shown) where
@@ -92,10 +95,11 @@ module _ (shown : Shown) where
       root-path at.0 at.1 base at.2 (record { object = object; begins = begins; within = at.3 })
   reached-path base (IsReachedAt.By_slot _ object by holder begins held names reached) =
       let at = any_get (λ w. falls w base object.extent) (scanned_words_of holder) names in
-      let front = reached-path by reached in
-      (front.0 ++ hop_by (Slot at.0) base ∷ [],
-      IsPath.By_slot front.0 by holder at.0 at.1 base front.1 held at.2
-      (record { object = object; begins = begins; within = at.3 }))
+      let front = reached-path by reached in (
+        front.0 ++ hop_by (Slot at.0) base ∷ [],
+        IsPath.By_slot front.0 by holder at.0 at.1 base front.1 held at.2
+            (record { object = object; begins = begins; within = at.3 }),
+      )
 
   pub paths-reach : (base : ℕ)
       → ((hops : List Hop) × IsPath shown hops base) ↔ IsReachedAt shown.objects (root_words_of shown) base

@@ -9,6 +9,8 @@ mod laws;
 mod noting;
 mod queue;
 mod roots;
+#[cfg(test)]
+mod tests;
 mod tracing;
 mod why;
 

@@ -1,0 +1,35 @@
+-- The words of one object alone are others.
+use Rattle.std.proofs.Common.{◌≡◌, ℕ, Bool, true, false, List, sym, ap, subst, ◌∙◌, arith}
+use Rattle.mm_words.specs.Location.{Location}
+use Rattle.mm_pages.specs.Parked.{AreParked}
+use Rattle.mm_object.specs.Heap.{Heap}
+use Rattle.mm_why.proofs.tests.Trial.store.Goals as goal
+
+pub invariant_of-self : goal.invariant_of-self
+invariant_of-self g c =
+    let self = c.args.self.now in
+    let slot = c.has_slot-can.ensures c.if-can.true in
+    let now = c.set_slot.ensures.slot slot.object slot.begins in
+    let table = ap (λ (h : Heap). h.table) now in
+    let memory = ap (λ (h : Heap). h.memory) now in
+    let runs = ap (λ (h : Heap). h.runs) now in
+    record {
+      fits = record {
+        parked = subst (λ (list : List ℕ). AreParked list self.pages) (sym runs) self.fits.parked;
+        memory = let size = ap (λ (h : Heap). h.size) now in let most = self.fits.memory in omega (arith, size, most);
+      };
+      few = let size = ap (λ (h : Heap). h.size) now in let few = self.few in omega (arith, size, few);
+      no_area = self.no_area;
+      no_block = self.no_block;
+      no_run = self.no_run;
+      pages_own = self.pages_own;
+      cells_own = ap (λ (p : Location). p.arena) table ∙ self.cells_own;
+      memory_own = ap (λ (p : Location). p.arena) memory ∙ self.memory_own;
+      areas_own = self.areas_own;
+      fixed_own = self.fixed_own;
+      stack_own = self.stack_own;
+      owed =
+          let first = ap (λ (p : Location). p.size) table in
+          let second = ap (λ (p : Location). p.size) memory in
+          omega (arith, self.owed, first, second);
+    }
