@@ -1,10 +1,8 @@
 -- The words of scanned areas, by their numbers and cells.
-use Rattle.std.proofs.Common.{◌≡◌, ◌≢◌, ℕ, zero, suc, ◌+◌, ◌-◌, ◌*◌, ◌/◌, ◌<◌, ◌≤◌, ◌⊎◌, inl, inr, Bool, true, false, List, [], ◌∷◌, ◌++◌, length}
-use Rattle.std.proofs.Common.{Option, Some, None, refl, sym, ap, subst, ◌∙◌, arith, append_assoc, length-append}
+use Rattle.std.proofs.Common.{◌≡◌, ◌≢◌, ℕ, zero, suc, ◌+◌, ◌-◌, ◌*◌, ◌/◌, ◌<◌, ◌≤◌, inl, inr, Bool, true, false, List, [], ◌∷◌, ◌++◌, length}
+use Rattle.std.proofs.Common.{Option, Some, None, refl, sym, ap, ◌∙◌, arith, append_assoc, length-append}
 use Rattle.std.specs.Prelude.{slice_get, slice_index_or, if◌then◌else◌}
 use Rattle.std.proofs.lemmas.Bool.{cases_lt}
-use Rattle.mm_model.specs.ViewWords.{scanned_cells_of}
-use Rattle.mm_model.specs.View.{AreaView}
 use Rattle.mm_model.specs.ObjectView.{ObjectsByBase}
 use Rattle.mm_object.specs.Object.{views_of}
 use Rattle.mm_object.specs.Heap.{Heap}
@@ -13,9 +11,9 @@ use Rattle.mm_roots.specs.declared.area_shape.ScannedArea.{ScannedArea}
 use Rattle.mm_roots.specs.Areas.{Areas, IsScanned}
 use Rattle.mm_roots.specs.Views.{words_from, cell_words, area_words, view_of_area, views_from, views_of_areas, scanned_words_from}
 use Rattle.mm_why.specs.declared.found.Found.{Found}
-use Rattle.mm_why.specs.Path.{FallsIn, IsAreaWord}
+use Rattle.mm_why.specs.Path.{IsAreaWord}
 use Rattle.mm_why.specs.Queue.{IsGrown}
-use Rattle.mm_why.specs.Search.{AreWordsFound, IsFoundWithin}
+use Rattle.mm_why.specs.Search.{AreWordsFound}
 use Rattle.mm_why.proofs.Noted.{found-grown, none-found}
 
 -- so many words there are in an area

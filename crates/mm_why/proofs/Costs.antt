@@ -1,8 +1,8 @@
 -- What is found once costs no more than all that lives.
-use Rattle.std.proofs.Common.{◌≡◌, ◌≢◌, ℕ, ◌+◌, ◌*◌, ◌/◌, ◌<◌, ◌≤◌, ◌⊎◌, Bool, true, false, ◌||◌, List, [], ◌∷◌, ◌++◌, map, take}
-use Rattle.std.proofs.Common.{length, Option, Some, None, refl, sym, ap, subst, ◌∙◌, arith, eqb-true, get_or, suc}
-use Rattle.std.specs.Prelude.{slice_get, nat_eq, ◌==◌}
-use Rattle.std.specs.List.{sum_by, list_any, AllByRecursion, IsDistinct}
+use Rattle.std.proofs.Common.{◌≡◌, ℕ, ◌+◌, ◌*◌, ◌≤◌, true, false, List, [], ◌∷◌, ◌++◌, map}
+use Rattle.std.proofs.Common.{length, Some, refl, sym, ap, subst, ◌∙◌, arith, eqb-true, get_or, suc}
+use Rattle.std.specs.Prelude.{nat_eq}
+use Rattle.std.specs.List.{sum_by, AllByRecursion, IsDistinct}
 use Rattle.std.proofs.lemmas.Bool.{eq-eqb}
 use Rattle.std.proofs.lemmas.List.{length-map}
 use Rattle.std.proofs.lemmas.List.Sums.{sum_by-cons, sum_by-append}
@@ -11,7 +11,7 @@ use Rattle.std.proofs.lemmas.Map.Keys.{IsDistinct-from_apart}
 use Rattle.mm_model.specs.ByBase.{Begins, Based, based}
 use Rattle.mm_model.specs.ObjectView.{ObjectView, ObjectsByBase, scanned_words_of}
 use Rattle.mm_model.proofs.Lists.Counts.{sum_by-split}
-use Rattle.mm_model.proofs.Lists.Growing.{any_get, find-only}
+use Rattle.mm_model.proofs.Lists.Growing.{find-only}
 use Rattle.mm_model.proofs.Lists.Keyed.{at, IsKeyed, refuted}
 use Rattle.mm_model.proofs.Lists.KeyedSums.{without, at-without_other, keyed-without, sum-without}
 use Rattle.mm_model.proofs.View.Entries.{based_at, begins_at, begins_same, keyed-based}

@@ -1,19 +1,19 @@
 -- What a search knows once one more word is noted.
-use Rattle.std.proofs.Common.{◌≡◌, ◌≢◌, ℕ, ◌+◌, ◌<◌, ◌≤◌, ◌⊎◌, List, [], ◌∷◌, ◌++◌, length, take, Option, Some, None, inl, inr}
-use Rattle.std.proofs.Common.{refl, sym, ap, subst, ◌∙◌, arith, append_assoc, append-nil}
+use Rattle.std.proofs.Common.{◌≡◌, ℕ, ◌+◌, ◌<◌, ◌≤◌, List, [], ◌∷◌, ◌++◌, length, take, Option, Some, inl, inr}
+use Rattle.std.proofs.Common.{sym, ap, subst, ◌∙◌, arith, append_assoc, append-nil}
 use Rattle.std.specs.Prelude.{slice_get, slice_index}
 use Rattle.std.proofs.Math.Seq.{take-append_seam}
 use Rattle.std.proofs.lemmas.Bool.{cases_eq}
 use Rattle.std.proofs.lemmas.List.{take-append-le, take_all}
 use Rattle.std.proofs.lemmas.Option.{slice_get_within, slice_get-get_or}
 use Rattle.mm_model.specs.ByBase.{Begins}
-use Rattle.mm_model.specs.ObjectView.{ObjectView, ObjectsByBase, scanned_words_of}
+use Rattle.mm_model.specs.ObjectView.{ObjectsByBase}
 use Rattle.mm_model.proofs.Lists.Growing.{get-front, get-push, get-last}
 use Rattle.mm_model.proofs.Lists.Fronts.{get-take, get-take_within}
 use Rattle.mm_why.specs.declared.found.Lead.{Lead}
 use Rattle.mm_why.specs.declared.found.Found.{Found}
 use Rattle.mm_why.specs.Path.{Shown, FallsIn}
-use Rattle.mm_why.specs.Queue.{IsFound, AreShort, IsGrown}
+use Rattle.mm_why.specs.Queue.{AreShort, IsGrown}
 use Rattle.mm_why.specs.Search.{IsLead, IsReason, HaveReasons, AreLive, IsNoted, IsFoundWithin, AreWordsFound}
 
 -- a word that is read of a list

@@ -1,16 +1,14 @@
 -- Paths lead to what is reached, and to nothing else.
-use Rattle.std.proofs.Common.{◌≡◌, ℕ, zero, suc, ◌+◌, ◌-◌, ◌<◌, ◌≤◌, ◌⊎◌, Bool, true, false, List, [], ◌∷◌, ◌++◌, map, length}
-use Rattle.std.proofs.Common.{Option, Some, None, inl, inr, refl, sym, ap, subst, ◌∙◌, arith}
-use Rattle.std.specs.Prelude.{slice_get, ◌↔◌, if◌then◌else◌}
+use Rattle.std.proofs.Common.{◌≡◌, ℕ, zero, suc, ◌+◌, ◌-◌, ◌≤◌, ◌⊎◌, true, List, [], ◌∷◌, ◌++◌, length}
+use Rattle.std.proofs.Common.{Some, inl, inr, refl, sym, ap, subst, ◌∙◌, arith}
+use Rattle.std.specs.Prelude.{slice_get, ◌↔◌}
 use Rattle.std.specs.List.{list_any, flat_map}
-use Rattle.std.proofs.lemmas.Bool.{cases_lt}
 use Rattle.mm_model.specs.Object.{Object}
 use Rattle.mm_model.specs.State.{State, Lives}
-use Rattle.mm_model.specs.Words.{falls, root_words}
+use Rattle.mm_model.specs.Words.{falls}
 use Rattle.mm_model.specs.Reached.{IsReached}
 use Rattle.mm_model.specs.Good.{IsGood}
-use Rattle.mm_model.specs.ByBase.{Begins}
-use Rattle.mm_model.specs.ObjectView.{ObjectView, scanned_words_of}
+use Rattle.mm_model.specs.ObjectView.{scanned_words_of}
 use Rattle.mm_model.specs.SetsByBase.{IsReachedAt}
 use Rattle.mm_model.specs.View.{View, AreaView, Shows, view_of}
 use Rattle.mm_model.specs.ViewWords.{scanned_cells_of}

@@ -1,12 +1,11 @@
 -- Once all is followed that matters, what was found first has the shortest paths.
-use Rattle.std.proofs.Common.{◌≡◌, ◌≢◌, ℕ, ◌+◌, ◌<◌, ◌≤◌, ◌⊎◌, List, [], ◌∷◌, ◌++◌, length, take, Option, Some, None, inl, inr}
+use Rattle.std.proofs.Common.{◌≡◌, ℕ, ◌+◌, ◌<◌, ◌≤◌, List, [], ◌∷◌, ◌++◌, length, Option, Some, None, inl, inr}
 use Rattle.std.proofs.Common.{refl, sym, ap, subst, ◌∙◌, arith, length-append, zero, suc}
 use Rattle.std.specs.Prelude.{slice_get, MatchOption, IfSome}
 use Rattle.std.specs.List.{flat_map}
 use Rattle.std.proofs.lemmas.Bool.{cases_lt}
 use Rattle.std.proofs.lemmas.Option.{slice_get_within}
 use Rattle.mm_model.specs.ByBase.{Begins}
-use Rattle.mm_model.specs.ObjectView.{ObjectView, scanned_words_of}
 use Rattle.mm_model.specs.View.{AreaView}
 use Rattle.mm_model.specs.ViewWords.{scanned_cells_of}
 use Rattle.mm_model.proofs.Lists.Growing.{get-front}
@@ -14,7 +13,7 @@ use Rattle.mm_why.specs.declared.hop.Via.TheVariants.{Slot}
 use Rattle.mm_why.specs.declared.hop.Hop.{Hop}
 use Rattle.mm_why.specs.declared.found.Found.{Found}
 use Rattle.mm_why.specs.Path.{Shown, FallsIn, IsAreaWord, IsPath, HasNoPath, IsPathOf, IsLeastLength, hop_by, root_words_of}
-use Rattle.mm_why.specs.Queue.{Queue, IsFound, AreShort, IsSoundQueue}
+use Rattle.mm_why.specs.Queue.{Queue, IsFound, IsSoundQueue}
 use Rattle.mm_why.specs.Search.{AreWordsFound, IsFoundWithin, HaveReasons, AreFollowed, IsSearched, IsEntry}
 
 past-end : {X : Type 0} (xs : List X) (i : ℕ) → slice_get xs i ≡ None → length xs ≤ i

@@ -1,5 +1,5 @@
 -- The path to what was found, from its end on.
-use Rattle.std.proofs.Common.{◌≡◌, ◌≢◌, ℕ, ◌+◌, ◌<◌, ◌≤◌, List, [], ◌∷◌, ◌++◌, length, take, reverse, Option, Some, None}
+use Rattle.std.proofs.Common.{◌≡◌, ℕ, ◌+◌, ◌<◌, ◌≤◌, List, [], ◌∷◌, ◌++◌, length, take, reverse, Option, Some}
 use Rattle.std.proofs.Common.{refl, sym, ap, subst, ◌∙◌, arith, append_assoc, append-nil, length-append, get_or, ◌-◌}
 use Rattle.std.specs.Prelude.{slice_get}
 use Rattle.std.proofs.lemmas.List.{reverse-append, length-reverse, get_or-reverse}
@@ -12,7 +12,7 @@ use Rattle.mm_why.specs.declared.hop.Via.TheVariants.{Stack, Area, Slot}
 use Rattle.mm_why.specs.declared.found.Found.{Found}
 use Rattle.mm_why.specs.Path.{Shown, FallsIn, IsPath, IsPathOf, hop_by}
 use Rattle.mm_why.specs.Queue.{Queue, IsLengthBy, IsLonger, IsSoundQueue}
-use Rattle.mm_why.specs.Search.{IsWordBy, IsSlotWord, IsReason, HaveReasons, LeadsOn}
+use Rattle.mm_why.specs.Search.{IsWordBy, IsSlotWord, HaveReasons, LeadsOn}
 
 -- the object before, which has the slot
 pub record IsBefore (found : List Found) (i : ℕ) (entry : Found) : Type 0 where

@@ -1,5 +1,5 @@
 -- What callers see of the answer to why an object is kept.
-use Rattle.std.specs.Prelude.{◌≡◌, ◌*◌, ◌≤◌, ℕ, List, [], length, reverse}
+use Rattle.std.specs.Prelude.{◌≡◌, ◌*◌, ◌≤◌, ℕ, List, [], reverse}
 use Rattle.mm_why.specs.declared.hop.Hop.{Hop}
 use Rattle.mm_why.specs.Queue.{Queue}
 

@@ -1,6 +1,5 @@
-use Rattle.std.proofs.Common.{◌≡◌, ℕ, ◌+◌, ◌*◌, ◌/◌, ◌<◌, ◌≤◌, List, [], Some, length, take, drop, ◌++◌, refl, sym, ap, subst, ◌∙◌, arith}
-use Rattle.mm_sets.specs.Bits.{bit_of, ChangesBit}
-use Rattle.mm_why.specs.declared.found.Found.{Found}
+use Rattle.std.proofs.Common.{◌≡◌, ℕ, ◌+◌, ◌/◌, List, length, refl, sym, ap, subst, ◌∙◌, arith}
+use Rattle.mm_sets.specs.Bits.{ChangesBit}
 use Rattle.mm_why.specs.Queue.{Queue, queue_of, empty}
 use Rattle.mm_why.proofs.Queues.{whole, keeps-moved, IsLeft, all-left, left-cleared, none-left, empty-keeps, read-entry}
 use Rattle.mm_why.proofs.queue.Queue.clear.Goals as goal

@@ -1,4 +1,4 @@
-use Rattle.std.proofs.Common.{◌≡◌, ℕ, ◌+◌, ◌*◌, ◌≤◌, List, take, length, sym, ap, subst, ◌∙◌, arith}
+use Rattle.std.proofs.Common.{◌∙◌, arith}
 use Rattle.mm_object.specs.Object.{views_of}
 use Rattle.mm_why.proofs.Noted.{grown-then}
 use Rattle.mm_why.proofs.Followed.{one-followed, cost-followed}

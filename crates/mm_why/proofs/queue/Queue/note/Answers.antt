@@ -1,4 +1,4 @@
-use Rattle.std.proofs.Common.{◌≡◌, ℕ, ◌*◌, ◌≤◌, List, refl, sym, ap, subst, ◌∙◌, arith}
+use Rattle.std.proofs.Common.{List, refl}
 use Rattle.mm_object.specs.Object.{views_of}
 use Rattle.mm_why.specs.declared.found.Found.{Found}
 use Rattle.mm_why.specs.Queue.{IsAdded}

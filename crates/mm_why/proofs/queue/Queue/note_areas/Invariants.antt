@@ -1,4 +1,4 @@
-use Rattle.std.proofs.Common.{◌≡◌, ℕ, ◌+◌, ◌-◌, ◌*◌, List, length}
+use Rattle.std.proofs.Common.{◌≡◌, ℕ, ◌-◌, List}
 use Rattle.mm_model.specs.Areas.{most_areas}
 use Rattle.mm_object.specs.Object.{views_of}
 use Rattle.mm_roots.specs.Views.{views_of_areas}

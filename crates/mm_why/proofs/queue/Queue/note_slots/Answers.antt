@@ -1,7 +1,6 @@
-use Rattle.std.proofs.Common.{◌≡◌, ℕ, ◌+◌, ◌*◌, ◌^◌, ◌<◌, ◌≤◌, Some, List, length, refl, sym, ap, subst, ◌∙◌, arith}
+use Rattle.std.proofs.Common.{◌≡◌, ℕ, ◌+◌, Some, List, length, refl, sym, ap, subst, ◌∙◌, arith}
 use Rattle.std.specs.Prelude.{slice_get, slice_index}
 use Rattle.std.proofs.lemmas.Option.{slice_get_within}
-use Rattle.mm_model.specs.ObjectView.{scanned_words_of}
 use Rattle.mm_object.specs.Object.{view_of_stored, views_of}
 use Rattle.mm_why.specs.declared.hop.Via.TheVariants.{Slot}
 use Rattle.mm_why.specs.declared.found.Lead.{Lead}

@@ -1,8 +1,6 @@
-use Rattle.std.proofs.Common.{◌≡◌, ℕ, ◌/◌, ◌<◌, List, length, take, drop, ◌++◌, ◌∷◌, [], refl, sym, ap, subst, ◌∙◌, arith}
-use Rattle.std.specs.Prelude.{vec_capacity}
+use Rattle.std.proofs.Common.{◌≡◌, ℕ, ◌/◌, List, length, ◌++◌, ◌∷◌, [], refl, sym, ap, subst, ◌∙◌, arith}
 use Rattle.mm_sets.specs.Bits.{ChangesBit}
-use Rattle.mm_why.specs.declared.found.Found.{Found}
-use Rattle.mm_why.specs.Queue.{Queue, queue_of, KeepsQueue}
+use Rattle.mm_why.specs.Queue.{Queue, queue_of}
 use Rattle.mm_why.proofs.Queues.{pushed-few, pushed-keeps, whole, keeps-moved}
 use Rattle.mm_why.proofs.queue.Queue.push.Goals as goal
 

@@ -1,5 +1,5 @@
-use Rattle.std.proofs.Common.{ℕ, List, length, reverse, sym, subst}
-use Rattle.mm_why.specs.Path.{Shown, IsPathOf}
+use Rattle.std.proofs.Common.{ℕ, reverse, subst}
+use Rattle.mm_why.specs.Path.{IsPathOf}
 use Rattle.mm_why.proofs.queue.Queue.trace.Goals as goal
 
 pub returns-in-Some-clause-path : goal.returns-in-Some-clause-path

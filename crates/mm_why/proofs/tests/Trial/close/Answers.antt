@@ -1,5 +1,5 @@
 -- No cell is taken at 0 or above, no block was ever out, and no page above page 0 is used.
-use Rattle.std.proofs.Common.{◌-◌, arith, subst}
+use Rattle.std.proofs.Common.{arith, subst}
 use Rattle.mm_model.specs.ByBase.{Begins}
 use Rattle.mm_fixed.specs.Fixed.{Fixed}
 use Rattle.mm_why.proofs.tests.Trial.close.Goals as goal

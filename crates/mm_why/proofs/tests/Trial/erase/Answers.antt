@@ -1,5 +1,5 @@
 -- What the heap and the page heap stand on lies where it did.
-use Rattle.std.proofs.Common.{◌≡◌, Bool, true, false, ap, ◌∙◌, arith}
+use Rattle.std.proofs.Common.{◌≡◌, ap, ◌∙◌, arith}
 use Rattle.mm_words.specs.Location.{Location}
 use Rattle.mm_pages.specs.Pages.{Pages}
 use Rattle.mm_object.specs.Heap.{Heap}

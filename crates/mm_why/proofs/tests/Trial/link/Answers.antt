@@ -1,5 +1,5 @@
 -- The link of one object alone is another.
-use Rattle.std.proofs.Common.{◌≡◌, ℕ, Bool, true, false, List, sym, ap, subst, ◌∙◌, arith}
+use Rattle.std.proofs.Common.{ℕ, List, sym, ap, subst, ◌∙◌, arith}
 use Rattle.mm_words.specs.Location.{Location}
 use Rattle.mm_pages.specs.Parked.{AreParked}
 use Rattle.mm_object.specs.Heap.{Heap}

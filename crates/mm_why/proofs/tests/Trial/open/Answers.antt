@@ -1,12 +1,11 @@
 -- No run is parked yet, no cell is taken, and no area lives.
-use Rattle.std.proofs.Common.{◌≡◌, ◌/◌, ℕ, zero, suc, true, false, length, replicate, Option, None}
+use Rattle.std.proofs.Common.{◌≡◌, ℕ, zero, suc, length, replicate, Option, None}
 use Rattle.std.proofs.Common.{refl, sym, ap, subst, ◌∙◌, arith}
 use Rattle.std.specs.Prelude.{slice_index, slice_index_or}
 use Rattle.std.proofs.lemmas.List.{length-replicate}
 use Rattle.mm_words.specs.Piece.{Piece}
 use Rattle.mm_pages.specs.Pages.{Pages}
 use Rattle.mm_pages.specs.Parked.{AreParked}
-use Rattle.mm_cells.specs.Cells.{Cells}
 use Rattle.mm_object.specs.Heap.{Heap}
 use Rattle.mm_fixed.specs.Fixed.{Fixed, HasNoBlock}
 use Rattle.mm_fixed.proofs.Left.{index-zeros}

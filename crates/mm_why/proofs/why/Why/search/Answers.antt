@@ -1,4 +1,4 @@
-use Rattle.std.proofs.Common.{◌≡◌, ℕ, ◌+◌, ◌*◌, ◌≤◌, List, length, reverse, sym, ap, subst, ◌∙◌, arith}
+use Rattle.std.proofs.Common.{reverse, ap, ◌∙◌, arith}
 use Rattle.mm_object.specs.Object.{views_of}
 use Rattle.mm_roots.specs.Views.{views_of_areas}
 use Rattle.mm_why.specs.Path.{shown_by, root_words_of}
