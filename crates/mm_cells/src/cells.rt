@@ -83,7 +83,7 @@ impl Cells {
     }
 
     /// The taken cell in which a word falls.
-    #[inline]
+    #[inline(always)]
     pub fn resolve<L: Ledger>(&self, word: u32, steps: &mut Steps<L>) -> Option<Cell>
         ensures cell { MatchOption result
             ((base : ℕ) (cell : Taken) → Covers self.now word base cell → ⊥)
@@ -214,6 +214,7 @@ pub(crate) fn locate(table: &Table, word: u32) -> Option<Located>
 }
 
 /// The cell of a page of a class that has the byte which is so many bytes into the page, if it is taken.
+#[inline(always)]
 fn small_cell(table: &Table, page: u32, class: u32, offset: u32) -> Option<Located>
     requires page { page < table.now.pages }
     requires most { table.now.pages ≤ 4096 }

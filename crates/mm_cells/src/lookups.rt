@@ -35,7 +35,7 @@ impl Cells {
     }
 
     /// The taken cell in which a word falls, with all that is told of it.
-    #[inline]
+    #[inline(always)]
     pub fn find<L: Ledger>(&self, word: u32, steps: &mut Steps<L>) -> Option<FoundCell>
         ensures cell { MatchOption result
             ((base : ℕ) (cell : Taken) → Covers self.now word base cell → ⊥)
@@ -57,7 +57,7 @@ impl Cells {
     }
 
     /// Makes the white cell in which a word falls gray, and answers its base.
-    #[inline]
+    #[inline(always)]
     pub fn shade<L: Ledger>(&mut self, word: u32, steps: &mut Steps<L>) -> Option<u32>
         ensures shaded { MatchOption result (NoWhite self.old word × (self.new ≡ self.old))
             (λ base. Shades self.old self.new word base) }

@@ -86,6 +86,7 @@ impl Gc {
     }
 
     /// The row of a command.
+    #[inline(always)]
     fn carry_out<J: Journal, L: Ledger>(
         &mut self,
         command: &Command,

@@ -22,6 +22,7 @@ pub(crate) struct Meant {
 
 impl Gc {
     /// The object that a stack cell means.
+    #[inline(always)]
     pub(crate) fn meant<L: Ledger>(&self, i: u32, steps: &mut Steps<L>) -> Result<Meant, Refusal>
         ensures answer { MeantAnswer self.now i result }
         ensures cost { steps.new ≤ steps.old + 2 }

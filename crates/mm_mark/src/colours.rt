@@ -13,7 +13,7 @@ use mm_steps::Steps;
 use std::sync::ledger::Ledger;
 
 /// The colour of the object that begins at a base, if one does.
-#[inline]
+#[inline(always)]
 pub(crate) fn colour_at<L: Ledger>(heap: &Heap, base: u32, steps: &mut Steps<L>) -> Option<Colour>
     ensures colour { MatchOption result (BeginsNone heap.now base) (HasColour heap.now base) }
     ensures cost { steps.new ≡ steps.old + 1 }

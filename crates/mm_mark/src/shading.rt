@@ -19,7 +19,7 @@ use std::sync::ledger::Ledger;
 
 impl Marker {
     /// Makes the white object gray in which a word falls, and notes it.
-    #[inline]
+    #[inline(always)]
     pub(crate) fn shade<L: Ledger>(&mut self, heap: &mut Heap, word: u32, steps: &mut Steps<L>)
         requires { AreKnown self.old (views_of heap.old.objects) }
         ensures grayed { IsGrayed heap.old heap.new (word ∷ []) }

@@ -11,7 +11,7 @@ use std::sync::ledger::Ledger;
 
 impl Heap {
     /// Makes the white object in which a word falls gray, and answers its base.
-    #[inline]
+    #[inline(always)]
     pub fn shade<L: Ledger>(&mut self, word: u32, steps: &mut Steps<L>) -> Option<u32>
         ensures shaded { MatchOption result (NoWhite self.old word × (self.new ≡ self.old))
             (λ base. Shades self.old self.new word base) }

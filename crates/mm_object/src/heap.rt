@@ -66,6 +66,7 @@ pub(crate) fn object_bytes(slots: u32) -> u32
 }
 
 /// The shape of the object in the cell that begins at a base.
+#[inline(always)]
 pub(crate) fn shape_at(memory: &Words, base: u32) -> Shape
     requires { base / 4 + 1 < length memory.now.words }
     ensures { result ≡ shape_told (drop (base / 4) memory.now.words) }
@@ -118,6 +119,7 @@ impl Heap {
     }
 
     /// The base of the object in which a word falls.
+    #[inline(always)]
     pub fn find<L: Ledger>(&self, word: u32, steps: &mut Steps<L>) -> Option<u32>
         ensures base { MatchOption result (FallsInNone self.now word)
             (λ base. (object : StoredObject) × Covers self.now word base object) }
@@ -131,7 +133,7 @@ impl Heap {
     }
 
     /// The object in which a word falls, with its shape.
-    #[inline]
+    #[inline(always)]
     pub fn look_up<L: Ledger>(&self, word: u32, steps: &mut Steps<L>) -> Option<Found>
         ensures found { MatchOption result (FallsInNone self.now word)
             (λ found. (object : StoredObject)

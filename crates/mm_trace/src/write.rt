@@ -9,7 +9,7 @@ use arrayvec::ArrayVec;
 use mm_model::{AreaAnswer, Line, Mapped, Phase, Refusal, Reply, Stat, Totals};
 
 /// Appends the spelling of a line, its newline with it. No line takes more than 90 bytes.
-#[inline]
+#[inline(always)]
 pub fn write_line(line: &Line, to: &mut ArrayVec<u8, 4096>)
     requires { array_vec_len to.old + 96 ≤ 4096 }
     ensures { to.new.items ≡ to.old.items ++ model.spelling line.now }

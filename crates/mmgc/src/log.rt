@@ -39,6 +39,7 @@ impl<'a, K: Sink> LogWriter<'a, K> {
     }
 
     /// Writes a line. It reaches the sink when the next piece is full, or at the latest when the writer writes out.
+    #[inline(always)]
     pub fn line(&mut self, line: &Line)
         ensures written { Grew (kept_by K.taken self.old) (kept_by K.taken self.new) (spelling line.now) }
         ensures kept { KeepsOn K.faults K.taken self.old self.new }
@@ -85,6 +86,7 @@ impl<'a, K: Sink> LogWriter<'a, K> {
     }
 
     // The longest line fits behind what is pending.
+    #[inline(always)]
     fn make_room(&mut self)
         ensures room { array_vec_len self.new.pending + 96 ≤ 4096 }
         ensures written { Grew (kept_by K.taken self.old) (kept_by K.taken self.new) [] }
@@ -95,6 +97,7 @@ impl<'a, K: Sink> LogWriter<'a, K> {
         }
     }
 
+    #[inline(always)]
     fn append(&mut self, line: &Line)
         requires { array_vec_len self.old.pending + 96 ≤ 4096 }
         ensures written { Grew (kept_by K.taken self.old) (kept_by K.taken self.new) (spelling line.now) }
@@ -106,6 +109,8 @@ impl<'a, K: Sink> LogWriter<'a, K> {
     }
 
     // Nothing is pending afterwards: the sink has it, or it is lost.
+    #[cold]
+    #[inline(never)]
     fn write_pending(&mut self)
         ensures nothing_pending { self.new.pending.items ≡ [] }
         ensures written { Grew (kept_by K.taken self.old) (kept_by K.taken self.new) [] }

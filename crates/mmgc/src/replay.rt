@@ -46,6 +46,7 @@ struct Replay {
 }
 
 /// Carries out a command with a counter of steps that nothing reads, and writes its lines.
+#[inline(always)]
 fn execute<K: Sink, L: Ledger>(
     heap: &mut Gc,
     log: &mut LogWriter<'_, K>,
