@@ -8,7 +8,7 @@ use Rattle.mm_cells.specs.declared.page_use.PageUse.{PageUse}
 use Rattle.mm_cells.specs.declared.page_use.PageUse.TheVariants.{Unused, Class, First, Later}
 use Rattle.mm_cells.specs.declared.marks.Mark.{Mark}
 use Rattle.mm_cells.specs.declared.marks.Mark.TheVariants as marks
-use Rattle.mm_cells.specs.Map.{Map, use_at, mark_at, room_at}
+use Rattle.mm_cells.specs.Map.{Map, use_at, mark_at, room_at, HasPlainMarks}
 use Rattle.mm_cells.specs.Cells.{Taken, Cells}
 
 -- the bytes of a cell of a class, and how many of them a page has
@@ -90,7 +90,8 @@ pub record IsLater (m : Map) (page distance : ℕ) : Type 0 where
   pub first : use_at m (page - distance) ≡ First count
   pub within : distance < count
 
--- page 0 is never used, no page is used without a taken cell, and the sets have exactly the pages with a free cell
+-- Page 0 is never used, no page is used without a taken cell, no free cell of a page of a class has a flag, and the sets
+-- have exactly the pages with a free cell.
 pub record KeepsCells (m : Map) : Type 0 where
   pub two : 2 ≤ m.pages
   pub most : m.pages ≤ 4096
@@ -99,5 +100,6 @@ pub record KeepsCells (m : Map) : Type 0 where
   pub classes : (page class : ℕ) → use_at m page ≡ Class class → (class < 19) × HasTaken m page class
   pub wholes : (page count : ℕ) → use_at m page ≡ First count → IsWhole m page count
   pub laters : (page distance : ℕ) → use_at m page ≡ Later distance → IsLater m page distance
+  pub plain : (page class : ℕ) → use_at m page ≡ Class class → HasPlainMarks m page
   pub rooms : (class page : ℕ) → class < 19 → page < m.pages
       → (room_at m class page ≡ true) ↔ ((use_at m page ≡ Class class) × HasFree m page class)

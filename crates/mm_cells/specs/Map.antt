@@ -7,7 +7,7 @@ use Rattle.mm_cells.specs.declared.page_use.PageUse.{PageUse}
 use Rattle.mm_cells.specs.declared.page_use.PageUse.TheVariants.{Unused}
 use Rattle.mm_cells.specs.declared.marks.Mark.{Mark}
 use Rattle.mm_cells.specs.declared.marks.Mark.TheVariants.{Free}
-use Rattle.mm_cells.specs.Marks.{mark_of_cell, whitened_mark}
+use Rattle.mm_cells.specs.Marks.{code_of_cell, mark_of_cell, whitened_mark, IsPlain}
 use Rattle.mm_cells.specs.Uses.{use_in}
 
 -- where the table lies, how many pages it is for, the words of the pages' uses, those of their cells' marks, and those
@@ -41,6 +41,14 @@ use_at m page = use_in m.uses page
 -- the mark of a cell of a page
 abbrev pub mark_at : Map → ℕ → ℕ → Mark
 mark_at m page cell = mark_of_cell m.marks (256 * page + cell)
+
+-- its four bits
+abbrev pub code_at : Map → ℕ → ℕ → ℕ
+code_at m page cell = code_of_cell m.marks (256 * page + cell)
+
+-- no free cell of a page has a flag
+abbrev pub HasPlainMarks : Map → ℕ → Type 0
+HasPlainMarks m page = (cell : ℕ) → cell < 256 → IsPlain (code_at m page cell)
 
 -- the words of the set of a class
 abbrev pub room_set : Map → ℕ → List ℕ
@@ -83,6 +91,7 @@ pub record SetsMark (a b : Map) (page cell : ℕ) (mark : Mark) : Type 0 where
   pub here : mark_at b page cell ≡ mark
   pub other_cells : (other : ℕ) → other < 256 → other ≢ cell → mark_at b page other ≡ mark_at a page other
   pub other_pages : (other any : ℕ) → other ≢ page → any < 256 → mark_at b other any ≡ mark_at a other any
+  pub plain : (any : ℕ) → HasPlainMarks a any → HasPlainMarks b any
   pub uses : b.uses ≡ a.uses
   pub rooms : b.rooms ≡ a.rooms
 
@@ -90,7 +99,9 @@ pub record SetsMark (a b : Map) (page cell : ℕ) (mark : Mark) : Type 0 where
 pub record FreesPage (a b : Map) (page : ℕ) : Type 0 where
   pub same : IsSame a b
   pub here : (cell : ℕ) → cell < 256 → mark_at b page cell ≡ Free
+  pub here_plain : HasPlainMarks b page
   pub other_pages : (other any : ℕ) → other ≢ page → any < 256 → mark_at b other any ≡ mark_at a other any
+  pub plain : (any : ℕ) → HasPlainMarks a any → HasPlainMarks b any
   pub uses : b.uses ≡ a.uses
   pub rooms : b.rooms ≡ a.rooms
 
@@ -100,6 +111,7 @@ pub record WhitensPage (a b : Map) (page words : ℕ) : Type 0 where
   pub here : (cell : ℕ) → cell < 8 * words → mark_at b page cell ≡ whitened_mark (mark_at a page cell)
   pub behind : (cell : ℕ) → 8 * words ≤ cell → cell < 256 → mark_at b page cell ≡ mark_at a page cell
   pub other_pages : (other any : ℕ) → other ≢ page → any < 256 → mark_at b other any ≡ mark_at a other any
+  pub plain : (any : ℕ) → HasPlainMarks a any → HasPlainMarks b any
   pub uses : b.uses ≡ a.uses
   pub rooms : b.rooms ≡ a.rooms
 

@@ -42,6 +42,10 @@ code_of (Taken colour flags) = colour_code colour + 4 * flags.0
 abbrev pub mark_of : ℕ → Mark
 mark_of code = if code % 4 == 3 then Free else Taken (colour_of (code % 4)) (flags_of code)
 
+-- four bits that aren't those of a free cell with a flag
+abbrev pub IsPlain : ℕ → Type 0
+IsPlain code = mark_of code ≡ Free → code ≡ code_of Free
+
 -- the mark of a taken cell that is white from now on
 abbrev pub whitened_mark : Mark → Mark
 whitened_mark Free = Free
@@ -62,6 +66,11 @@ code_of_cell table cell = code_in (slice_index table (cell / 8)) (cell % 8)
 -- the mark of a cell
 abbrev pub mark_of_cell : List ℕ → ℕ → Mark
 mark_of_cell table cell = mark_in (slice_index table (cell / 8)) (cell % 8)
+
+-- the taken cells of a word are white now, with the flags that they had, and no free one has got a flag
+pub record WhitensWord (before after : ℕ) : Type 0 where
+  pub white : (place : ℕ) → place < 8 → mark_in after place ≡ whitened_mark (mark_in before place)
+  pub plain : (place : ℕ) → place < 8 → IsPlain (code_in before place) → IsPlain (code_in after place)
 
 -- no one of so many marks says that a cell is free
 abbrev pub NoneFree : (ℕ → Mark) → ℕ → Type 0

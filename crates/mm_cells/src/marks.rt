@@ -1,7 +1,7 @@
 // The marks of cells in a table of words: four bits for each cell, and those of eight cells in each word.
 ghost use Rattle.std.specs.Prelude.{◌≡◌, ◌≢◌, ℕ, ◌+◌, ◌*◌, ◌/◌, ◌%◌, ◌<◌, ◌≤◌, ◌⊎◌, ◌↔◌, length, MatchOption, true};
 ghost use Rattle.mm_cells.specs.Marks.{code_in, code_of, colour_code, no_flags, IsMark, mark_of, mark_in};
-ghost use Rattle.mm_cells.specs.Marks.{colour_of, flags_of, whitened_mark};
+ghost use Rattle.mm_cells.specs.Marks.{colour_of, flags_of, whitened_mark, IsPlain, WhitensWord};
 ghost use Rattle.mm_cells.specs.Marks.{code_of_cell, mark_of_cell, page_marks};
 ghost use Rattle.mm_cells.specs.Marks.{NoneFree, IsLowestFree, NoneSought, IsLowestSought, IsMaskOf};
 
@@ -178,7 +178,7 @@ fn with_mark(word: u32, place: u32, mark: Mark) -> u32
     requires mark { IsMark mark }
     ensures code { code_in result place ≡ code_of mark }
     ensures given { mark_in result place ≡ mark }
-    ensures others { (p : ℕ) → p < 8 → p ≢ place → mark_in result p ≡ mark_in word p }
+    ensures others { (p : ℕ) → p < 8 → p ≢ place → code_in result p ≡ code_in word p }
 {
     let shift = 4 * place;
     word - (code_at(word, place) << shift) + (encode(mark) << shift)
@@ -190,7 +190,7 @@ fn with_colour(word: u32, place: u32, colour: Colour) -> u32
     requires { place < 8 }
     ensures given { (its : Colour) (flags : CellBits) → mark_in word place ≡ Mark.Taken its flags
         → mark_in result place ≡ Mark.Taken colour flags }
-    ensures others { (p : ℕ) → p < 8 → p ≢ place → mark_in result p ≡ mark_in word p }
+    ensures others { (p : ℕ) → p < 8 → p ≢ place → code_in result p ≡ code_in word p }
 {
     let shift = 4 * place;
     word - ((word >> shift & 3) << shift) + (colour_code(colour) << shift)
@@ -203,7 +203,7 @@ fn gray_word(word: u32, place: u32) -> u32
     requires white { (flags : CellBits) × (mark_in word place ≡ Mark.Taken Colour.White flags) }
     ensures given { (flags : CellBits) → mark_in word place ≡ Mark.Taken Colour.White flags
         → mark_in result place ≡ Mark.Taken Colour.Gray flags }
-    ensures others { (p : ℕ) → p < 8 → p ≢ place → mark_in result p ≡ mark_in word p }
+    ensures others { (p : ℕ) → p < 8 → p ≢ place → code_in result p ≡ code_in word p }
 {
     word + (GRAY << (4 * place))
 }
@@ -292,7 +292,7 @@ fn has_taken(word: u32, cells: u32) -> bool
 
 /// A word whose taken cells are white, with the flags that they had.
 fn whitened_word(word: u32) -> u32
-    ensures { (place : ℕ) → place < 8 → mark_in result place ≡ whitened_mark (mark_in word place) }
+    ensures { WhitensWord word result }
 {
     let free = word & (word >> 1) & LOWEST_BITS;
     (word & FLAG_BITS) | free | (free << 1)
@@ -321,7 +321,7 @@ pub(crate) fn set_mark(table: &mut [u32], cell: u32, mark: Mark)
     requires mark { IsMark mark }
     ensures code { code_of_cell table.new cell ≡ code_of mark }
     ensures given { mark_of_cell table.new cell ≡ mark }
-    ensures others { (c : ℕ) → c ≢ cell → mark_of_cell table.new c ≡ mark_of_cell table.old c }
+    ensures others { (c : ℕ) → c ≢ cell → code_of_cell table.new c ≡ code_of_cell table.old c }
 {
     let word = &mut table[(cell / 8) as usize];
     *word = with_mark(*word, cell % 8, mark);
@@ -332,7 +332,7 @@ pub(crate) fn free_cell(table: &mut [u32], cell: u32, cells: u32) -> Neighbours
     requires { cell / 8 < length table.old }
     ensures code { code_of_cell table.new cell ≡ code_of Mark.Free }
     ensures given { mark_of_cell table.new cell ≡ Mark.Free }
-    ensures others { (c : ℕ) → c ≢ cell → mark_of_cell table.new c ≡ mark_of_cell table.old c }
+    ensures others { (c : ℕ) → c ≢ cell → code_of_cell table.new c ≡ code_of_cell table.old c }
     ensures had_free { (result.had_free ≡ true) ↔ ((other : ℕ) × (other / 8 ≡ cell / 8) × (other % 8 < cells)
         × (mark_of_cell table.old other ≡ Mark.Free)) }
     ensures has_taken { (result.has_taken ≡ true) ↔ ((other : ℕ) × (other / 8 ≡ cell / 8) × (other % 8 < cells)
@@ -354,7 +354,7 @@ pub(crate) fn set_colour(table: &mut [u32], cell: u32, colour: Colour)
     requires { cell / 8 < length table.old }
     ensures given { (its : Colour) (flags : CellBits) → mark_of_cell table.old cell ≡ Mark.Taken its flags
         → mark_of_cell table.new cell ≡ Mark.Taken colour flags }
-    ensures others { (c : ℕ) → c ≢ cell → mark_of_cell table.new c ≡ mark_of_cell table.old c }
+    ensures others { (c : ℕ) → c ≢ cell → code_of_cell table.new c ≡ code_of_cell table.old c }
 {
     let word = &mut table[(cell / 8) as usize];
     *word = with_colour(*word, cell % 8, colour);
@@ -366,7 +366,7 @@ pub(crate) fn make_gray(table: &mut [u32], cell: u32)
     requires white { (flags : CellBits) × (mark_of_cell table.old cell ≡ Mark.Taken Colour.White flags) }
     ensures given { (flags : CellBits) → mark_of_cell table.old cell ≡ Mark.Taken Colour.White flags
         → mark_of_cell table.new cell ≡ Mark.Taken Colour.Gray flags }
-    ensures others { (c : ℕ) → c ≢ cell → mark_of_cell table.new c ≡ mark_of_cell table.old c }
+    ensures others { (c : ℕ) → c ≢ cell → code_of_cell table.new c ≡ code_of_cell table.old c }
 {
     let word = &mut table[(cell / 8) as usize];
     *word = gray_word(*word, cell % 8);
@@ -421,9 +421,9 @@ pub(crate) fn lowest_sought(
 /// Makes all 256 cells of a page free.
 pub(crate) fn fill_free(table: &mut [u32], first_word: u32)
     requires { first_word + 32 ≤ length table.old }
-    ensures page { (c : ℕ) → c < 256 → page_marks table.new first_word c ≡ Mark.Free }
+    ensures page { (c : ℕ) → c < 256 → code_of_cell table.new (8 * first_word + c) ≡ code_of Mark.Free }
     ensures others { (c : ℕ) → (c < 8 * first_word) ⊎ (8 * first_word + 256 ≤ c) →
-        mark_of_cell table.new c ≡ mark_of_cell table.old c }
+        code_of_cell table.new c ≡ code_of_cell table.old c }
 {
     let first = first_word as usize;
     for word in first..first + 32 {
@@ -436,8 +436,10 @@ pub(crate) fn whiten(table: &mut [u32], first_word: u32, words: u32)
     requires { first_word + words ≤ length table.old }
     ensures white { (c : ℕ) → c < 8 * words →
         page_marks table.new first_word c ≡ whitened_mark (page_marks table.old first_word c) }
+    ensures plain { (c : ℕ) → c < 8 * words → IsPlain (code_of_cell table.old (8 * first_word + c))
+        → IsPlain (code_of_cell table.new (8 * first_word + c)) }
     ensures others { (c : ℕ) → (c < 8 * first_word) ⊎ (8 * first_word + 8 * words ≤ c) →
-        mark_of_cell table.new c ≡ mark_of_cell table.old c }
+        code_of_cell table.new c ≡ code_of_cell table.old c }
 {
     let first = first_word as usize;
     for word in first..first + words as usize {

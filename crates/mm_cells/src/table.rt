@@ -1,11 +1,11 @@
 // The words of the cells' table, and what stands where in them.
 ghost use Rattle.std.specs.Prelude.{◌≡◌, ◌≢◌, ℕ, ◌+◌, ◌*◌, ◌/◌, ◌<◌, ◌≤◌, ◌↔◌, length, MatchOption, true};
 ghost use Rattle.mm_sets.specs.Set.{set_size, members, IsSet, Admits};
-ghost use Rattle.mm_cells.specs.Marks.{IsMark, NoneFree, IsLowestFree, NoneSought, IsLowestSought};
+ghost use Rattle.mm_cells.specs.Marks.{code_of, IsMark, NoneFree, IsLowestFree, NoneSought, IsLowestSought};
 ghost use Rattle.mm_cells.specs.Uses.{use_in_whole, IsUse, StandsAlone};
 ghost use Rattle.mm_cells.specs.Spans.{SetsUses, AreUnused, AreWhole};
 ghost use Rattle.mm_cells.specs.Map.{use_at, mark_at, room_at, SetsUse, SetsMark, FreesPage, WhitensPage, SetsRoom};
-ghost use Rattle.mm_cells.specs.Map.{NoPageWithRoom, IsLowestRoom};
+ghost use Rattle.mm_cells.specs.Map.{NoPageWithRoom, IsLowestRoom, code_at};
 
 use crate::marks::{CellBits, Mark, Neighbours, ObjectMark, Sought};
 use crate::page_use::PageUse;
@@ -202,7 +202,8 @@ impl Table {
         requires page { page < self.old.pages }
         requires cell { cell < 256 }
         requires mark { IsMark mark }
-        ensures { SetsMark self.old self.new page cell mark }
+        ensures set { SetsMark self.old self.new page cell mark }
+        ensures code { code_at self.new page cell ≡ code_of mark }
     {
         let part = marks_part(self.pages);
         marks::set_mark(
@@ -219,6 +220,7 @@ impl Table {
         requires cell { cell < cells }
         requires cells { cells ≤ 256 }
         ensures free { SetsMark self.old self.new page cell Mark.Free }
+        ensures code { code_at self.new page cell ≡ code_of Mark.Free }
         ensures had_free { (result.had_free ≡ true) ↔ ((other : ℕ) × (other / 8 ≡ cell / 8) × (other < cells)
             × (mark_at self.old page other ≡ Mark.Free)) }
         ensures has_taken { (result.has_taken ≡ true) ↔ ((other : ℕ) × (other / 8 ≡ cell / 8) × (other < cells)

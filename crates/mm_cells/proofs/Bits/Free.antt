@@ -126,8 +126,7 @@ IsLowestFree-pair pair some =
     IsLowestFree-bits pair LOWEST_BITS_OF_PAIR 16 lowest_bits-pair (trailing_zeros w64 bits) first.0 first.1 first.2
 
 -- a word of which each cell is free
-pub ALL_FREE-free : (place : ℕ) → place < 8 → mark_in ALL_FREE place ≡ Free
-ALL_FREE-free place within =
-    let three : (code_in ALL_FREE place % 4 == 3) ≡ true =
-    agree_below_at (λ p. code_in ALL_FREE p % 4 == 3) (λ _. true) 8 place refl within in
-    free-low_bits (code_in ALL_FREE place) (grind (arith, nat_tests))
+pub ALL_FREE-code : (place : ℕ) → place < 8 → code_in ALL_FREE place ≡ 3
+ALL_FREE-code place within =
+    eqb-true (code_in ALL_FREE place) 3
+    (agree_below_at (λ p. code_in ALL_FREE p == 3) (λ _. true) 8 place refl within)

@@ -4,11 +4,18 @@ use Rattle.std.proofs.Common.{refl, sym, ap, ◌∙◌, inl, inr, arith}
 use Rattle.std.proofs.lemmas.Bool.{cases_eq, cases_lt}
 use Rattle.std.proofs.lemmas.List.{get_or-set_same, get_or-set_other}
 use Rattle.mm_cells.specs.declared.marks.Mark.{Mark}
-use Rattle.mm_cells.specs.Marks.{mark_in, mark_of_cell, page_marks, NoneFree, IsLowestFree}
+use Rattle.mm_cells.specs.Marks.{code_in, code_of_cell, mark_in, mark_of_cell, page_marks, NoneFree, IsLowestFree}
 
 pub page_marks-word : (table : List ℕ) (first word place : ℕ) → place < 8 →
     page_marks table first (8 * word + place) ≡ mark_in (get_or table (first + word) 0) place
 page_marks-word table first word place within =
+    let row : (8 * first + (8 * word + place)) / 8 ≡ first + word = omega arith in
+    let column : (8 * first + (8 * word + place)) % 8 ≡ place = omega arith in
+    rw (row, column) refl
+
+pub page_codes-word : (table : List ℕ) (first word place : ℕ) → place < 8 →
+    code_of_cell table (8 * first + (8 * word + place)) ≡ code_in (get_or table (first + word) 0) place
+page_codes-word table first word place within =
     let row : (8 * first + (8 * word + place)) / 8 ≡ first + word = omega arith in
     let column : (8 * first + (8 * word + place)) % 8 ≡ place = omega arith in
     rw (row, column) refl
@@ -26,16 +33,17 @@ mark_of_cell-word table cell other word within here =
     ∙ ap (λ w. mark_in w (other % 8)) (get_or-set_same table (cell / 8) word 0 within)
 
 -- another cell than one of a word that is replaced lies in another word, or at another place of the same one
-pub mark_of_cell-others : (table : List ℕ) (cell word : ℕ) → cell / 8 < length table →
-    ((p : ℕ) → p < 8 → p ≢ cell % 8 → mark_in word p ≡ mark_in (get_or table (cell / 8) 0) p) →
-    (other : ℕ) → other ≢ cell → mark_of_cell (slice_set table (cell / 8) word) other ≡ mark_of_cell table other
-mark_of_cell-others table cell word within others other apart = elim (cases_eq (other / 8) (cell / 8)) [
+pub code_of_cell-others : (table : List ℕ) (cell word : ℕ) → cell / 8 < length table →
+    ((p : ℕ) → p < 8 → p ≢ cell % 8 → code_in word p ≡ code_in (get_or table (cell / 8) 0) p) →
+    (other : ℕ) → other ≢ cell → code_of_cell (slice_set table (cell / 8) word) other ≡ code_of_cell table other
+code_of_cell-others table cell word within others other apart = elim (cases_eq (other / 8) (cell / 8)) [
   | inl here ↦
       let there : other % 8 ≢ cell % 8 = λ e. apart (omega arith) in
-      mark_of_cell-word table cell other word within here
+      ap (λ k. code_in (get_or (slice_set table (cell / 8) word) k 0) (other % 8)) here
+      ∙ ap (λ w. code_in w (other % 8)) (get_or-set_same table (cell / 8) word 0 within)
       ∙ others (other % 8) (omega arith) there
-      ∙ ap (λ k. mark_in (get_or table k 0) (other % 8)) (sym here)
-  | inr there ↦ ap (λ w. mark_in w (other % 8)) (get_or-set_other table (cell / 8) (other / 8) word 0 there)
+      ∙ ap (λ k. code_in (get_or table k 0) (other % 8)) (sym here)
+  | inr there ↦ ap (λ w. code_in w (other % 8)) (get_or-set_other table (cell / 8) (other / 8) word 0 there)
 ]
 
 -- the marks of two words are those of sixteen cells of a page

@@ -1,6 +1,6 @@
 -- A word whose taken cells become white: the flags stay, and so does what says free.
 use Rattle.std.proofs.Common.{◌≡◌, ℕ, ◌+◌, ◌-◌, ◌*◌, ◌/◌, ◌%◌, ◌^◌, ◌<◌, ◌==◌, false, true, refl, min, max, bit_and}
-use Rattle.std.proofs.Common.{bit_or, sym, ap}
+use Rattle.std.proofs.Common.{bit_or, sym, ap, subst}
 use Rattle.std.proofs.Common.{◌∙◌, inl, inr, arith}
 use Rattle.std.proofs.lemmas.Bool.{agree_below_at, cases_eq, cases_lt, eqb-true, ne_eqb}
 use Rattle.std.proofs.lemmas.Nat.{and_le_r}
@@ -9,9 +9,9 @@ use Rattle.std.specs.Int.{bit_at}
 use Rattle.mm_model.specs.declared.object.Colour.TheVariants.{White}
 use Rattle.mm_cells.specs.declared.marks.Mark.TheVariants.{Taken}
 use Rattle.mm_cells.specs.declared.marks.TheConstants.{FLAG_BITS, LOWEST_BITS}
-use Rattle.mm_cells.specs.Marks.{mark_of, colour_of, flags_of, code_in, mark_in, whitened_mark}
+use Rattle.mm_cells.specs.Marks.{mark_of, colour_of, flags_of, code_in, mark_in, whitened_mark, IsPlain, WhitensWord}
 use Rattle.mm_cells.proofs.Bits.Codes.{pow-sixteen}
-use Rattle.mm_cells.proofs.Bits.Free.{free-low_bits, low_bit, next_bit, lowest_bits}
+use Rattle.mm_cells.proofs.Bits.Free.{free-low_bits, low_bits-free, low_bit, next_bit, lowest_bits}
 use Rattle.mm_cells.proofs.Bits.Sought.{bit_at-shifted}
 
 -- the mask of flags, bit by bit
@@ -138,7 +138,15 @@ mark_of-whitened before after flags low = elim (cases_eq (before % 4) 3) [
       white ∙ ap (λ x. Taken White (record { 0 = x })) flags ∙ sym (ap whitened_mark was)
 ]
 
-pub mark_in-whitened : (word place : ℕ) → place < 8 →
+-- a free one keeps its flags
+plain-whitened : (before after : ℕ) → after / 4 ≡ before / 4 →
+    after % 4 ≡ 3 * min (before % 2) (before / 2 % 2) → IsPlain before → IsPlain after
+plain-whitened before after flags low plain = λ free.
+    let now : after % 4 ≡ 3 = low_bits-free after free in
+    let was : before ≡ 3 = plain (free-low_bits before (omega arith)) in
+    omega arith
+
+mark_in-whitened : (word place : ℕ) → place < 8 →
     mark_in (bit_or (bit_or (bit_and word FLAG_BITS) (bit_and (bit_and word (word / 2)) LOWEST_BITS))
     (bit_and (bit_and word (word / 2)) LOWEST_BITS * 2 % 2 ^ 32)) place ≡ whitened_mark (mark_in word place)
 unfolding free whitened
@@ -149,3 +157,20 @@ mark_in-whitened word place within =
     ap (λ x. mark_in (bit_or (bit_or (bit_and word FLAG_BITS) (free word)) x) place) fits
     ∙ mark_of-whitened (code_in word place) (code_in (whitened word) place) (high_bits word place within)
     (low_bits word place within)
+
+code_in-plain : (word place : ℕ) → place < 8 → IsPlain (code_in word place) →
+    IsPlain (code_in (bit_or (bit_or (bit_and word FLAG_BITS) (bit_and (bit_and word (word / 2)) LOWEST_BITS))
+    (bit_and (bit_and word (word / 2)) LOWEST_BITS * 2 % 2 ^ 32)) place)
+unfolding free whitened
+code_in-plain word place within plain =
+    let fits : free word * 2 ≡ free word * 2 % 2 ^ 32 =
+    let most = and_le_r (bit_and word (word / 2)) LOWEST_BITS in
+    omega arith in
+    subst (λ (x : ℕ). IsPlain (code_in (bit_or (bit_or (bit_and word FLAG_BITS) (free word)) x) place)) fits
+    (plain-whitened (code_in word place) (code_in (whitened word) place) (high_bits word place within)
+    (low_bits word place within) plain)
+
+pub whitens-word : (word : ℕ) → WhitensWord word
+    (bit_or (bit_or (bit_and word FLAG_BITS) (bit_and (bit_and word (word / 2)) LOWEST_BITS))
+    (bit_and (bit_and word (word / 2)) LOWEST_BITS * 2 % 2 ^ 32))
+whitens-word word = record { white = mark_in-whitened word; plain = code_in-plain word }

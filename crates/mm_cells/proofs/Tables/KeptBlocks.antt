@@ -5,7 +5,7 @@ use Rattle.std.specs.Prelude.{◌↔◌}
 use Rattle.std.proofs.lemmas.Bool.{cases_eq}
 use Rattle.mm_cells.specs.declared.page_use.PageUse.TheVariants.{Unused, Class, First, Later}
 use Rattle.mm_cells.specs.declared.marks.Mark.TheVariants as marks
-use Rattle.mm_cells.specs.Map.{Map, use_at, mark_at, room_at}
+use Rattle.mm_cells.specs.Map.{Map, use_at, mark_at, room_at, HasPlainMarks}
 use Rattle.mm_cells.specs.Kept.{cells_in, KeepsCells, HasTaken, HasFree, IsWhole, IsLater}
 use Rattle.mm_cells.specs.Uses.{use_in_whole}
 use Rattle.mm_cells.specs.Spans.{AreUnused}
@@ -29,6 +29,7 @@ pub record KeepsPages (m : Map) (first count : ℕ) : Type 0 where
       → IsLater m page distance
   pub rooms : (class page : ℕ) → class < 19 → IsInside first count page
       → (room_at m class page ≡ true) ↔ ((use_at m page ≡ Class class) × HasFree m page class)
+  pub plain : (page class : ℕ) → IsInside first count page → use_at m page ≡ Class class → HasPlainMarks m page
 
 -- where a test is not true it is false
 pub not_true : (test : Bool) → (test ≡ true → ⊥) → test ≡ false
@@ -85,6 +86,10 @@ KeepsCells-block a b first count kept agrees closed off_zero ends now =
               first = agrees.uses (page - distance) (closed.laters page distance outside used_before) ∙ before.first;
               within = before.within;
             }
+      ];
+      plain = λ page class used. elim (outside_or_inside first count page) [
+        | inr inside ↦ now.plain page class inside used
+        | inl outside ↦ agrees.plain page (kept.plain page class (sym (agrees.uses page outside) ∙ used))
       ];
       rooms = λ class page known within. elim (outside_or_inside first count page) [
         | inr inside ↦ now.rooms class page known inside
@@ -206,9 +211,10 @@ IsClosed-whole m first count kept used = record {
 
 -- a page of a class
 pub KeepsPages-class : (m : Map) (page class : ℕ) → class < 19 → use_at m page ≡ Class class → HasTaken m page class →
-    ((room_at m class page ≡ true) ↔ HasFree m page class) →
+    HasPlainMarks m page → ((room_at m class page ≡ true) ↔ HasFree m page class) →
     ((other : ℕ) → other < 19 → other ≢ class → room_at m other page ≡ false) → KeepsPages m page 1
-KeepsPages-class m page class known used taken room others = record {
+KeepsPages-class m page class known used taken plain room others = record {
+  plain = λ other c inside is. subst (HasPlainMarks m) (sym (only_page page other inside)) plain;
   classes = λ other c inside is.
       let at : use_at m other ≡ use_at m page = ap (use_at m) (only_page page other inside) in
       let same : c ≡ class = cc in (
@@ -240,6 +246,7 @@ KeepsPages-unused m first count unused no_room = record {
   classes = λ page class inside is. absurd (let none = unused page inside.from inside.to in cc);
   wholes = λ page n inside is. absurd (let none = unused page inside.from inside.to in cc);
   laters = λ page n inside is. absurd (let none = unused page inside.from inside.to in cc);
+  plain = λ page n inside is. absurd (let none = unused page inside.from inside.to in cc);
   rooms = λ class page low inside. (
     (λ has. absurd (let none : room_at m class page ≡ false = no_room class page low inside in cc)),
     (λ has. absurd (let is : use_at m page ≡ Class class = has.0 in
@@ -270,6 +277,10 @@ KeepsPages-whole m first count some ends uses taken no_room =
     ] in
     record {
       classes = λ page class inside is. absurd (elim (first_or_later page inside) [
+        | inl e ↦ let at : use_at m page ≡ First count = ap (use_at m) e ∙ first_is in cc
+        | inr l ↦ let at : use_at m page ≡ Later (page - first) = l.1 in cc
+      ]);
+      plain = λ page class inside is. absurd (elim (first_or_later page inside) [
         | inl e ↦ let at : use_at m page ≡ First count = ap (use_at m) e ∙ first_is in cc
         | inr l ↦ let at : use_at m page ≡ Later (page - first) = l.1 in cc
       ]);

@@ -1,19 +1,22 @@
 -- The parts of a table after the words of its uses or of its marks were written.
-use Rattle.std.proofs.Common.{◌≡◌, ◌≢◌, ℕ, ◌+◌, ◌*◌, ◌<◌, ◌≤◌, ◌⊎◌, List, length, take, drop, slice_range, inl}
-use Rattle.std.proofs.Common.{inr, sym, ap, subst, ◌∙◌, refl, arith}
+use Rattle.std.proofs.Common.{◌≡◌, ◌≢◌, ℕ, ◌+◌, ◌*◌, ◌<◌, ◌≤◌, ◌-◌, ◌⊎◌, List, length, take, drop, slice_range}
+use Rattle.std.proofs.Common.{inl, inr, sym, ap, subst, ◌∙◌, refl, arith}
 use Rattle.std.proofs.lemmas.Bool.{cases_eq, cases_lt}
 use Rattle.mm_words.specs.Piece.{Piece, with_words}
 use Rattle.mm_words.specs.Writes.{written}
 use Rattle.mm_words.proofs.Writes.{length-written, take-written, drop-written, drop-written_behind}
 use Rattle.mm_sets.specs.Set.{IsSet}
 use Rattle.mm_pages.proofs.Tables.{length-part}
+use Rattle.mm_model.specs.declared.object.Colour.{Colour}
+use Rattle.mm_cells.specs.declared.marks.CellBits.{CellBits}
 use Rattle.mm_cells.specs.declared.marks.Mark.{Mark}
-use Rattle.mm_cells.specs.declared.marks.Mark.TheVariants.{Free}
+use Rattle.mm_cells.specs.declared.marks.Mark.TheVariants.{Free, Taken}
 use Rattle.mm_cells.specs.declared.page_use.PageUse.{PageUse}
-use Rattle.mm_cells.specs.Map.{Map, map_of, room_set, mark_at, FitsTable, SetsUse, SetsMark, FreesPage, WhitensPage}
+use Rattle.mm_cells.specs.Map.{Map, map_of, room_set, mark_at, code_at, HasPlainMarks, FitsTable, SetsUse, SetsMark}
+use Rattle.mm_cells.specs.Map.{FreesPage, WhitensPage}
 use Rattle.mm_cells.specs.Uses.{use_in, ChangesUses}
 use Rattle.mm_cells.specs.Spans.{SetsUses}
-use Rattle.mm_cells.specs.Marks.{mark_of_cell, page_marks, whitened_mark}
+use Rattle.mm_cells.specs.Marks.{code_of, mark_of, code_of_cell, mark_of_cell, page_marks, whitened_mark, IsPlain}
 
 -- some words in a row, by where they begin and how many they are
 pub part-lent : (p : Piece) (start len from n : ℕ) (part : List ℕ) → start ≡ from → len ≡ n →
@@ -138,18 +141,48 @@ mark_at-with_marks p pages page cell table ws room lent size =
     ap (λ (m : Map). mark_of_cell m.marks (256 * page + cell))
     (map_of-with_marks p pages ws room (size ∙ lent.sized))
 
+-- a mark that says taken is no free cell's, and one that was written is the code of what it says
+pub plain-taken : (code : ℕ) (colour : Colour) (flags : CellBits) → mark_of code ≡ Taken colour flags → IsPlain code
+plain-taken code colour flags is = λ free. absurd (let both : Free ≡ Taken colour flags = sym free ∙ is in cc)
+
+pub plain-code : (code : ℕ) (mark : Mark) → mark_of code ≡ mark → code ≡ code_of mark → IsPlain code
+plain-code code mark means is = λ free. is ∙ ap code_of (sym means ∙ free)
+
+pub code_at-with_marks : (p : Piece) (pages page cell : ℕ) (table ws : List ℕ) → FitsTable p pages →
+    IsMarks p pages table → length ws ≡ length table →
+    code_at (map_of (with_marks p pages ws) pages) page cell ≡ code_of_cell ws (256 * page + cell)
+code_at-with_marks p pages page cell table ws room lent size =
+    ap (λ (m : Map). code_of_cell m.marks (256 * page + cell))
+    (map_of-with_marks p pages ws room (size ∙ lent.sized))
+
+-- no free cell gets a flag where none does in the words that were written
+plain-with_marks : (p : Piece) (pages : ℕ) (table ws : List ℕ) → FitsTable p pages →
+    IsMarks p pages table → length ws ≡ length table →
+    ((c : ℕ) → IsPlain (code_of_cell table c) → IsPlain (code_of_cell ws c)) →
+    (any : ℕ) → HasPlainMarks (map_of p pages) any → HasPlainMarks (map_of (with_marks p pages ws) pages) any
+plain-with_marks p pages table ws room lent size plain any before = λ cell low.
+    subst IsPlain (sym (code_at-with_marks p pages any cell table ws room lent size))
+    (plain (256 * any + cell)
+    (subst (λ (s : List ℕ). IsPlain (code_of_cell s (256 * any + cell))) (sym lent.is) (before cell low)))
+
 pub SetsMark-with_marks : (p : Piece) (pages page cell : ℕ) (mark : Mark) (table ws : List ℕ) → FitsTable p pages →
     IsMarks p pages table → length ws ≡ length table → cell < 256 → mark_of_cell ws (256 * page + cell) ≡ mark →
-    ((c : ℕ) → c ≢ 256 * page + cell → mark_of_cell ws c ≡ mark_of_cell table c) →
+    IsPlain (code_of_cell ws (256 * page + cell)) →
+    ((c : ℕ) → c ≢ 256 * page + cell → code_of_cell ws c ≡ code_of_cell table c) →
     SetsMark (map_of p pages) (map_of (with_marks p pages ws) pages) page cell mark
-SetsMark-with_marks p pages page cell mark table ws room lent size small given others =
+SetsMark-with_marks p pages page cell mark table ws room lent size small given plain others =
     let after = map_of-with_marks p pages ws room (size ∙ lent.sized) in
     let marks : (map_of (with_marks p pages ws) pages).marks ≡ ws = ap (λ (m : Map). m.marks) after in
     let same : (c : ℕ) → c ≢ 256 * page + cell →
     mark_of_cell (map_of (with_marks p pages ws) pages).marks c ≡ mark_of_cell (map_of p pages).marks c =
     λ c apart.
-    ap (λ (s : List ℕ). mark_of_cell s c) marks ∙ others c apart ∙ ap (λ (s : List ℕ). mark_of_cell s c) lent.is in
+    ap (λ (s : List ℕ). mark_of_cell s c) marks ∙ ap mark_of (others c apart)
+    ∙ ap (λ (s : List ℕ). mark_of_cell s c) lent.is in
     record {
+      plain = plain-with_marks p pages table ws room lent size (λ c was. elim (cases_eq c (256 * page + cell)) [
+        | inl here ↦ subst (λ (k : ℕ). IsPlain (code_of_cell ws k)) (sym here) plain
+        | inr apart ↦ subst IsPlain (sym (others c apart)) was
+      ]);
       same = record { location = ap (λ (m : Map). m.location) after; pages = refl };
       here = ap (λ (s : List ℕ). mark_of_cell s (256 * page + cell)) marks ∙ given;
       other_cells = λ other below apart. same (256 * page + other) (λ e. apart (omega arith));
@@ -168,22 +201,34 @@ apart_pages page other any apart below = elim (cases_lt other page) [
 
 pub FreesPage-with_marks : (p : Piece) (pages page : ℕ) (table ws : List ℕ) → FitsTable p pages →
     IsMarks p pages table → length ws ≡ length table →
-    ((c : ℕ) → c < 256 → page_marks ws (32 * page) c ≡ Free) →
-    ((c : ℕ) → (c < 8 * (32 * page)) ⊎ (8 * (32 * page) + 256 ≤ c) → mark_of_cell ws c ≡ mark_of_cell table c) →
+    ((c : ℕ) → c < 256 → code_of_cell ws (8 * (32 * page) + c) ≡ code_of Free) →
+    ((c : ℕ) → (c < 8 * (32 * page)) ⊎ (8 * (32 * page) + 256 ≤ c) → code_of_cell ws c ≡ code_of_cell table c) →
     FreesPage (map_of p pages) (map_of (with_marks p pages ws) pages) page
 FreesPage-with_marks p pages page table ws room lent size freed others =
     let after = map_of-with_marks p pages ws room (size ∙ lent.sized) in
     let marks : (map_of (with_marks p pages ws) pages).marks ≡ ws = ap (λ (m : Map). m.marks) after in
     let start : 256 * page ≡ 8 * (32 * page) = omega arith in
     record {
+      here_plain = λ cell low free.
+          code_at-with_marks p pages page cell table ws room lent size
+          ∙ ap (λ first. code_of_cell ws (first + cell)) start ∙ freed cell low;
+      plain = plain-with_marks p pages table ws room lent size (λ c was. elim (cases_lt c (8 * (32 * page))) [
+        | inl before ↦ subst IsPlain (sym (others c (inl before))) was
+        | inr from ↦ elim (cases_lt c (8 * (32 * page) + 256)) [
+          | inr behind ↦ subst IsPlain (sym (others c (inr behind))) was
+          | inl below ↦
+              let at : 8 * (32 * page) + (c - 8 * (32 * page)) ≡ c = omega arith in
+              λ free. ap (λ (k : ℕ). code_of_cell ws k) (sym at) ∙ freed (c - 8 * (32 * page)) (omega arith)
+        ]
+      ]);
       same = record { location = ap (λ (m : Map). m.location) after; pages = refl };
       here = λ cell below.
           ap (λ (s : List ℕ). mark_of_cell s (256 * page + cell)) marks
           ∙ ap (λ first. mark_of_cell ws (first + cell)) start
-          ∙ freed cell below;
+          ∙ ap mark_of (freed cell below);
       other_pages = λ other any apart below.
           ap (λ (s : List ℕ). mark_of_cell s (256 * other + any)) marks
-          ∙ others (256 * other + any) (apart_pages page other any apart below)
+          ∙ ap mark_of (others (256 * other + any) (apart_pages page other any apart below))
           ∙ ap (λ (s : List ℕ). mark_of_cell s (256 * other + any)) lent.is;
       uses = ap (λ (m : Map). m.uses) after;
       rooms = ap (λ (m : Map). m.rooms) after;
@@ -192,17 +237,30 @@ FreesPage-with_marks p pages page table ws room lent size freed others =
 pub WhitensPage-with_marks : (p : Piece) (pages page words : ℕ) (table ws : List ℕ) → FitsTable p pages →
     IsMarks p pages table → length ws ≡ length table → words ≤ 32 →
     ((c : ℕ) → c < 8 * words → page_marks ws (32 * page) c ≡ whitened_mark (page_marks table (32 * page) c)) →
-    ((c : ℕ) → (c < 8 * (32 * page)) ⊎ (8 * (32 * page) + 8 * words ≤ c) → mark_of_cell ws c ≡ mark_of_cell table c) →
+    ((c : ℕ) → c < 8 * words → IsPlain (code_of_cell table (8 * (32 * page) + c))
+    → IsPlain (code_of_cell ws (8 * (32 * page) + c))) →
+    ((c : ℕ) → (c < 8 * (32 * page)) ⊎ (8 * (32 * page) + 8 * words ≤ c) → code_of_cell ws c ≡ code_of_cell table c) →
     WhitensPage (map_of p pages) (map_of (with_marks p pages ws) pages) page words
-WhitensPage-with_marks p pages page words table ws room lent size few white others =
+WhitensPage-with_marks p pages page words table ws room lent size few white plain others =
     let after = map_of-with_marks p pages ws room (size ∙ lent.sized) in
     let marks : (map_of (with_marks p pages ws) pages).marks ≡ ws = ap (λ (m : Map). m.marks) after in
     let same : (c : ℕ) → (c < 8 * (32 * page)) ⊎ (8 * (32 * page) + 8 * words ≤ c) →
     mark_of_cell (map_of (with_marks p pages ws) pages).marks c ≡ mark_of_cell (map_of p pages).marks c =
     λ c apart.
-    ap (λ (s : List ℕ). mark_of_cell s c) marks ∙ others c apart ∙ ap (λ (s : List ℕ). mark_of_cell s c) lent.is in
+    ap (λ (s : List ℕ). mark_of_cell s c) marks ∙ ap mark_of (others c apart)
+    ∙ ap (λ (s : List ℕ). mark_of_cell s c) lent.is in
     let start : 256 * page ≡ 8 * (32 * page) = omega arith in
     record {
+      plain = plain-with_marks p pages table ws room lent size (λ c was. elim (cases_lt c (8 * (32 * page))) [
+        | inl before ↦ subst IsPlain (sym (others c (inl before))) was
+        | inr from ↦ elim (cases_lt c (8 * (32 * page) + 8 * words)) [
+          | inr behind ↦ subst IsPlain (sym (others c (inr behind))) was
+          | inl below ↦
+              let at : 8 * (32 * page) + (c - 8 * (32 * page)) ≡ c = omega arith in
+              subst (λ (k : ℕ). IsPlain (code_of_cell ws k)) at (plain (c - 8 * (32 * page)) (omega arith)
+              (subst (λ (k : ℕ). IsPlain (code_of_cell table k)) (sym at) was))
+        ]
+      ]);
       same = record { location = ap (λ (m : Map). m.location) after; pages = refl };
       here = λ cell below.
           ap (λ (s : List ℕ). mark_of_cell s (256 * page + cell)) marks

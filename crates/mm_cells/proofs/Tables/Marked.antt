@@ -7,7 +7,7 @@ use Rattle.mm_cells.specs.declared.page_use.PageUse.{PageUse}
 use Rattle.mm_cells.specs.declared.page_use.PageUse.TheVariants.{Class, First}
 use Rattle.mm_cells.specs.declared.marks.Mark.{Mark}
 use Rattle.mm_cells.specs.declared.marks.Mark.TheVariants as marks
-use Rattle.mm_cells.specs.Map.{Map, use_at, mark_at, room_at, IsSame, SetsMark}
+use Rattle.mm_cells.specs.Map.{Map, use_at, mark_at, room_at, HasPlainMarks, IsSame, SetsMark}
 use Rattle.mm_cells.specs.Cells.{with_cell}
 use Rattle.mm_cells.specs.Kept.{class_size, cells_in, taken_as, taken_in, runs_of, cells_of, KeepsCells}
 use Rattle.mm_cells.specs.Indexes.{MarksCell, in_class, in_whole}
@@ -102,6 +102,7 @@ pub record IsAlike (a b : Map) : Type 0 where
   pub rooms : b.rooms ≡ a.rooms
   pub free_now : (page cell : ℕ) → cell < 256 → mark_at a page cell ≡ marks.Free → mark_at b page cell ≡ marks.Free
   pub free_before : (page cell : ℕ) → cell < 256 → mark_at b page cell ≡ marks.Free → mark_at a page cell ≡ marks.Free
+  pub plain : (page : ℕ) → HasPlainMarks a page → HasPlainMarks b page
 
 same-room : (a b : Map) → IsAlike a b → (class page : ℕ) → room_at b class page ≡ room_at a class page
 same-room a b alike class page =
@@ -144,6 +145,7 @@ KeepsCells-alike a b alike kept =
             first = uses (page - distance) ∙ known.first;
             within = known.within;
           };
+      plain = λ page class used. alike.plain page (kept.plain page class (sym (uses page) ∙ used));
       rooms = λ class page low within.
           let known = kept.rooms class page low (omega arith) in
           let most : cells_in class ≤ 256 = cells_in-most class low in (
@@ -186,6 +188,7 @@ KeepsCells-marked a b page number mark kept sets low before now =
       same = sets.same;
       uses = sets.uses;
       rooms = sets.rooms;
+      plain = sets.plain;
       free_now = λ p c l free. same p c l (taken_before p c free) ∙ free;
       free_before = λ p c l free. sym (same p c l (taken_now p c free)) ∙ free;
     }) kept

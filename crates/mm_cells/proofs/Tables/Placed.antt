@@ -7,7 +7,7 @@ use Rattle.mm_model.specs.SizeClass.{class_sizes}
 use Rattle.mm_cells.specs.declared.page_use.PageUse.TheVariants.{Unused, Class}
 use Rattle.mm_cells.specs.declared.marks.Mark.{Mark}
 use Rattle.mm_cells.specs.declared.marks.Mark.TheVariants as marks
-use Rattle.mm_cells.specs.Map.{Map, use_at, mark_at, room_at, SetsUse, SetsMark, FreesPage, SetsRoom}
+use Rattle.mm_cells.specs.Map.{Map, use_at, mark_at, room_at, HasPlainMarks, SetsUse, SetsMark, FreesPage, SetsRoom}
 use Rattle.mm_cells.specs.Cells.{with_cell, with_run}
 use Rattle.mm_cells.specs.Indexes.{in_class}
 use Rattle.mm_cells.specs.Kept.{class_size, cells_in, taken_as, cells_of, KeepsCells, HasTaken, HasFree}
@@ -16,7 +16,7 @@ use Rattle.mm_cells.specs.Spans.{SetsUses, AreUnused}
 use Rattle.mm_cells.proofs.Sizes.ClassSizes.{cells_in-most}
 use Rattle.mm_cells.proofs.Tables.Blocks.{AgreesOff, AgreesOff-mark, AgreesOff-free, AgreesOff-use, AgreesOff-room}
 use Rattle.mm_cells.proofs.Tables.Blocks.{AgreesOff-uses, AgreesOff-trans, AgreesOff-first, use_at-same, mark_at-same}
-use Rattle.mm_cells.proofs.Tables.Blocks.{room_at-same}
+use Rattle.mm_cells.proofs.Tables.Blocks.{room_at-same, plain-same}
 use Rattle.mm_cells.proofs.Tables.KeptBlocks.{KeepsCells-block, IsClosed-class, IsClosed-unused, KeepsPages-class}
 use Rattle.mm_cells.proofs.Tables.KeptBlocks.{KeepsPages-whole}
 use Rattle.mm_cells.proofs.Tables.KeptBlocks.{no_room-other, only_page}
@@ -62,7 +62,7 @@ KeepsCells-cell a b c page class number mark has_room kept known used within off
       cell = taken.cell;
       within = taken.within;
       taken = λ free. taken.taken (sym (mark_at-same b c page taken.cell room.marks) ∙ free);
-    }) (
+    }) (agrees.plain page (kept.plain page class used)) (
       (λ has.
           let before = free.0 (sym room.here ∙ has) in
           record {
@@ -97,6 +97,7 @@ pub record FillsPage (a b : Map) (page class : ℕ) (mark : Mark) : Type 0 where
   pub used : use_at b page ≡ Class class
   pub marked : mark_at b page 0 ≡ mark
   pub free : (cell : ℕ) → cell < 256 → cell ≢ 0 → mark_at b page cell ≡ marks.Free
+  pub plain : HasPlainMarks b page
   pub room : room_at b class page ≡ true
   pub others : (other : ℕ) → other < 19 → other ≢ class → room_at b other page ≡ room_at a other page
 
@@ -112,6 +113,7 @@ FillsPage-steps a b c d e page class mark within freed used marked room = record
   free = λ cell low apart.
       mark_at-same d e page cell room.marks ∙ marked.other_cells cell low apart ∙ mark_at-same b c page cell used.marks
       ∙ freed.here cell low;
+  plain = plain-same d e page room.marks (marked.plain page (plain-same b c page used.marks freed.here_plain));
   room = room.here;
   others = λ other low apart.
       room.others other page low (omega (arith, marked.same.pages, used.same.pages, freed.same.pages)) (inl apart)
@@ -129,7 +131,7 @@ KeepsCells-fresh a b page class mark kept known off_zero within unused taken f =
     λ other from to. ap (use_at a) (only_page page other (record { from = from; to = to })) ∙ unused in
     KeepsCells-block a b page 1 kept f.agrees (IsClosed-unused a page 1 kept unused_all) off_zero (omega arith)
     (KeepsPages-class b page class known f.used
-    (record { cell = 0; within = omega arith; taken = λ free. taken (sym f.marked ∙ free) }) (
+    (record { cell = 0; within = omega arith; taken = λ free. taken (sym f.marked ∙ free) }) f.plain (
       (λ has. record { cell = 1; within = omega arith; free = f.free 1 (omega arith) (λ e. omega arith) }),
       (λ has. f.room),
     )

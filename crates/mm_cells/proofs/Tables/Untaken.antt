@@ -23,6 +23,9 @@ KeepsCells-untouched location pages m two most none = record {
   classes = λ page class used.
       let other : Unused ≡ Class class = sym (none.unused page) ∙ used in
       absurd (cc);
+  plain = λ page class used.
+      let other : Unused ≡ Class class = sym (none.unused page) ∙ used in
+      absurd (cc);
   wholes = λ page count used.
       let other : Unused ≡ First count = sym (none.unused page) ∙ used in
       absurd (cc);

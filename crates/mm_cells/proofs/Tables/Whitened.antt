@@ -40,6 +40,7 @@ KeepsCells-whitened a b page words kept w =
       same = w.same;
       uses = w.uses;
       rooms = w.rooms;
+      plain = w.plain;
       free_now = λ p cell low free. elim (cases_eq p page) [
         | inr apart ↦ w.other_pages p cell apart low ∙ free
         | inl e ↦

@@ -1,12 +1,12 @@
 -- Another cell lies in another word, or at another place of the same word.
 use Rattle.std.proofs.Common.{◌≡◌, ◌+◌, ◌*◌, ◌/◌, ◌%◌, ℕ, get_or, ap, sym, ◌∙◌, arith}
 use Rattle.mm_cells.specs.Marks.{mark_in}
-use Rattle.mm_cells.proofs.Bits.Pages.{mark_of_cell-others, mark_of_cell-word, mark_of_cell-beside}
+use Rattle.mm_cells.proofs.Bits.Pages.{code_of_cell-others, mark_of_cell-word, mark_of_cell-beside}
 use Rattle.mm_cells.proofs.marks.free_cell.Goals as goal
 
 pub returns-clause-others : goal.returns-clause-others
 returns-clause-others c =
-    mark_of_cell-others c.args.table.now c.args.cell c.with_mark-freed.result c.requires
+    code_of_cell-others c.args.table.now c.args.cell c.with_mark-freed.result c.requires
     c.with_mark-freed.ensures.others
 
 pub returns-clause-had_free : goal.returns-clause-had_free

@@ -29,4 +29,4 @@ returns-clause-given c = λ flags is.
 pub returns-clause-others : goal.returns-clause-others
 returns-clause-others c = λ p within other.
     let r = grayed c.args.word c.args.place c.requires.white.0 c.requires.white.1 c.requires.place in
-    ap mark_of (r.others p other)
+    r.others p other

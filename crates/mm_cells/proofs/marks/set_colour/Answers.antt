@@ -2,7 +2,7 @@
 use Rattle.std.proofs.Common.{◌/◌, ◌%◌, ap, ◌∙◌}
 use Rattle.std.proofs.lemmas.List.{get_or-set_same}
 use Rattle.mm_cells.specs.Marks.{mark_in}
-use Rattle.mm_cells.proofs.Bits.Pages.{mark_of_cell-others}
+use Rattle.mm_cells.proofs.Bits.Pages.{code_of_cell-others}
 use Rattle.mm_cells.proofs.marks.set_colour.Goals as goal
 
 pub returns-clause-given : goal.returns-clause-given
@@ -13,4 +13,4 @@ returns-clause-given c = λ its flags is.
 
 pub returns-clause-others : goal.returns-clause-others
 returns-clause-others c =
-    mark_of_cell-others c.args.table.now c.args.cell c.with_colour.result c.requires c.with_colour.ensures.others
+    code_of_cell-others c.args.table.now c.args.cell c.with_colour.result c.requires c.with_colour.ensures.others

@@ -39,4 +39,4 @@ pub returns-clause-others : goal.returns-clause-others
 returns-clause-others c = λ p within other.
     let r = recoloured c.args.word c.args.place c.colour_code.result (omega (arith, c.colour_code.ensures.small))
     c.requires in
-    ap mark_of (r.others p other)
+    r.others p other

@@ -40,4 +40,4 @@ pub returns-clause-others : goal.returns-clause-others
 returns-clause-others c = λ p within other.
     let r = replaced c.args.word c.args.place c.code_at.result c.encode.result c.code_at.ensures.value
     c.encode.ensures.small c.requires.place in
-    ap mark_of (r.others p other)
+    r.others p other

@@ -26,13 +26,13 @@ note_full-requires-clause-passed c = λ cell below free.
     c.in-Some.ensures in
     let small : cell < 256 =
     omega (arith, lowest.within, c.cells_per_page-cells.ensures, cells_in-most c.args.class c.requires.class) in
-    lowest.lowest cell below (sym (c.set_mark.ensures.other_cells cell small (omega arith)) ∙ free)
+    lowest.lowest cell below (sym (c.set_mark.ensures.set.other_cells cell small (omega arith)) ∙ free)
 
 -- the page had room
 pub note_full-requires-clause-had : goal.note_full-requires-clause-had
 note_full-requires-clause-had c =
-    room_at-same c.args.table.now c.set_mark.new.self c.args.class c.args.page c.set_mark.ensures.same.pages
-    c.set_mark.ensures.rooms
+    room_at-same c.args.table.now c.set_mark.new.self c.args.class c.args.page c.set_mark.ensures.set.same.pages
+    c.set_mark.ensures.set.rooms
     ∙ true_from_ne_false (room_at c.args.table.now c.args.class c.args.page) c.requires.lowest.has_room
 
 pub set_mark-requires-clause-cell : goal.set_mark-requires-clause-cell
@@ -62,7 +62,7 @@ returns-clause-taken c =
     cells_of-cell a c.set_mark.new.self c.note_full.new.table c.args.page c.args.class c.in-Some.cell base
     c.new_mark.result c.note_full.ensures.0 c.requires.kept c.requires.class used.0 c.requires.lowest.within
     free.within (ap (λ (n : ℕ). 4096 * c.args.page + c.in-Some.cell * n) c.extent_of.ensures.value)
-    c.set_mark.ensures c.note_full.ensures.1
+    c.set_mark.ensures.set c.note_full.ensures.1
     ∙ ap (λ (mark : Mark). with_cell (cells_of a) base (taken_as (class_size c.args.class) mark)) c.new_mark.ensures
 
 pub returns-clause-kept : goal.returns-clause-kept
@@ -74,11 +74,11 @@ returns-clause-kept c =
     let used = IsLowestRoom-class a c.args.class c.args.page c.requires.kept c.requires.class c.requires.lowest in
     let place = class-within a c.args.page c.args.class c.requires.kept used.0 in
     KeepsCells-cell a c.set_mark.new.self c.note_full.new.table c.args.page c.args.class c.in-Some.cell
-    c.new_mark.result c.note_full.ensures.0 c.requires.kept c.requires.class used.0 place.1 place.0 c.set_mark.ensures
+    c.new_mark.result c.note_full.ensures.0 c.requires.kept c.requires.class used.0 place.1 place.0 c.set_mark.ensures.set
     (record {
       cell = c.in-Some.cell;
       within = free.within;
-      taken = λ is. absurd (let e = sym c.new_mark.ensures ∙ sym c.set_mark.ensures.here ∙ is in cc);
+      taken = λ is. absurd (let e = sym c.new_mark.ensures ∙ sym c.set_mark.ensures.set.here ∙ is in cc);
     }) c.note_full.ensures.1 c.note_full.ensures.2
 
 pub returns-clause-here : goal.returns-clause-here

@@ -11,7 +11,7 @@ returns-clause-taken c =
     let a : Map = c.args.table.now in
     let fills : FillsPage a c.set_room.new.self c.args.page c.args.class c.new_mark.result =
     FillsPage-steps a c.free_page.new.self c.set_use.new.self c.set_mark.new.self c.set_room.new.self c.args.page
-    c.args.class c.new_mark.result c.requires.within c.free_page.ensures c.set_use.ensures c.set_mark.ensures
+    c.args.class c.new_mark.result c.requires.within c.free_page.ensures c.set_use.ensures c.set_mark.ensures.set
     c.set_room.ensures in
     cells_of-fresh_page a c.set_room.new.self c.args.page c.args.class c.new_mark.result c.requires.kept
     c.requires.class c.requires.within c.requires.unused fills
@@ -27,5 +27,5 @@ returns-clause-kept c =
     c.requires.off_zero c.requires.within c.requires.unused
     (λ free. absurd (let e = sym c.new_mark.ensures ∙ free in cc))
     (FillsPage-steps a c.free_page.new.self c.set_use.new.self c.set_mark.new.self c.set_room.new.self c.args.page
-    c.args.class c.new_mark.result c.requires.within c.free_page.ensures c.set_use.ensures c.set_mark.ensures
+    c.args.class c.new_mark.result c.requires.within c.free_page.ensures c.set_use.ensures c.set_mark.ensures.set
     c.set_room.ensures)

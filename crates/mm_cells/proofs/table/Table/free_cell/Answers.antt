@@ -1,8 +1,8 @@
 -- The part that was written has the marks alone.
 use Rattle.std.proofs.Common.{◌≡◌, ◌+◌, ◌-◌, ◌*◌, ℕ, List, ap, sym, ◌∙◌, arith}
 use Rattle.mm_cells.specs.declared.marks.Mark.TheVariants.{Free}
-use Rattle.mm_cells.specs.Marks.{mark_of_cell}
-use Rattle.mm_cells.proofs.Tables.Maps.{marks_lent, mark_at-with_marks, SetsMark-with_marks}
+use Rattle.mm_cells.specs.Marks.{code_of_cell, mark_of_cell}
+use Rattle.mm_cells.proofs.Tables.Maps.{marks_lent, mark_at-with_marks, code_at-with_marks, SetsMark-with_marks, plain-code}
 use Rattle.mm_cells.proofs.table.Table.free_cell.Goals as goal
 
 pub returns-clause-free : goal.returns-clause-free
@@ -12,7 +12,16 @@ returns-clause-free c =
     rw (c.marks_part-part.ensures.start, ← c.self.view_is) (SetsMark-with_marks c.self.inside.words c.self.inside.pages
     c.args.page c.args.cell Free c.part_mut.result.now c.free_cell.new.table c.self.invariant lent
     c.free_cell.auto.table (omega (arith, c.requires.cell, c.requires.cells)) c.free_cell.ensures.given
-    c.free_cell.ensures.others)
+    (plain-code (code_of_cell c.free_cell.new.table (256 * c.args.page + c.args.cell)) Free
+    c.free_cell.ensures.given c.free_cell.ensures.code) c.free_cell.ensures.others)
+
+pub returns-clause-code : goal.returns-clause-code
+returns-clause-code c =
+    let lent = marks_lent c.self.inside.words c.self.inside.pages c.part_mut.result.now c.self.invariant
+    c.marks_part-part.ensures.start c.marks_part-part.ensures.len c.part_mut.ensures.value in
+    rw c.marks_part-part.ensures.start (code_at-with_marks c.self.inside.words c.self.inside.pages c.args.page
+    c.args.cell c.part_mut.result.now c.free_cell.new.table c.self.invariant lent c.free_cell.auto.table
+    ∙ c.free_cell.ensures.code)
 
 pub returns-clause-had_free : goal.returns-clause-had_free
 returns-clause-had_free c =

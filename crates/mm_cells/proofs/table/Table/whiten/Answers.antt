@@ -9,4 +9,5 @@ returns c =
     c.marks_part-part.ensures.start c.marks_part-part.ensures.len c.part_mut.ensures.value in
     rw (c.marks_part-part.ensures.start, ← c.self.view_is) (WhitensPage-with_marks c.self.inside.words
     c.self.inside.pages c.args.page c.args.words c.part_mut.result.now c.whiten.new.table c.self.invariant lent
-    c.whiten.auto.table c.requires.words c.whiten.ensures.white c.whiten.ensures.others)
+    c.whiten.auto.table c.requires.words c.whiten.ensures.white c.whiten.ensures.plain
+    c.whiten.ensures.others)
