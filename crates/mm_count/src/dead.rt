@@ -1,5 +1,5 @@
 // Counts of what dead objects name.
-ghost use Rattle.std.specs.Prelude.{◌≡◌, ◌≢◌, ◌≤◌, ◌+◌, ◌*◌, ◌∷◌, [], ℕ, List, false, length, slice_index};
+ghost use Rattle.std.specs.Prelude.{◌≡◌, ◌≢◌, ◌≤◌, ◌+◌, ◌*◌, ◌∷◌, [], ℕ, List, false, length, slice_index, take};
 ghost use Rattle.mm_model.specs.Phase.{lists};
 ghost use Rattle.mm_model.specs.ByBase.{Begins};
 ghost use Rattle.mm_model.specs.ObjectView.{counted_words_of};
@@ -30,6 +30,7 @@ impl ZeroTable {
         ensures lowered { (object : StoredObject) → Begins heap.old.objects base object
             → AreLowered heap.old heap.new (slice_index object.words s ∷ []) }
         ensures table { IsSameTable self.old self.new }
+        ensures front { take (length self.old.entries) self.new.entries ≡ self.old.entries }
         ensures right { IsRight self.new heap.new }
         ensures sound { IsSound heap.new }
         ensures cost { steps.new ≤ steps.old + 9 }
@@ -42,7 +43,7 @@ impl ZeroTable {
     }
 
     /// One place fewer holds what each counted slot of an object names, which is about to be freed. The slots keep
-    /// their words.
+    /// their words. What enters the table stands behind the entries that were there.
     pub fn lower_slots<L: Ledger>(&mut self, heap: &mut Heap, base: u32, steps: &mut Steps<L>)
         requires object { IsObject heap.old base }
         requires right { IsRight self.old heap.old }
@@ -56,6 +57,7 @@ impl ZeroTable {
         ensures views { views_of heap.new.objects ≡ views_of heap.old.objects }
         ensures pins { KeepsPins heap.old.objects heap.new.objects }
         ensures table { IsSameTable self.old self.new }
+        ensures front { take (length self.old.entries) self.new.entries ≡ self.old.entries }
         ensures listed { (object : StoredObject) → Begins heap.old.objects base object
             → ListsNamed (counted_words_of (view_of_stored object)) heap.old.objects heap.new.objects }
         ensures right { IsRight self.new heap.new }

@@ -1,5 +1,5 @@
 // What no marking has reached is found, and its counts are dropped.
-ghost use Rattle.std.specs.Prelude.{◌≡◌, ◌≤◌, ◌+◌, ◌*◌, ◌-◌, ◌++◌, ◌∷◌, [], ℕ, List, length, take};
+ghost use Rattle.std.specs.Prelude.{◌≡◌, ◌≤◌, ◌+◌, ◌*◌, ◌-◌, ◌++◌, ◌∷◌, [], ℕ, List, length, drop, take};
 ghost use Rattle.mm_model.specs.declared.object.Colour.TheVariants.{White};
 ghost use Rattle.mm_model.specs.ByBase.{based, changed};
 ghost use Rattle.mm_model.specs.GoodView.{HoldTight};
@@ -31,6 +31,7 @@ fn find_white<L: Ledger>(heap: &Heap, dead: &mut Words, steps: &mut Steps<L>) ->
         (take result dead.new.words) }
     ensures within { result ≤ length dead.new.words }
     ensures dead { location_of dead.new ≡ location_of dead.old }
+    ensures behind { drop result dead.new.words ≡ drop result dead.old.words }
     ensures sound { IsSound heap.now }
     ensures cost { steps.new ≤ steps.old + 1 + 2 * result + heap.now.pages }
 {
@@ -152,6 +153,7 @@ pub fn sweep<L: Ledger>(
     ensures objects { KeepsWhitened heap.old.objects heap.new.objects }
     ensures rest { heap.new ≡ record heap.old { objects = heap.new.objects } }
     ensures dead { location_of dead.new ≡ location_of dead.old }
+    ensures behind { drop result dead.new.words ≡ drop result dead.old.words }
     ensures sound { IsSound heap.new }
     ensures cost { IsSweepCost heap.old.pages (length (based (views_of heap.old.objects)))
         (counted_slots_of (views_of heap.old.objects) (take result dead.new.words)) steps.old steps.new }

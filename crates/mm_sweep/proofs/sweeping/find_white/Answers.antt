@@ -1,5 +1,5 @@
-use Rattle.std.proofs.Common.{◌≡◌, ℕ, ◌+◌, ◌*◌, ◌-◌, ◌/◌, ◌<◌, ◌≤◌, List, length, take, sym, ap, subst, ◌∙◌, arith}
-use Rattle.std.proofs.lemmas.List.{take_more_set, length-set}
+use Rattle.std.proofs.Common.{◌≡◌, ℕ, ◌+◌, ◌*◌, ◌-◌, ◌/◌, ◌<◌, ◌≤◌, List, length, drop, take, sym, ap, subst, ◌∙◌, arith}
+use Rattle.std.proofs.lemmas.List.{drop-drop, drop-set-lt, take_more_set, length-set}
 use Rattle.mm_words.specs.Piece.{Piece}
 use Rattle.mm_words.specs.Location.{Location, location_of}
 use Rattle.mm_object.specs.Object.{views_of}
@@ -48,6 +48,12 @@ loop-base-preserved g c =
           ∙ ap (λ (n : ℕ). record { arena = c.loop-base.dead.arena; start = c.loop-base.dead.place; size = n })
           (length-set words k base)
           ∙ inv.dead;
+      behind =
+          ap (λ (ws : List ℕ). drop (k + 1) ws) written
+          ∙ drop-set-lt (k + 1) words k base (omega arith)
+          ∙ sym (drop-drop 1 k words)
+          ∙ ap (λ (ws : List ℕ). drop 1 ws) inv.behind
+          ∙ drop-drop 1 k c.args.dead.now.words;
       few = more;
       from = omega arith;
       cost =

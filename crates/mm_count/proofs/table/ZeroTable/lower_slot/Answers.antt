@@ -3,7 +3,7 @@ use Rattle.mm_count.specs.Table.{IsCountedAt}
 use Rattle.mm_count.specs.Counts.{composite_at, HasReference}
 use Rattle.mm_count.specs.Kept.{AreLowered}
 use Rattle.mm_count.proofs.Lowering.{lowered-zero, totals-lowered}
-use Rattle.mm_count.proofs.Tables.{lowered-table}
+use Rattle.mm_count.proofs.Tables.{lowered-table, lowered-front, front-same}
 use Rattle.mm_count.proofs.table.ZeroTable.lower_slot.Goals as goal
 
 pub returns-then-word-eq0-clause-lowered : goal.returns-then-word-eq0-clause-lowered
@@ -48,4 +48,12 @@ returns-clause-lowered g c = λ object begins.
 pub returns-clause-table : goal.returns-clause-table
 returns-clause-table g c =
     lowered-table c.args.self.now c.lower.new.self
+    (composite_at c.args.heap.now.objects c.counted_word-word.result) c.counted_word-word.result c.lower.ensures.table
+
+pub returns-then-word-eq0-clause-front : goal.returns-then-word-eq0-clause-front
+returns-then-word-eq0-clause-front g c = front-same c.args.self.now.entries
+
+pub returns-clause-front : goal.returns-clause-front
+returns-clause-front g c =
+    lowered-front c.args.self.now c.lower.new.self
     (composite_at c.args.heap.now.objects c.counted_word-word.result) c.counted_word-word.result c.lower.ensures.table

@@ -7,13 +7,14 @@ use Rattle.mm_count.specs.Counts.{NamesCounted, HasReference}
 use Rattle.mm_count.specs.Kept.{AreLowered}
 use Rattle.mm_count.proofs.Lowering.{lowered-none, lowered-then, length-words, words-more, word, slot-now, word-now}
 use Rattle.mm_count.proofs.Lowering.{named-now, reference-now, apart-lowered}
-use Rattle.mm_count.proofs.Tables.{same-table}
+use Rattle.mm_count.proofs.Tables.{same-table, front-same, front-then}
 use Rattle.mm_count.proofs.table.ZeroTable.lower_slots.Goals as goal
 
 pub loop-s-init : goal.loop-s-init
 loop-s-init g c = record {
   lowered = λ object begins. lowered-none c.args.heap.now;
   table = refl;
+  front = front-same c.args.self.now.entries;
   right = c.requires.right;
   sound = c.shape-shape.ensures.sound;
   ticked = omega arith;
@@ -67,6 +68,8 @@ loop-s-preserved g c = record {
       (c.lower_slot.ensures.lowered now k.1));
   table = same-table c.args.self.now c.loop-s.self c.lower_slot.new.self c.loop-s.invariant.table
       c.lower_slot.ensures.table;
+  front = front-then c.args.self.now.entries c.loop-s.self.entries c.lower_slot.new.self.entries
+      c.loop-s.invariant.front c.lower_slot.ensures.front;
   right = c.lower_slot.ensures.right;
   sound = c.lower_slot.ensures.sound;
   ticked = omega arith;
