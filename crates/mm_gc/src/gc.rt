@@ -4,6 +4,9 @@ ghost use Rattle.mm_model.specs.State.{empty_state};
 ghost use Rattle.mm_model.specs.Limits.{IsWithinLimits};
 ghost use Rattle.mm_model.specs.View.{Shows};
 ghost use Rattle.mm_model.specs.ViewWords.{view_region_pages};
+ghost use Rattle.mm_object.specs.Heap.{IsSound};
+ghost use Rattle.mm_roots.specs.Areas.{IsSoundAreas, IsBeside};
+ghost use Rattle.mm_weak.specs.Links.{IsLinked};
 ghost use Rattle.mm_gc.specs.Gc.{view_of_gc, totals_in};
 ghost use Rattle.mm_gc.specs.Inside.{words_for};
 ghost use Rattle.mm_gc.specs.Kept.{KeepsCounts};
@@ -147,21 +150,28 @@ impl Gc {
         }
     }
 
-    /// Its objects, to read.
+    /// Its objects, to read: also with the calls of weak objects.
     pub fn heap(&self) -> &Heap
-        ensures { result.now ≡ self.now.region.heap }
+        ensures value { result.now ≡ self.now.region.heap }
+        ensures sound { IsSound result.now }
+        ensures linked { IsLinked result.now }
     {
         &self.region.heap
     }
 
+    /// Its stack of words, to read.
     pub fn stack(&self) -> &Stack
-        ensures { result.now ≡ self.now.stack }
+        ensures value { result.now ≡ self.now.stack }
+        ensures limit { result.now.limit ≡ self.now.settings.stack }
     {
         &self.stack
     }
 
+    /// Its areas, to read. Their cells are words of what `heap` lends.
     pub fn areas(&self) -> &Areas
-        ensures { result.now ≡ self.now.region.areas }
+        ensures value { result.now ≡ self.now.region.areas }
+        ensures sound { IsSoundAreas result.now }
+        ensures beside { IsBeside result.now self.now.region.heap }
     {
         &self.region.areas
     }
@@ -174,9 +184,12 @@ impl Gc {
         self.threshold
     }
 
-    /// How many pages the region has: at least those of the settings, and as many as its objects and areas need.
+    /// How many pages the region has: at least those of the settings, and as many as its objects and areas need. No more
+    /// words are cut for its memory, and no other page is handed out.
     pub fn pages(&self) -> u32
-        ensures { result ≡ view_region_pages (view_of_gc self.now) }
+        ensures value { result ≡ view_region_pages (view_of_gc self.now) }
+        ensures memory { self.now.region.heap.memory.size ≡ 1024 * result }
+        ensures limit { self.now.region.pages.limit ≡ result }
     {
         self.region.heap.size()
     }
