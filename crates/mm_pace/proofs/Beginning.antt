@@ -10,8 +10,8 @@ use Rattle.mm_model.specs.declared.line.Phase.TheVariants.{Reap}
 use Rattle.mm_model.specs.State.{State}
 use Rattle.mm_model.specs.Effect.{Effect}
 use Rattle.mm_model.specs.Refusing.{refusal, first_refusal}
-use Rattle.mm_model.specs.Step.{Ends, Refused_as_full, Below_threshold, At_threshold, IsCarriedOut, IsStepUnless, IsStep}
-use Rattle.mm_model.specs.Step.{is_full}
+use Rattle.mm_model.specs.Step.{Ends, Refused_as_full, Below_threshold, At_threshold, IsCarriedOut, IsStepUnless}
+use Rattle.mm_model.specs.Step.{IsStep, is_full}
 use Rattle.mm_model.specs.Turns.{reply_in}
 use Rattle.mm_model.proofs.Steps.Groups.{over-phase}
 use Rattle.mm_model.proofs.Cycle.ContinuedSteps.{ends_is_end}

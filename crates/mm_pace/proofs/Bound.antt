@@ -55,7 +55,8 @@ module _ (settings : Settings) (rate : ℕ) (turns : List Turn) (a : State)
   -- after rule two a cycle runs only where its end isn't due
   pub in_time-finish : (more : List Turn) (b : State) → AreSteps a more b
       → commands_in more ≡ list_of (due_finish rate turns) → IsInTime rate (turns ++ more) b
-  in_time-finish more b added are = split (runs_after turns) (nat_le (16 * work_begun turns) (rate * since turns)) refl refl
+  in_time-finish more b added are =
+      split (runs_after turns) (nat_le (16 * work_begun turns) (rate * since turns)) refl refl
       are
     where
       split : (runs reached : Bool) → runs_after turns ≡ runs
@@ -89,7 +90,8 @@ module _ (settings : Settings) (rate : ℕ) (turns : List Turn) (a : State)
       ap (λ c. cond c (not (is_running turn.after)) (is_running turn.after)) was_idle ∙ begun.runs in
       let bears : births_of turn ≡ [] = ap (births_if turn.before turn.command) begun.reply in
       let begins_now : begins turn ≡ true =
-      ap (λ (found : Option Reply). cond (option_map_or is_refusal found false) false (is_begin turn.command)) begun.reply
+      ap (λ (found : Option Reply). cond (option_map_or is_refusal found false) false (is_begin turn.command))
+      begun.reply
       ∙ ap is_begin carries in
       let none : since (turns ++ turn ∷ []) ≡ 0 =
       since-more turns turn ∙ ap (λ c. cond c 0 (since turns) + bytes_in turn) changes
@@ -163,7 +165,8 @@ in_time-own settings rate earlier a b (first ∷ front) stretch later before fit
     let next = steps-cut cut.mid first.added others b cut.second in
     let with_own = steps-join (empty_state settings) earlier own a cut.mid before cut.first in
     let all : earlier ++ own ++ first.added ≡ earlier ++ turns_in first = append_assoc earlier own first.added in
-    let after_all = steps-join (empty_state settings) (earlier ++ own) first.added cut.mid next.mid with_own next.first in
+    let after_all = steps-join (empty_state settings) (earlier ++ own) first.added cut.mid next.mid with_own
+    next.first in
     let fits_after = in_time-added settings rate (earlier ++ own) first.added cut.mid next.mid with_own next.first
     ruled.0 in
     subst (λ ts. rate * since ts < 16 * work_begun ts)

@@ -122,7 +122,8 @@ stretches-same rate earlier a (stretch ∷ stretches) (other ∷ others) command
     let more : List Turn = flat_map turns_in others in
     let here = told-cut a (turns_in stretch) rest told in
     let there = told-cut a (turns_in other) more known in
-    let same = added-same ((λ _. Some stretch.own.command) ∷ rules_at rate) earlier a (turns_in stretch) (turns_in other)
+    let same = added-same ((λ _. Some stretch.own.command) ∷ rules_at rate) earlier a (turns_in stretch)
+    (turns_in other)
     (lines_in rest) (lines_in more) (own-added rate earlier stretch stretch.own.command refl p.0)
     (own-added rate earlier other stretch.own.command carries q.0)
     (sym (flat_map-append (λ (t : Turn). t.group) (turns_in stretch) rest) ∙ lines

@@ -19,7 +19,8 @@ site_number word =
 abbrev pub site_mark : List ℕ
 site_mark = codes "#site "
 
--- The site that a line names: it is the bytes `#site `, then the site's number, and nothing more. No other line names one.
+-- The site that a line names: it is the bytes `#site `, then the site's number, and nothing more. No other line names
+-- one.
 abbrev pub site_line : List ℕ → Option ℕ
 site_line line = if starts_with nat_eq line site_mark then site_number (drop (length site_mark) line) else None
 

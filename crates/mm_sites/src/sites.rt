@@ -1,6 +1,6 @@
 // The sites of objects by base, with a running total for each site.
-ghost use Rattle.std.specs.Prelude.{◌≡◌, ℕ, ◌*◌, ◌%◌, ◌<◌, ◌≤◌, ◌↔◌, true, false, length, replicate, Some, None, IsTrue};
-ghost use Rattle.std.specs.Prelude.{IfOk};
+ghost use Rattle.std.specs.Prelude.{◌≡◌, ℕ, ◌*◌, ◌%◌, ◌<◌, ◌≤◌, ◌↔◌, true, false, length, replicate, Some, None};
+ghost use Rattle.std.specs.Prelude.{IsTrue, IfOk};
 ghost use Rattle.std.specs.Bool.{OnTrue, OnFalse};
 ghost use Rattle.mm_model.specs.ByBase.{with_entry};
 ghost use Rattle.mm_sites.specs.Entries.{HasEntry, total_of};
