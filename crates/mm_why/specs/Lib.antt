@@ -1,4 +1,5 @@
 pub mod Path
 pub mod Queue
 pub mod Search
+pub mod Trials
 pub mod Why

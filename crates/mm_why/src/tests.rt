@@ -1,8 +1,8 @@
 // Searches over objects at places worked out by hand.
-ghost use Rattle.std.specs.Prelude.{◌≡◌, ◌+◌, ◌<◌, ◌≤◌, ℕ, true, slice_index};
+ghost use Rattle.std.specs.Prelude.{◌≡◌, ◌+◌, ◌<◌, ◌≤◌, true, IfOk};
+ghost use Rattle.mm_pages.specs.Parked.{AreParked};
 ghost use Rattle.mm_object.specs.Heap.{FitsHeap, IsObject, HasSlot};
-ghost use Rattle.mm_fixed.specs.Fixed.{HasNoBlock};
-ghost use Rattle.mm_roots.specs.Areas.{HasNoArea};
+ghost use Rattle.mm_why.specs.Trials.{IsKept, IsFresh};
 
 use crate::{Hop, Via, Why};
 use mm_cells::{Cells, cells_words};
@@ -19,7 +19,7 @@ use std::process::Abort;
 use std::sync::ledger::{Blank, Ledger};
 use std::test::Fail;
 
-// A heap of three pages of objects, no areas, a stack of up to four words and a search, on an arena of their own.
+// A heap of three pages of objects and areas, a stack of up to four words and a search, on an arena of their own.
 struct Trial {
     arena: Arena,
     pages: PageHeap,
@@ -29,9 +29,7 @@ struct Trial {
     why: Why,
     ghost fits: { FitsHeap heap pages },
     ghost few: { heap.size ≤ why.pages },
-    ghost no_area: { HasNoArea areas },
-    ghost no_block: { HasNoBlock areas.fixed },
-    ghost no_run: { (page : ℕ) → slice_index areas.fixed.runs page ≡ 0 },
+    ghost parked: { AreParked areas.fixed.runs pages },
     ghost pages_own: { pages.table.arena ≡ arena.name },
     ghost cells_own: { heap.table.arena ≡ arena.name },
     ghost memory_own: { heap.memory.arena ≡ arena.name },
@@ -43,7 +41,9 @@ struct Trial {
 }
 
 impl Trial {
-    fn open(alloc: Global) -> Result<Trial, AllocError> {
+    fn open(alloc: Global) -> Result<Trial, AllocError>
+        ensures { IfOk result (λ trial. IsFresh trial.areas trial.heap) }
+    {
         let why = Why::make(alloc, 4)?;
         let words = table_words(4) + cells_words(4) + fixed_words(4);
         let mut arena = Arena::make(alloc, words + 8196)?;
@@ -63,19 +63,26 @@ impl Trial {
         })
     }
 
-    // An object with so many slots, which are word slots.
+    // An object with so many slots, which are word slots, before there are areas.
     fn create<L: Ledger>(&mut self, slots: u32, steps: &mut Steps<L>) -> Option<u32>
-        requires { slots ≤ 1000 }
+        requires few { slots ≤ 1000 }
+        requires fresh { IsFresh self.old.areas self.old.heap }
+        ensures { IsFresh self.new.areas self.new.heap }
     {
         self.place(Kind::Traced, slots, steps)
     }
 
-    fn create_weak<L: Ledger>(&mut self, steps: &mut Steps<L>) -> Option<u32> {
+    fn create_weak<L: Ledger>(&mut self, steps: &mut Steps<L>) -> Option<u32>
+        requires { IsFresh self.old.areas self.old.heap }
+        ensures { IsFresh self.new.areas self.new.heap }
+    {
         self.place(Kind::Weak, 0, steps)
     }
 
     fn place<L: Ledger>(&mut self, kind: Kind, slots: u32, steps: &mut Steps<L>) -> Option<u32>
-        requires { slots ≤ 1000 }
+        requires few { slots ≤ 1000 }
+        requires fresh { IsFresh self.old.areas self.old.heap }
+        ensures { IsFresh self.new.areas self.new.heap }
     {
         let shape = Shape {
             kind,
@@ -93,7 +100,10 @@ impl Trial {
     }
 
     // A word goes into a slot, if it is there.
-    fn store<L: Ledger>(&mut self, holder: u32, s: u32, word: u32, steps: &mut Steps<L>) -> bool {
+    fn store<L: Ledger>(&mut self, holder: u32, s: u32, word: u32, steps: &mut Steps<L>) -> bool
+        requires { IsKept self.old.areas self.old.heap }
+        ensures { IsKept self.new.areas self.new.heap }
+    {
         let can = has_slot(&self.heap, holder, s, steps);
         if can {
             self.heap.set_slot(holder, s, word, steps);
@@ -102,7 +112,10 @@ impl Trial {
     }
 
     // A weak object's target is noted, if the object is there.
-    fn link<L: Ledger>(&mut self, weak: u32, target: u32, steps: &mut Steps<L>) -> bool {
+    fn link<L: Ledger>(&mut self, weak: u32, target: u32, steps: &mut Steps<L>) -> bool
+        requires { IsKept self.old.areas self.old.heap }
+        ensures { IsKept self.new.areas self.new.heap }
+    {
         let can = is_object(&self.heap, weak, steps);
         if can {
             self.heap.set_link(weak, target, steps);
@@ -110,7 +123,10 @@ impl Trial {
         can
     }
 
-    fn push(&mut self, word: u32) -> bool {
+    fn push(&mut self, word: u32) -> bool
+        requires { IsKept self.old.areas self.old.heap }
+        ensures { IsKept self.new.areas self.new.heap }
+    {
         match self.stack.push(word) {
             Ok(()) => true,
             Err(StackFull) => false,
@@ -118,7 +134,10 @@ impl Trial {
     }
 
     // The length of a shortest path to the object that begins at the base.
-    fn length<L: Ledger>(&mut self, base: u32, steps: &mut Steps<L>) -> Option<u32> {
+    fn length<L: Ledger>(&mut self, base: u32, steps: &mut Steps<L>) -> Option<u32>
+        requires { IsKept self.old.areas self.old.heap }
+        ensures { IsKept self.new.areas self.new.heap }
+    {
         if !is_object(&self.heap, base, steps) {
             return None;
         }
@@ -127,7 +146,10 @@ impl Trial {
     }
 
     // Hop `k` of that path.
-    fn hop<L: Ledger>(&mut self, base: u32, k: u32, steps: &mut Steps<L>) -> Option<Hop> {
+    fn hop<L: Ledger>(&mut self, base: u32, k: u32, steps: &mut Steps<L>) -> Option<Hop>
+        requires { IsKept self.old.areas self.old.heap }
+        ensures { IsKept self.new.areas self.new.heap }
+    {
         if !is_object(&self.heap, base, steps) {
             return None;
         }
@@ -140,25 +162,54 @@ impl Trial {
         }
     }
 
-    // The object that begins at the base goes, if one does.
-    fn erase<L: Ledger>(&mut self, base: u32, steps: &mut Steps<L>) -> bool {
-        let can = is_object(&self.heap, base, steps);
-        if can {
-            self.heap.erase(&mut self.pages, base, steps);
+    // A scanned area of so many word cells.
+    fn add<L: Ledger>(&mut self, cells: u32, steps: &mut Steps<L>) -> Option<u32>
+        requires some { 1 ≤ cells }
+        requires few { cells ≤ 1000 }
+        requires kept { IsKept self.old.areas self.old.heap }
+        ensures { IsKept self.new.areas self.new.heap }
+    {
+        match self
+            .areas
+            .add(&mut self.heap, &mut self.pages, true, 0, cells, steps)
+        {
+            Ok(answer) => Some(answer.base),
+            Err(_) => None,
         }
-        can
     }
 
-    // All objects must have been taken away.
-    fn close<L: Ledger>(self, rt: &impl Abort, steps: &mut Steps<L>) {
+    fn set_cell<L: Ledger>(&mut self, a: u32, s: u32, word: u32, steps: &mut Steps<L>) -> bool
+        requires { IsKept self.old.areas self.old.heap }
+        ensures { IsKept self.new.areas self.new.heap }
+    {
+        self.areas
+            .set_cell(&mut self.heap, a, s, word, steps)
+            .is_ok()
+    }
+
+    fn remove<L: Ledger>(&mut self, a: u32, steps: &mut Steps<L>) -> bool
+        requires { IsKept self.old.areas self.old.heap }
+        ensures { IsKept self.new.areas self.new.heap }
+    {
+        self.areas.remove(&mut self.pages, a, steps).is_ok()
+    }
+
+    // All areas must have been removed, and the objects at the bases be all.
+    fn close<L: Ledger>(self, rt: &impl Abort, bases: &[u32], steps: &mut Steps<L>)
+        requires { IsKept self.areas self.heap }
+    {
         let Trial {
             mut arena,
-            pages,
-            heap,
+            mut pages,
+            mut heap,
             areas,
             stack,
             why: _,
         } = self;
+        if areas.live() != 0 {
+            rt.abort();
+        }
+        erase_all(&mut heap, &mut pages, bases, steps);
         if pages.top() != 1 {
             rt.abort();
         }
@@ -175,6 +226,21 @@ impl Trial {
                 arena.take_back(pages.close());
                 arena.close();
             }
+        }
+    }
+}
+
+// The objects go that begin at the bases.
+fn erase_all<L: Ledger>(heap: &mut Heap, pages: &mut PageHeap, bases: &[u32], steps: &mut Steps<L>)
+    requires { FitsHeap heap.old pages.old }
+    ensures fits { FitsHeap heap.new pages.new }
+    ensures table { heap.new.table ≡ heap.old.table }
+    ensures memory { heap.new.memory ≡ heap.old.memory }
+    ensures pages { pages.new.table ≡ pages.old.table }
+{
+    for i in 0..bases.len() {
+        if is_object(heap, bases[i], steps) {
+            heap.erase(pages, bases[i], steps);
         }
     }
 }
@@ -233,10 +299,7 @@ fn work_chain<L: Ledger, R: Abort>(rt: &R, alloc: Global, blank: Blank) -> Resul
     assert!(rt; trial.push(4191));
     assert_eq!(rt; trial.length(4160, &mut steps), Some(1));
     assert_eq!(rt; trial.hop(4160, 0, &mut steps), on_stack(0, 4160));
-    assert!(rt; trial.erase(4096, &mut steps));
-    assert!(rt; trial.erase(4128, &mut steps));
-    assert!(rt; trial.erase(4160, &mut steps));
-    trial.close(rt, &mut steps);
+    trial.close(rt, &[4096, 4128, 4160], &mut steps);
     Ok(())
 }
 
@@ -263,10 +326,7 @@ fn work_ring<L: Ledger, R: Abort>(rt: &R, alloc: Global, blank: Blank) -> Result
     assert_eq!(rt; trial.length(4128, &mut steps), Some(3));
     assert_eq!(rt; trial.hop(4128, 1, &mut steps), in_slot(1, 4096));
     assert_eq!(rt; trial.hop(4128, 2, &mut steps), in_slot(0, 4128));
-    assert!(rt; trial.erase(4096, &mut steps));
-    assert!(rt; trial.erase(4128, &mut steps));
-    assert!(rt; trial.erase(4160, &mut steps));
-    trial.close(rt, &mut steps);
+    trial.close(rt, &[4096, 4128, 4160], &mut steps);
     Ok(())
 }
 
@@ -289,13 +349,48 @@ fn work_weak<L: Ledger, R: Abort>(rt: &R, alloc: Global, blank: Blank) -> Result
     assert_eq!(rt; trial.length(8192, &mut steps), Some(1));
     assert_eq!(rt; trial.length(4096, &mut steps), None);
     assert_eq!(rt; trial.hop(4096, 0, &mut steps), None);
-    assert!(rt; trial.erase(4096, &mut steps));
-    assert!(rt; trial.erase(8192, &mut steps));
-    trial.close(rt, &mut steps);
+    trial.close(rt, &[4096, 8192], &mut steps);
     Ok(())
 }
 
 #[test]
 fn no_path_goes_through_a_weak_object(rt: HostRuntime) -> Result<(), Fail> {
     work_weak::<Brand, HostRuntime>(&rt, rt.alloc(), Blank::new(1))
+}
+
+fn in_area(cell: u32, base: u32) -> Option<Hop> {
+    Some(Hop {
+        via: Via::Area { area: 0, cell },
+        base,
+    })
+}
+
+fn work_area<L: Ledger, R: Abort>(rt: &R, alloc: Global, blank: Blank) -> Result<(), Fail>
+    requires name { blank.name ≡ L.name }
+    requires parts { blank.parts ≡ L.parts }
+    requires shared { 0 < L.parts }
+{
+    let mut steps: Steps<L> = Steps::open(blank);
+    let mut trial = Trial::open(alloc)?;
+    assert_eq!(rt; trial.create(4, &mut steps), Some(4096));
+    assert_eq!(rt; trial.create(4, &mut steps), Some(4128));
+    assert!(rt; trial.store(4096, 2, 4128, &mut steps));
+    assert_eq!(rt; trial.add(2, &mut steps), Some(8192));
+    assert!(rt; trial.set_cell(0, 1, 4100, &mut steps));
+    assert_eq!(rt; trial.length(4128, &mut steps), Some(2));
+    assert_eq!(rt; trial.hop(4128, 0, &mut steps), in_area(1, 4096));
+    assert_eq!(rt; trial.hop(4128, 1, &mut steps), in_slot(2, 4128));
+    assert!(rt; trial.push(4130));
+    assert_eq!(rt; trial.length(4128, &mut steps), Some(1));
+    assert_eq!(rt; trial.hop(4128, 0, &mut steps), on_stack(0, 4128));
+    assert!(rt; trial.remove(0, &mut steps));
+    trial.close(rt, &[4096, 4128], &mut steps);
+    Ok(())
+}
+
+#[test]
+fn a_path_goes_over_an_area_and_a_word_of_the_stack_is_shorter(
+    rt: HostRuntime,
+) -> Result<(), Fail> {
+    work_area::<Brand, HostRuntime>(&rt, rt.alloc(), Blank::new(1))
 }

@@ -3,6 +3,7 @@ use Rattle.std.proofs.Common.{ℕ, List, sym, ap, subst, ◌∙◌, arith}
 use Rattle.mm_words.specs.Location.{Location}
 use Rattle.mm_pages.specs.Parked.{AreParked}
 use Rattle.mm_object.specs.Heap.{Heap}
+use Rattle.mm_roots.specs.Areas.{ShareNoPage}
 use Rattle.mm_why.proofs.tests.Trial.link.Goals as goal
 
 pub invariant_of-self : goal.invariant_of-self
@@ -19,9 +20,7 @@ invariant_of-self g c =
         memory = let size = ap (λ (h : Heap). h.size) now in let most = self.fits.memory in omega (arith, size, most);
       };
       few = let size = ap (λ (h : Heap). h.size) now in let few = self.few in omega (arith, size, few);
-      no_area = self.no_area;
-      no_block = self.no_block;
-      no_run = self.no_run;
+      parked = self.parked;
       pages_own = self.pages_own;
       cells_own = ap (λ (p : Location). p.arena) table ∙ self.cells_own;
       memory_own = ap (λ (p : Location). p.arena) memory ∙ self.memory_own;
@@ -32,4 +31,21 @@ invariant_of-self g c =
           let first = ap (λ (p : Location). p.size) table in
           let second = ap (λ (p : Location). p.size) memory in
           omega (arith, self.owed, first, second);
+    }
+
+pub returns-then-can : goal.returns-then-can
+returns-then-can g c =
+    let there = c.is_object-can.ensures c.if-can.true in
+    let now = c.set_link.ensures.word there.0 there.1 in
+    let runs = ap (λ (h : Heap). h.runs) now in
+    record {
+      beside = record {
+        apart = subst (λ (list : List ℕ). ShareNoPage c.args.self.now.areas.fixed.runs list) (sym runs)
+            c.requires.beside.apart;
+        within = λ page some.
+            let size = ap (λ (h : Heap). h.size) now in
+            let inside = c.requires.beside.within page some in
+            omega arith;
+      };
+      owns = c.requires.owns;
     }

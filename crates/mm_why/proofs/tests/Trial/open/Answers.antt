@@ -10,13 +10,8 @@ use Rattle.mm_object.specs.Heap.{Heap}
 use Rattle.mm_fixed.specs.Fixed.{Fixed, HasNoBlock}
 use Rattle.mm_fixed.proofs.Left.{index-zeros}
 use Rattle.mm_fixed.proofs.Sound.{HasNoBlock-runs}
-use Rattle.mm_roots.specs.Areas.{Areas, area_at}
+use Rattle.mm_roots.specs.Areas.{Areas, OwnsAll, IsBeside}
 use Rattle.mm_why.proofs.tests.Trial.open.Goals as goal
-
-none-at : {X : Type 0} (n i : ℕ) → slice_index_or (replicate {A = Option X} n None) i None ≡ None
-none-at zero i = refl
-none-at (suc n) zero = refl
-none-at (suc n) (suc i) = none-at n i
 
 pub make-requires-5-clause-empty : goal.make-requires-5-clause-empty
 make-requires-5-clause-empty c = c.make-4.ensures.empty
@@ -34,17 +29,35 @@ invariant_of-result-clause-fits c =
       memory = omega (arith, limit, size, words);
     }
 
-pub invariant_of-result-clause-no_area : goal.invariant_of-result-clause-no_area
-invariant_of-result-clause-no_area c = λ number.
-    ap (λ (a : Areas). area_at a number) c.make-7.ensures.value ∙ none-at 1024 number
+no-runs : (areas : Areas) (heap : Heap) → ((page : ℕ) → slice_index areas.fixed.runs page ≡ 0)
+    → IsBeside areas heap
+no-runs areas heap none = record {
+  apart = λ page other some other_some. absurd (omega (arith, some, none page));
+  within = λ page some. absurd (omega (arith, some, none page));
+}
 
-pub invariant_of-result-clause-no_block : goal.invariant_of-result-clause-no_block
-invariant_of-result-clause-no_block c =
-    subst (λ (v : Fixed). HasNoBlock v) (sym (ap (λ (a : Areas). a.fixed) c.make-7.ensures.value))
-    (HasNoBlock-runs c.make-6.result c.make-6.ensures.sound
-    (λ page. ap (λ (v : Fixed). slice_index v.runs page) c.make-6.ensures.value ∙ index-zeros 4 page))
+no-area-owns : (areas : Areas) → HasNoBlock areas.fixed → OwnsAll areas
+no-area-owns areas none base block begins = absurd (none base block begins)
 
-pub invariant_of-result-clause-no_run : goal.invariant_of-result-clause-no_run
-invariant_of-result-clause-no_run c = λ page.
+pub invariant_of-result-clause-parked : goal.invariant_of-result-clause-parked
+invariant_of-result-clause-parked c =
+    let pages = ap (λ (h : Pages). h.pages) c.make-3.ensures.value in
+    subst (λ (v : Fixed). AreParked v.runs c.make-3.result)
+    (sym (ap (λ (a : Areas). a.fixed) c.make-7.ensures.value))
+    (c.make-6.ensures.parked c.make-3.result (omega (arith, pages)))
+
+pub returns : goal.returns
+returns c =
+    let none : (page : ℕ) → slice_index c.make-7.result.fixed.runs page ≡ 0 = λ page.
     ap (λ (a : Areas). slice_index a.fixed.runs page) c.make-7.ensures.value
-    ∙ ap (λ (v : Fixed). slice_index v.runs page) c.make-6.ensures.value ∙ index-zeros 4 page
+    ∙ ap (λ (v : Fixed). slice_index v.runs page) c.make-6.ensures.value ∙ index-zeros 4 page in
+    let block = HasNoBlock-runs c.make-6.result c.make-6.ensures.sound
+    (λ page. ap (λ (v : Fixed). slice_index v.runs page) c.make-6.ensures.value ∙ index-zeros 4 page) in
+    record {
+      kept = record {
+        beside = no-runs c.make-7.result c.make-5.result none;
+        owns = no-area-owns c.make-7.result
+            (subst (λ (v : Fixed). HasNoBlock v) (sym (ap (λ (a : Areas). a.fixed) c.make-7.ensures.value)) block);
+      };
+      none = none;
+    }
