@@ -1,12 +1,11 @@
 -- No area lives, so that no block is out, no cell is taken at 0 or above, and no page above page 0 is used.
-use Rattle.std.proofs.Common.{◌≡◌, ℕ, zero, suc, ◌+◌, ◌-◌, List, [], ◌∷◌, Option, Some, None, refl, sym, ap, subst, ◌∙◌, arith}
+use Rattle.std.proofs.Common.{◌≡◌, ℕ, zero, suc, List, [], ◌∷◌, Option, Some, None, refl, sym, subst, ◌∙◌, arith}
 use Rattle.std.specs.Prelude.{slice_index_or, is_some, if◌then◌else◌}
 use Rattle.std.specs.List.{count_by}
 use Rattle.std.proofs.lemmas.List.Sums.{sum_by-cons}
-use Rattle.mm_model.specs.ByBase.{Begins}
-use Rattle.mm_fixed.specs.Fixed.{Fixed, HasNoBlock}
+use Rattle.mm_fixed.specs.Fixed.{HasNoBlock}
 use Rattle.mm_roots.specs.declared.area_shape.AreaShape.{AreaShape}
-use Rattle.mm_roots.specs.Areas.{Areas, live_areas, OwnsAll, HasNoArea}
+use Rattle.mm_roots.specs.Areas.{Areas, OwnsAll, HasNoArea}
 use Rattle.mm_why.proofs.tests.Trial.close.Goals as goal
 
 none-lives : (areas : List (Option AreaShape)) → count_by is_some areas ≡ 0 → (number : ℕ)

@@ -1,7 +1,7 @@
 -- No run is parked yet, no cell is taken, and no area lives.
-use Rattle.std.proofs.Common.{◌≡◌, ℕ, zero, suc, length, replicate, Option, None}
-use Rattle.std.proofs.Common.{refl, sym, ap, subst, ◌∙◌, arith}
-use Rattle.std.specs.Prelude.{slice_index, slice_index_or}
+use Rattle.std.proofs.Common.{◌≡◌, ℕ, length}
+use Rattle.std.proofs.Common.{sym, ap, subst, ◌∙◌, arith}
+use Rattle.std.specs.Prelude.{slice_index}
 use Rattle.std.proofs.lemmas.List.{length-replicate}
 use Rattle.mm_words.specs.Piece.{Piece}
 use Rattle.mm_pages.specs.Pages.{Pages}
