@@ -1,5 +1,6 @@
 pub mod Completing
 pub mod Ends
+pub mod Examples
 pub mod FrontFaults
 pub mod GeneratedTraces
 pub mod Reading

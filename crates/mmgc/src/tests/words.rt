@@ -1,11 +1,15 @@
 // What words ask for: settings of the heap, and a file.
+ghost use Rattle.std.specs.Prelude.{None};
+
 use super::{Given, check, ended, listed};
 use crate::{Outcome, run};
-use mm_io::{MemSink, StdSource};
+use mm_io::{MemSink, NamedFiles, Source, StdSource};
 use std::alloc::Global;
-use std::fs;
+use std::fs::File;
+use std::io::{Error, ErrorKind};
 use std::process::Abort;
 use std::test::Fail;
+use std::{fs, io};
 
 fn check_words<'a>(
     rt: &impl Abort,
@@ -170,29 +174,56 @@ fn a_named_file_takes_the_place_of_the_input(rt: HostRuntime) -> Result<(), Fail
     check_file(&rt, alloc, &["t"], &[1], 3, b"", b"mmgc: read failed\n")
 }
 
-// The status and the log.
-fn run_over_file(rt: &HostRuntime, name: &str) -> Result<(u8, MemSink), Fail> {
-    let alloc = rt.alloc();
+// The status and the log, and what is said.
+fn run_over_file<S: Source>(
+    alloc: Global,
+    source: &mut S,
+    name: &str,
+) -> Result<(u8, MemSink, MemSink), Fail> {
     let words = listed(alloc, &[name])?;
-    let mut source = StdSource::make(rt.stdin(), *rt);
     let mut out = MemSink::make(alloc, 100, 7, Vec::new(alloc))?;
     let mut err = MemSink::make(alloc, 100, 3, Vec::new(alloc))?;
-    let Outcome { status, heap } = run(alloc, &words, &mut source, &mut out, &mut err);
+    let Outcome { status, heap } = run(alloc, &words, source, &mut out, &mut err);
     if let Some(heap) = heap {
         heap.close();
     }
-    Ok((status, out))
+    Ok((status, out, err))
+}
+
+/// Files for whose opening there is no memory.
+#[derive(Clone, Copy)]
+struct NoMemoryFiles;
+
+impl NamedFiles for NoMemoryFiles {
+    type File = File;
+
+    ghost named = { λ _. None };
+
+    fn open(&self, _name: &str) -> io::Result<File> {
+        Err(Error::from(ErrorKind::OutOfMemory))
+    }
+}
+
+#[test]
+fn want_of_memory_is_said(rt: HostRuntime) -> Result<(), Fail> {
+    let mut source = StdSource::make(rt.stdin(), NoMemoryFiles);
+    let (status, log, said) = run_over_file(rt.alloc(), &mut source, "t")?;
+    assert_eq!(rt; status, 5);
+    assert_eq!(rt; log.taken(), b"".as_slice());
+    assert_eq!(rt; said.taken(), b"mmgc: out of memory\n".as_slice());
+    Ok(())
 }
 
 #[test]
 fn a_file_of_the_host_is_replayed(rt: HostRuntime) -> Result<(), Fail> {
     let name = "a_trace_of_one_object";
+    let mut source = StdSource::make(rt.stdin(), rt);
     fs::write(&rt, name, "new t 0 4\n")?;
-    let (status, log) = run_over_file(&rt, name)?;
+    let (status, log, _) = run_over_file(rt.alloc(), &mut source, name)?;
     assert_eq!(rt; status, 0);
     assert_eq!(rt; log.taken(), b"new 4096\ntotal 1 1 0 1\n".as_slice());
     fs::remove_file(&rt, name)?;
-    let (status, log) = run_over_file(&rt, name)?;
+    let (status, log, _) = run_over_file(rt.alloc(), &mut source, name)?;
     assert_eq!(rt; status, 3);
     assert_eq!(rt; log.taken(), b"".as_slice());
     Ok(())
