@@ -20,7 +20,7 @@ impl Told {
     }
 
     pub fn line(&mut self, line: &Line) {
-        if self.text.remaining_capacity() < 65 {
+        if self.text.remaining_capacity() < 97 {
             return;
         }
         if !self.text.is_empty() {

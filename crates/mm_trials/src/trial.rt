@@ -71,7 +71,7 @@ impl Trial {
         requires shared { 0 < L.parts }
     {
         let totals = self.heap.totals();
-        if totals.commands == u32::MAX || totals.born == u32::MAX {
+        if totals.commands == u64::MAX || totals.born == u64::MAX {
             rt.abort();
         }
         let mut steps: Steps<L> = Steps::open(blank);
@@ -159,7 +159,7 @@ fn letter_of(colour: Colour) -> u8 {
 }
 
 /// A number behind a space, or at the begin.
-fn add_number(text: &mut ArrayVec<u8, 4096>, number: u32) {
+pub(crate) fn add_number(text: &mut ArrayVec<u8, 4096>, number: u32) {
     if !text.is_empty() {
         let _ = text.try_push(b' ');
     }

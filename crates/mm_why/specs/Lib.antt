@@ -1,5 +1,4 @@
 pub mod Path
 pub mod Queue
 pub mod Search
-pub mod Trials
 pub mod Why

@@ -9,8 +9,6 @@ mod laws;
 mod noting;
 mod queue;
 mod roots;
-#[cfg(test)]
-mod tests;
 mod tracing;
 mod why;
 
