@@ -2,7 +2,7 @@
 use Rattle.std.specs.Prelude.{◌≡◌, ◌≢◌, ◌+◌, ◌-◌, ◌*◌, ◌/◌, ◌<◌, ◌≤◌, ℕ, List, length, replicate}
 use Rattle.std.specs.Prelude.{Option, Some, None, slice_get, slice_index, slice_set}
 use Rattle.mm_model.specs.declared.object.Colour.{Colour}
-use Rattle.mm_model.specs.Place.{Piece, Objects}
+use Rattle.mm_model.specs.Places.Place.{Piece, Objects}
 use Rattle.mm_model.specs.Good.{IsInside, AreApart}
 use Rattle.mm_words.specs.Location.{Location}
 use Rattle.mm_cells.specs.declared.marks.CellBits.{CellBits}

@@ -3,7 +3,7 @@ use Rattle.std.specs.Prelude.{◌≡◌, ◌≢◌, ◌+◌, ◌-◌, ◌*◌, �
 use Rattle.std.specs.Prelude.{nat_lt, map, List, Option, Some, None, ⊤}
 use Rattle.std.specs.List.{range_with_len}
 use Rattle.mm_model.specs.declared.object.Size.TheVariants.{Small}
-use Rattle.mm_model.specs.SizeClass.{extent_of_size}
+use Rattle.mm_model.specs.Places.SizeClass.{extent_of_size}
 use Rattle.mm_cells.specs.declared.page_use.PageUse.{PageUse}
 use Rattle.mm_cells.specs.declared.page_use.PageUse.TheVariants.{Unused, Class, First, Later}
 use Rattle.mm_cells.specs.declared.marks.Mark.{Mark}
@@ -90,8 +90,8 @@ pub record IsLater (m : Map) (page distance : ℕ) : Type 0 where
   pub first : use_at m (page - distance) ≡ First count
   pub within : distance < count
 
--- Page 0 is never used, no page is used without a taken cell, no free cell of a page of a class has a flag, and the sets
--- have exactly the pages with a free cell.
+-- Page 0 is never used, no page is used without a taken cell, no free cell of a page of a class has a flag, and the
+-- sets have exactly the pages with a free cell.
 pub record KeepsCells (m : Map) : Type 0 where
   pub two : 2 ≤ m.pages
   pub most : m.pages ≤ 4096

@@ -2,8 +2,8 @@
 use Rattle.std.specs.Prelude.{◌≡◌, ◌+◌, ◌*◌, ◌/◌, ◌<◌, ◌≤◌, ℕ, Option, Some, None, Result, Ok, Err, slice_set}
 use Rattle.mm_model.specs.declared.object.Size.{Size}
 use Rattle.mm_model.specs.declared.object.Size.TheVariants.{Small, Pages}
-use Rattle.mm_model.specs.SizeClass.{extent_of_size}
-use Rattle.mm_model.specs.Lowest.{IsLowestOf, IsPreferred}
+use Rattle.mm_model.specs.Places.SizeClass.{extent_of_size}
+use Rattle.mm_model.specs.Places.Lowest.{IsLowestOf, IsPreferred}
 use Rattle.mm_pages.specs.Pages as heaps
 use Rattle.mm_pages.specs.Pages.{with_parked, IsFreeRun}
 use Rattle.mm_cells.specs.Cells.{Taken, Cells, Begins}

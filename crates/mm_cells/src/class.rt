@@ -1,6 +1,6 @@
 // The room that a piece of some bytes takes: a cell of one of 19 size classes, or whole pages.
 ghost use Rattle.std.specs.Prelude.{◌≡◌, ◌*◌, ◌/◌, ◌^◌, ◌<◌, ◌≤◌, slice_index};
-ghost use Rattle.mm_model.specs.SizeClass.{size_of, extent_of_size, class_sizes};
+ghost use Rattle.mm_model.specs.Places.SizeClass.{size_of, extent_of_size, class_sizes};
 ghost use Rattle.mm_cells.specs.Sizes.{IsSize};
 
 use mm_model::Size;
@@ -56,7 +56,7 @@ pub fn class_of(bytes: u32) -> Size
 }
 
 /// The bytes that a piece of this size takes.
-#[tactic(auto, unfolding(mm_model::specs::SizeClass::class_sizes))]
+#[tactic(auto, unfolding(mm_model::specs::Places::SizeClass::class_sizes))]
 pub fn extent_of(size: Size) -> u32
     requires { IsSize size }
     ensures value { result ≡ extent_of_size size }

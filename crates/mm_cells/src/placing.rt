@@ -2,7 +2,7 @@
 ghost use Rattle.std.specs.Prelude.{◌≡◌, ◌+◌, ◌*◌, ◌/◌, ◌≤◌, ◌<◌, ℕ, List, Some, None, IfOk, OnErr, slice_index};
 ghost use Rattle.std.specs.Prelude.{slice_get};
 ghost use Rattle.mm_model.specs.declared.object.Size.TheVariants.{Small, Pages};
-ghost use Rattle.mm_model.specs.SizeClass.{size_of, extent_of};
+ghost use Rattle.mm_model.specs.Places.SizeClass.{size_of, extent_of};
 ghost use Rattle.mm_pages.specs.Pages.{with_parked, IsQuick, IsSoundHeap};
 ghost use Rattle.mm_pages.specs.Parked.{AreParked, AreAllParked};
 ghost use Rattle.mm_cells.specs.Cells.{with_cell, with_run, newly_taken, Begins, IsTaken, IsSoundCells};

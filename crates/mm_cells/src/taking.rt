@@ -6,7 +6,7 @@ ghost use Rattle.mm_cells.specs.Cells.{Taken, with_cell, with_run, newly_taken, 
 ghost use Rattle.mm_cells.specs.Kept.{class_size, cells_of, KeepsCells, HasFree, HasTaken};
 ghost use Rattle.mm_cells.specs.Map.{use_at, mark_at, room_at, SetsRoom, IsLowestRoom};
 ghost use Rattle.mm_cells.specs.Marks.{NoneFree};
-ghost use Rattle.mm_model.specs.Lowest.{IsLowest};
+ghost use Rattle.mm_model.specs.Places.Lowest.{IsLowest};
 ghost use Rattle.mm_cells.specs.Placing.{IsFreeCell};
 ghost use Rattle.mm_cells.specs.Spans.{AreUnused};
 

@@ -6,14 +6,14 @@ use Rattle.std.specs.Option.{option_map}
 use Rattle.std.proofs.lemmas.Bool.{cases_eq}
 use Rattle.mm_model.specs.Object.{is_counted}
 use Rattle.mm_model.specs.Phase.{lists}
-use Rattle.mm_model.specs.ByBase.{Begins, with_entry, changed}
-use Rattle.mm_model.specs.ObjectView.{ObjectView, ObjectsByBase, references_in}
-use Rattle.mm_model.specs.SetsByBase.{count_at}
+use Rattle.mm_model.specs.Views.ByBase.{Begins, with_entry, changed}
+use Rattle.mm_model.specs.Views.ObjectView.{ObjectView, ObjectsByBase, references_in}
+use Rattle.mm_model.specs.Views.SetsByBase.{count_at}
 use Rattle.mm_model.proofs.Lists.Replaced.{get-set_same, get-set_other}
-use Rattle.mm_model.proofs.View.Entries.{get-changed, same_entries}
-use Rattle.mm_model.proofs.View.ReplacedEntries.{begins_get}
-use Rattle.mm_model.proofs.View.MappedEntries.{begins_mapped, mapped_begins}
-use Rattle.mm_model.proofs.View.ChangedEntries.{change_told, changed-none, map-changed}
+use Rattle.mm_model.proofs.View.ByBase.Entries.{get-changed, same_entries}
+use Rattle.mm_model.proofs.View.ByBase.ReplacedEntries.{begins_get}
+use Rattle.mm_model.proofs.View.ByBase.MappedEntries.{begins_mapped, mapped_begins}
+use Rattle.mm_model.proofs.View.ByBase.ChangedEntries.{change_told, changed-none, map-changed}
 use Rattle.mm_object.specs.Object.{StoredObject, StoredObjects, view_of_stored, views_of}
 use Rattle.mm_count.specs.Table.{composite_of}
 use Rattle.mm_count.specs.Counts.{IsCountedBy}

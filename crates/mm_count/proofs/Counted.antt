@@ -4,11 +4,11 @@ use Rattle.std.proofs.Common.{None, refl, sym, ap, ◌∙◌, subst, arith}
 use Rattle.std.specs.Prelude.{◌==◌, IsTrue}
 use Rattle.std.specs.Option.{option_map}
 use Rattle.mm_model.specs.Object.{is_counted}
-use Rattle.mm_model.specs.ByBase.{Begins, with_entry}
-use Rattle.mm_model.specs.ObjectView.{ObjectView, ObjectsByBase, references_in}
-use Rattle.mm_model.specs.SetsByBase.{count_at}
+use Rattle.mm_model.specs.Views.ByBase.{Begins, with_entry}
+use Rattle.mm_model.specs.Views.ObjectView.{ObjectView, ObjectsByBase, references_in}
+use Rattle.mm_model.specs.Views.SetsByBase.{count_at}
 use Rattle.mm_model.proofs.Lists.Replaced.{map-set}
-use Rattle.mm_model.proofs.View.MappedEntries.{begins_mapped, mapped_begins}
+use Rattle.mm_model.proofs.View.ByBase.MappedEntries.{begins_mapped, mapped_begins}
 use Rattle.mm_object.specs.Object.{StoredObject, StoredObjects, view_of_stored, views_of}
 use Rattle.mm_object.specs.Heap.{Heap}
 use Rattle.mm_count.specs.declared.composite.Composite.{Composite}

@@ -7,10 +7,10 @@ use Rattle.std.proofs.lemmas.List.{length-take, get_or-take, take-take}
 use Rattle.std.proofs.Math.ListN.{length-set}
 use Rattle.std.proofs.Math.Seq.{take-set-lt}
 use Rattle.mm_words.specs.Piece.{Piece, with_words}
-use Rattle.mm_model.specs.ByBase.{Begins}
+use Rattle.mm_model.specs.Views.ByBase.{Begins}
 use Rattle.mm_model.proofs.Lists.Fronts.{get-take, get-take_within}
 use Rattle.mm_model.proofs.Lists.Replaced.{get-set_same, get-set_other}
-use Rattle.mm_model.proofs.View.ReplacedEntries.{begins_get}
+use Rattle.mm_model.proofs.View.ByBase.ReplacedEntries.{begins_get}
 use Rattle.mm_count.specs.Counts.{entry_at}
 use Rattle.mm_count.specs.Table.{with_entries, without_place}
 use Rattle.mm_count.specs.Kept.{table_of}

@@ -1,11 +1,9 @@
 pub mod Apart
 pub mod Born
-pub mod Changes
 pub mod Composites
 pub mod Counted
 pub mod Entries
 pub mod Leaving
-pub mod Lowering
 pub mod Newborn
 pub mod Null
 pub mod Places
@@ -13,8 +11,7 @@ pub mod References
 pub mod Right
 pub mod Room
 pub mod Sticky
-pub mod Stored
+pub mod Stores
 pub mod Tables
 pub mod Views
 pub mod Words
-pub mod Writing

@@ -8,12 +8,12 @@ use Rattle.std.specs.Option.{option_map}
 use Rattle.std.proofs.lemmas.Bool.{cases_eq}
 use Rattle.std.proofs.lemmas.Option.{slice_get-map}
 use Rattle.mm_model.specs.Object.{is_counted, is_scanned}
-use Rattle.mm_model.specs.ByBase.{Begins, with_entry}
-use Rattle.mm_model.specs.ObjectView.{ObjectView, ObjectsByBase, references_in}
-use Rattle.mm_model.specs.SetsByBase.{count_at}
+use Rattle.mm_model.specs.Views.ByBase.{Begins, with_entry}
+use Rattle.mm_model.specs.Views.ObjectView.{ObjectView, ObjectsByBase, references_in}
+use Rattle.mm_model.specs.Views.SetsByBase.{count_at}
 use Rattle.mm_model.proofs.Lists.Replaced.{get-set_other, get-set_cases, map-set}
-use Rattle.mm_model.proofs.View.Entries.{begins_same}
-use Rattle.mm_model.proofs.View.MappedEntries.{begins_mapped, mapped_begins}
+use Rattle.mm_model.proofs.View.ByBase.Entries.{begins_same}
+use Rattle.mm_model.proofs.View.ByBase.MappedEntries.{begins_mapped, mapped_begins}
 use Rattle.mm_object.specs.Object.{StoredObject, StoredObjects, view_of_stored, views_of}
 use Rattle.mm_count.specs.Composite.{composite_in}
 use Rattle.mm_count.specs.Table.{composite_of}

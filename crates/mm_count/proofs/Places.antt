@@ -4,11 +4,11 @@ use Rattle.std.proofs.Common.{refl, sym, ap, ◌∙◌, subst, arith}
 use Rattle.std.specs.Prelude.{slice_get, slice_set}
 use Rattle.std.specs.Option.{option_map}
 use Rattle.std.proofs.lemmas.Bool.{cases_eq}
-use Rattle.mm_model.specs.ByBase.{Begins, with_entry}
+use Rattle.mm_model.specs.Views.ByBase.{Begins, with_entry}
 use Rattle.mm_model.proofs.Lists.Replaced.{map-set, map-set_alike}
-use Rattle.mm_model.proofs.View.Entries.{begins_same}
-use Rattle.mm_model.proofs.View.ReplacedEntries.{begins_get, begins_here, begins_there, begins_cases}
-use Rattle.mm_model.proofs.View.MappedEntries.{begins_mapped, mapped_begins}
+use Rattle.mm_model.proofs.View.ByBase.Entries.{begins_same}
+use Rattle.mm_model.proofs.View.ByBase.ReplacedEntries.{begins_get, begins_here, begins_there, begins_cases}
+use Rattle.mm_model.proofs.View.ByBase.MappedEntries.{begins_mapped, mapped_begins}
 use Rattle.mm_object.specs.Object.{StoredObject, StoredObjects}
 use Rattle.mm_object.specs.Heap.{Heap}
 use Rattle.mm_count.specs.declared.composite.Composite.{Composite}

@@ -4,12 +4,12 @@ use Rattle.std.proofs.Common.{false, cond, eqb-true, refl, ap, ◌∙◌, arith}
 use Rattle.std.specs.Prelude.{slice_get, slice_set, ◌==◌}
 use Rattle.std.specs.List.{sum_by, count_by}
 use Rattle.std.proofs.lemmas.List.Sums.{sum_by-cons}
-use Rattle.mm_model.specs.ByBase.{Begins, Based, with_entry, based_from, based}
-use Rattle.mm_model.specs.ObjectView.{ObjectView, ObjectsByBase, counted_words_of, references_in}
+use Rattle.mm_model.specs.Views.ByBase.{Begins, Based, with_entry, based_from, based}
+use Rattle.mm_model.specs.Views.ObjectView.{ObjectView, ObjectsByBase, counted_words_of, references_in}
 use Rattle.mm_model.proofs.Lists.Keyed.{refuted}
 use Rattle.mm_model.proofs.Lists.KeyedSums.{count-flat_map}
-use Rattle.mm_model.proofs.View.Entries.{begins_at}
-use Rattle.mm_model.proofs.View.ReplacedEntries.{begins_get}
+use Rattle.mm_model.proofs.View.ByBase.Entries.{begins_at}
+use Rattle.mm_model.proofs.View.ByBase.ReplacedEntries.{begins_get}
 
 module _ {X : Type 0} (g : X → ℕ) where
   abbrev weight : Based X → ℕ

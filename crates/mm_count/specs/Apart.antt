@@ -2,8 +2,8 @@
 use Rattle.std.specs.Prelude.{◌≡◌, ◌≤◌, ℕ, false, IsTrue, if◌then◌else◌, List, Option, Some, None}
 use Rattle.mm_model.specs.Object.{is_counted}
 use Rattle.mm_model.specs.Phase.{lists}
-use Rattle.mm_model.specs.ByBase.{Begins, changed}
-use Rattle.mm_model.specs.SetsByBase.{count_at}
+use Rattle.mm_model.specs.Views.ByBase.{Begins, changed}
+use Rattle.mm_model.specs.Views.SetsByBase.{count_at}
 use Rattle.mm_object.specs.Object.{StoredObject, StoredObjects, views_of}
 use Rattle.mm_count.specs.Table.{composite_of}
 

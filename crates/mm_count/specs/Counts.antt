@@ -4,8 +4,8 @@ use Rattle.std.specs.Prelude.{List, [], ◌∷◌, ◌++◌, map, length, Option
 use Rattle.std.specs.Option.{option_map, option_and_then}
 use Rattle.mm_model.specs.Object.{is_scanned}
 use Rattle.mm_model.specs.Words.{CountedSlot, slot_kind_at}
-use Rattle.mm_model.specs.ByBase.{Begins, with_entry}
-use Rattle.mm_model.specs.GoodView.{AreCounts}
+use Rattle.mm_model.specs.Views.ByBase.{Begins, with_entry}
+use Rattle.mm_model.specs.Views.GoodView.{AreCounts}
 use Rattle.mm_object.specs.Object.{StoredObject, StoredObjects, views_of}
 use Rattle.mm_object.specs.Heap.{Heap}
 use Rattle.mm_count.specs.declared.composite.Composite.{Composite}

@@ -3,7 +3,7 @@ use Rattle.std.specs.Prelude.{◌≡◌, ◌≢◌, ◌≤◌, ◌+◌, ◌*◌,
 use Rattle.std.specs.Prelude.{slice_get}
 use Rattle.std.specs.List.{count_by}
 use Rattle.mm_model.specs.Object.{is_counted}
-use Rattle.mm_model.specs.ByBase.{Begins}
+use Rattle.mm_model.specs.Views.ByBase.{Begins}
 use Rattle.mm_words.specs.Piece.{Piece}
 use Rattle.mm_words.specs.Location.{location_of}
 use Rattle.mm_object.specs.Object.{StoredObject, StoredObjects, views_of}

@@ -1,8 +1,8 @@
 -- Which objects are in the zero-count table, and which are pinned.
 use Rattle.std.specs.Prelude.{◌≡◌, ◌≢◌, ◌⊎◌, ℕ, Bool, true, false, IsTrue, List}
 use Rattle.mm_model.specs.Object.{is_counted}
-use Rattle.mm_model.specs.ByBase.{Begins}
-use Rattle.mm_model.specs.ObjectView.{holds_base}
+use Rattle.mm_model.specs.Views.ByBase.{Begins}
+use Rattle.mm_model.specs.Views.ObjectView.{holds_base}
 use Rattle.mm_object.specs.Object.{StoredObject, StoredObjects}
 use Rattle.mm_count.specs.Table.{composite_of}
 

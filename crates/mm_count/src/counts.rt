@@ -1,6 +1,6 @@
 // Counts of references, which are raised and lowered.
 ghost use Rattle.std.specs.Prelude.{◌≡◌, ◌≤◌, ◌<◌, ◌+◌, ◌^◌, ◌++◌, ◌∷◌, ℕ, List, [], false, length};
-ghost use Rattle.mm_model.specs.ByBase.{Begins};
+ghost use Rattle.mm_model.specs.Views.ByBase.{Begins};
 ghost use Rattle.mm_object.specs.Object.{StoredObject, views_of};
 ghost use Rattle.mm_object.specs.Heap.{IsObject, IsSound};
 ghost use Rattle.mm_count.specs.Composite.{FitsWord};

@@ -1,9 +1,9 @@
 // Counts of what dead objects name.
 ghost use Rattle.std.specs.Prelude.{◌≡◌, ◌≢◌, ◌≤◌, ◌+◌, ◌*◌, ◌∷◌, [], ℕ, List, false, length, slice_index, take};
 ghost use Rattle.mm_model.specs.Phase.{lists};
-ghost use Rattle.mm_model.specs.ByBase.{Begins};
-ghost use Rattle.mm_model.specs.ObjectView.{counted_words_of};
-ghost use Rattle.mm_model.specs.GoodView.{HoldTight};
+ghost use Rattle.mm_model.specs.Views.ByBase.{Begins};
+ghost use Rattle.mm_model.specs.Views.ObjectView.{counted_words_of};
+ghost use Rattle.mm_model.specs.Views.GoodView.{HoldTight};
 ghost use Rattle.mm_object.specs.Object.{StoredObject, view_of_stored, views_of};
 ghost use Rattle.mm_object.specs.Heap.{IsObject, IsSound};
 ghost use Rattle.mm_count.specs.Table.{IsRight, IsSameTable};

@@ -1,11 +1,11 @@
 // Writes into counted slots.
 ghost use Rattle.std.specs.Prelude.{◌≡◌, ◌≢◌, ◌≤◌, ◌+◌, ◌∷◌, [], ℕ, slice_index};
 ghost use Rattle.mm_model.specs.Words.{CountedSlot};
-ghost use Rattle.mm_model.specs.ByBase.{Begins};
-ghost use Rattle.mm_model.specs.ObjectView.{ObjectView};
-ghost use Rattle.mm_model.specs.View.{View};
-ghost use Rattle.mm_model.specs.ViewWords.{outside_references};
-ghost use Rattle.mm_model.specs.ViewStore.{view_recounted, view_with_word};
+ghost use Rattle.mm_model.specs.Views.ByBase.{Begins};
+ghost use Rattle.mm_model.specs.Views.ObjectView.{ObjectView};
+ghost use Rattle.mm_model.specs.Views.View.{View};
+ghost use Rattle.mm_model.specs.Views.ViewWords.{outside_references};
+ghost use Rattle.mm_model.specs.Views.ViewStore.{view_recounted, view_with_word};
 ghost use Rattle.mm_object.specs.Object.{StoredObject, views_of};
 ghost use Rattle.mm_object.specs.Heap.{IsSound};
 ghost use Rattle.mm_count.specs.Table.{IsRight};

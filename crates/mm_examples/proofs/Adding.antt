@@ -8,7 +8,7 @@ use Rattle.mm_model.specs.declared.line.Line.{Line}
 use Rattle.mm_model.specs.declared.settings.Settings.{Settings}
 use Rattle.mm_model.specs.State.{State, empty_state}
 use Rattle.mm_model.specs.After.{after}
-use Rattle.mm_model.specs.Turns.{Turn, is_group, AreJoined, AreTurns}
+use Rattle.mm_model.specs.Logs.Turns.{Turn, is_group, AreJoined, AreTurns}
 use Rattle.mm_pace.specs.Rules.{due_step, due_finish, due_begin, rules_at}
 use Rattle.mm_pace.specs.Paced.{Stretch, list_of, AreAdded}
 use Rattle.mm_examples.proofs.Running.{first_group, later_groups}

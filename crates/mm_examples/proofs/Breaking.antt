@@ -1,5 +1,6 @@
 -- Logs that are legal up to their last turn, and what they keep and break.
-use Rattle.std.proofs.Common.{◌≡◌, ◌≤◌, ℕ, true, false, List, [], ◌∷◌, ◌++◌, map, refl, sym, ap, ◌∙◌, subst, ◌⊎◌, ⊎_elim, inl}
+use Rattle.std.proofs.Common.{◌≡◌, ◌≤◌, ℕ, true, false, List, [], ◌∷◌, ◌++◌, map, refl, sym, ap, ◌∙◌, subst, ◌⊎◌}
+use Rattle.std.proofs.Common.{⊎_elim, inl}
 use Rattle.std.proofs.Common.{inr}
 use Rattle.std.proofs.lemmas.List.{append-nil, map-append}
 use Rattle.std.proofs.lemmas.Grind.{flat_map-append}
@@ -11,10 +12,10 @@ use Rattle.mm_model.specs.declared.settings.Settings.{Settings}
 use Rattle.mm_model.specs.Object.{Object}
 use Rattle.mm_model.specs.State.{State, empty_state}
 use Rattle.mm_model.specs.After.{after}
-use Rattle.mm_model.specs.Course.{IsGone}
+use Rattle.mm_model.specs.Logs.Course.{IsGone}
 use Rattle.mm_model.specs.Step.{IsStep}
-use Rattle.mm_model.specs.Turns.{Turn, is_group, AreJoined, AreTurns, ComesAfter, EachTurn, AreSteps}
-use Rattle.mm_model.specs.Faithful.{IsFaithfulTurn, IsFaithful}
+use Rattle.mm_model.specs.Logs.Turns.{Turn, is_group, AreJoined, AreTurns, ComesAfter, EachTurn, AreSteps}
+use Rattle.mm_model.specs.Logs.Faithful.{IsFaithfulTurn, IsFaithful}
 use Rattle.mm_model.proofs.Faithful.Turns.{turns-same}
 use Rattle.mm_model.proofs.Good.Living.{each_get, each_append}
 use Rattle.mm_model.proofs.Lists.Truth.{no_other}

@@ -6,7 +6,7 @@ use Rattle.mm_model.specs.declared.line.Line.{Line}
 use Rattle.mm_model.specs.State.{State}
 use Rattle.mm_model.specs.After.{after}
 use Rattle.mm_model.specs.Step.{IsStep}
-use Rattle.mm_model.specs.Log.{IsRun}
+use Rattle.mm_model.specs.Logs.Log.{IsRun}
 use Rattle.mm_examples.proofs.Stepping.{step_log, step_checks, step_if}
 use Rattle.mm_examples.proofs.Running.{first_group, later_groups, run_checks}
 

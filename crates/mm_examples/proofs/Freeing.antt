@@ -6,7 +6,7 @@ use Rattle.std.proofs.lemmas.Bool.{and_parts, and_from, or_cases, not_from_false
 use Rattle.mm_model.specs.Object.{Object}
 use Rattle.mm_model.specs.State.{State, Lives}
 use Rattle.mm_model.specs.Words.{root_words}
-use Rattle.mm_model.specs.Marking.{is_white, colour_in, with_grayed}
+use Rattle.mm_model.specs.Sets.Marking.{is_white, colour_in, with_grayed}
 use Rattle.mm_model.specs.Phase.{lists, IsAscending, AreBasesOf, AreReaped, AreCollected, AreFinished}
 use Rattle.mm_model.proofs.Decided.Members.{Numbered, numbered, living, has_birth, from_any, each_from_all}
 use Rattle.mm_model.proofs.Decided.Members.{each_implied, at_live, each_living}

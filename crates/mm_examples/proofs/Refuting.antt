@@ -8,13 +8,13 @@ use Rattle.mm_model.specs.declared.line.Line.TheVariants as lines
 use Rattle.mm_model.specs.declared.settings.Settings.{Settings}
 use Rattle.mm_model.specs.Object.{Object}
 use Rattle.mm_model.specs.State.{State, empty_state}
-use Rattle.mm_model.specs.Marking.{MayScan}
-use Rattle.mm_model.specs.Scan.{AreScanned, IsEnough}
+use Rattle.mm_model.specs.Sets.Marking.{MayScan}
+use Rattle.mm_model.specs.Sets.Scan.{AreScanned, IsEnough}
 use Rattle.mm_model.specs.Refusing.{refusal}
 use Rattle.mm_model.specs.After.{after, scanned_bases}
 use Rattle.mm_model.specs.Step.{is_full, IsCarriedOut, IsStepUnless, IsStep}
-use Rattle.mm_model.specs.Log.{IsLegal}
-use Rattle.mm_model.specs.Turns.{Turn, is_group, AreSteps}
+use Rattle.mm_model.specs.Logs.Log.{IsLegal}
+use Rattle.mm_model.specs.Logs.Turns.{Turn, is_group, AreSteps}
 use Rattle.mm_model.proofs.Faithful.Turns.{turns-same}
 use Rattle.mm_model.proofs.Good.Starting.{empty_is_good}
 use Rattle.mm_model.proofs.Steps.Determining.{scanned_bases-end}

@@ -8,7 +8,7 @@ use Rattle.mm_model.specs.declared.settings.Settings.{Settings}
 use Rattle.mm_model.specs.State.{State, empty_state, totals_of}
 use Rattle.mm_model.specs.After.{after}
 use Rattle.mm_model.specs.Step.{IsStep}
-use Rattle.mm_model.specs.Log.{IsRun}
+use Rattle.mm_model.specs.Logs.Log.{IsRun}
 use Rattle.mm_examples.specs.Examples.{IsLogOf}
 use Rattle.mm_examples.proofs.Stepping.{step_log, step_checks, step_if}
 

@@ -9,8 +9,9 @@ use Rattle.mm_model.specs.declared.line.Line.{Line}
 use Rattle.mm_model.specs.declared.line.Line.TheVariants as lines
 use Rattle.mm_model.specs.Object.{Object, is_live}
 use Rattle.mm_model.specs.State.{State, Cycle}
-use Rattle.mm_model.specs.Marking.{MayScan, is_gray, colour_in, may_continue, part_slots, part_done}
-use Rattle.mm_model.specs.Scan.{AreScanned, IsEnough, Nothing_asked, Cost_reached, Nothing_left, IsNothingGray, costs}
+use Rattle.mm_model.specs.Sets.Marking.{MayScan, is_gray, colour_in, may_continue, part_slots, part_done}
+use Rattle.mm_model.specs.Sets.Scan.{AreScanned, IsEnough, Nothing_asked, Cost_reached, Nothing_left, IsNothingGray}
+use Rattle.mm_model.specs.Sets.Scan.{costs}
 use Rattle.mm_model.specs.Step.{Scans}
 use Rattle.mm_model.specs.After.{birth_at, part_done_at, parts_done}
 use Rattle.mm_model.proofs.Decided.Members.{living, each_from_all, at_live}

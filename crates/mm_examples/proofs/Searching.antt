@@ -4,9 +4,9 @@ use Rattle.std.proofs.lemmas.Bool.{and_parts}
 use Rattle.mm_model.specs.declared.line.Line.{Line}
 use Rattle.mm_model.specs.declared.line.Phase.TheVariants.{Reap, Collect}
 use Rattle.mm_model.specs.State.{State}
-use Rattle.mm_model.specs.Place.{Family}
+use Rattle.mm_model.specs.Places.Place.{Family}
 use Rattle.mm_model.specs.Phase.{phase_lines, reaped}
-use Rattle.mm_model.specs.Search.{place_now, place_grown, Searches, At_once, After_reap, After_collection}
+use Rattle.mm_model.specs.Places.Search.{place_now, place_grown, Searches, At_once, After_reap, After_collection}
 use Rattle.mm_model.specs.After.{first_phase, later_phases, collected_unless, reaped_unless, searched}
 use Rattle.mm_examples.proofs.Freeing.{reaps, collects, reaped_if, collected_if}
 

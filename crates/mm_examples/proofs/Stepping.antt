@@ -9,8 +9,8 @@ use Rattle.mm_model.specs.declared.reply.Reply.TheVariants as replies
 use Rattle.mm_model.specs.declared.line.Line.{Line}
 use Rattle.mm_model.specs.declared.line.Line.TheVariants as lines
 use Rattle.mm_model.specs.declared.line.Phase.TheVariants.{Reap, Collect}
-use Rattle.mm_model.specs.SizeClass.{object_bytes, area_bytes}
-use Rattle.mm_model.specs.Place.{Family, Objects, Areas}
+use Rattle.mm_model.specs.Places.SizeClass.{object_bytes, area_bytes}
+use Rattle.mm_model.specs.Places.Place.{Family, Objects, Areas}
 use Rattle.mm_model.specs.Object.{Object}
 use Rattle.mm_model.specs.State.{State, one_more_command}
 use Rattle.mm_model.specs.Count.{zero_count}

@@ -3,9 +3,10 @@ use Rattle.std.specs.Prelude.{◌≡◌, List}
 use Rattle.mm_model.specs.declared.command.Command.{Command}
 use Rattle.mm_model.specs.declared.line.Line.{Line}
 use Rattle.mm_model.specs.declared.settings.Settings.{Settings}
-use Rattle.mm_model.specs.Turns.{Turn, AreTurns, EachTurn}
-use Rattle.mm_model.specs.Faithful.{ReadsThroughReferences, SparesProtected, FollowsTargets, LeavesReached, EndsCycles}
-use Rattle.mm_model.specs.Faithful.{KeepsApart}
+use Rattle.mm_model.specs.Logs.Turns.{Turn, AreTurns, EachTurn}
+use Rattle.mm_model.specs.Logs.Faithful.{ReadsThroughReferences, SparesProtected, FollowsTargets, LeavesReached}
+use Rattle.mm_model.specs.Logs.Faithful.{EndsCycles}
+use Rattle.mm_model.specs.Logs.Faithful.{KeepsApart}
 
 pub data Promise : Type 0 where
   References : Promise

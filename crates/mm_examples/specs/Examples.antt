@@ -12,7 +12,7 @@ use Rattle.mm_model.specs.declared.line.Phase.TheVariants as phases
 use Rattle.mm_model.specs.declared.settings.Settings.{Settings}
 use Rattle.mm_model.specs.State.{State}
 use Rattle.mm_model.specs.Step.{IsStep}
-use Rattle.mm_model.specs.Log.{IsWhole}
+use Rattle.mm_model.specs.Logs.Log.{IsWhole}
 
 -- the log, with its total line, is legal for the commands
 abbrev pub IsLogOf : Settings → List Command → List Line → Type 0

@@ -1,6 +1,6 @@
 -- Pieces of one extent, for worked examples of places.
 use Rattle.std.specs.Prelude.{ℕ, List, map}
-use Rattle.mm_model.specs.Place.{Piece, Objects, Areas}
+use Rattle.mm_model.specs.Places.Place.{Piece, Objects, Areas}
 
 -- objects at these bases, all of one extent
 abbrev pub objects : List ℕ → ℕ → List Piece

@@ -6,8 +6,8 @@ use Rattle.mm_model.specs.declared.line.Line.{Line}
 use Rattle.mm_model.specs.declared.settings.Settings.{Settings}
 use Rattle.mm_model.specs.State.{State}
 use Rattle.mm_model.specs.Step.{IsStep}
-use Rattle.mm_model.specs.Log.{IsLegal}
-use Rattle.mm_model.specs.Turns.{Turn, AreTurns}
+use Rattle.mm_model.specs.Logs.Log.{IsLegal}
+use Rattle.mm_model.specs.Logs.Turns.{Turn, AreTurns}
 use Rattle.mm_sites.specs.Births.{birth_sites, total_in}
 use Rattle.mm_sites.specs.Text.{site_text}
 

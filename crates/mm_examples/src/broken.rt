@@ -6,11 +6,12 @@ ghost use Rattle.mm_model.specs.declared.command.Command.TheVariants.{Reap, Coll
 ghost use Rattle.mm_model.specs.declared.line.Line.{Line};
 ghost use Rattle.mm_model.specs.declared.object.Kind.TheVariants.{Traced, Counted};
 ghost use Rattle.mm_model.specs.declared.settings.Settings.{Settings};
-ghost use Rattle.mm_model.specs.Faithful.{IsFaithful};
+ghost use Rattle.mm_model.specs.Logs.Faithful.{IsFaithful};
 ghost use Rattle.mm_examples.specs.Broken.{Promise, References, Protected, WeakReferences, Collections};
 ghost use Rattle.mm_examples.specs.Broken.{Cycles, Apart, BreaksOnly};
 ghost use Rattle.mm_model.specs.declared.refusal.Refusal.TheVariants as refusals;
-ghost use Rattle.mm_examples.specs.Examples.{usual, with_stack, new, made, word, done, refused, reaped, collected, freed};
+ghost use Rattle.mm_examples.specs.Examples.{usual, with_stack, new, made, word, done, refused, reaped, collected};
+ghost use Rattle.mm_examples.specs.Examples.{freed};
 
 /// A log that breaks a promise isn't faithful.
 pub fn broken_logs_are_unfaithful()

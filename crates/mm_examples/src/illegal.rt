@@ -4,7 +4,7 @@ ghost use Rattle.mm_model.specs.declared.command.Command.TheVariants.{Pop, Begin
 ghost use Rattle.mm_model.specs.declared.object.Kind.TheVariants.{Traced};
 ghost use Rattle.mm_model.specs.State.{State};
 ghost use Rattle.mm_model.specs.Step.{IsStep};
-ghost use Rattle.mm_model.specs.Log.{IsLegal};
+ghost use Rattle.mm_model.specs.Logs.Log.{IsLegal};
 ghost use Rattle.mm_examples.specs.Examples.{usual, new, made, done, scanned};
 
 /// `step` scans no white object.

@@ -1,12 +1,12 @@
 // Sizes of cells and runs of pages, and the places that pieces get.
 ghost use Rattle.std.specs.Prelude.{◌≡◌, ◌∷◌, ◌++◌, [], Some, None};
-ghost use Rattle.mm_model.specs.SizeClass.{size_of, object_bytes};
-ghost use Rattle.mm_model.specs.Place.{place_among, Objects, Areas};
+ghost use Rattle.mm_model.specs.Places.SizeClass.{size_of, object_bytes};
+ghost use Rattle.mm_model.specs.Places.Place.{place_among, Objects, Areas};
 ghost use Rattle.mm_model.specs.declared.object.Size.TheVariants as sizes;
 ghost use Rattle.mm_examples.specs.Pieces.{objects, areas};
 
 /// The boundaries of the size classes.
-#[tactic(auto, unfolding(mm_model::specs::SizeClass::class_sizes))]
+#[tactic(auto, unfolding(mm_model::specs::Places::SizeClass::class_sizes))]
 pub fn worked_sizes()
     ensures one { size_of 1 ≡ sizes.Small 0 }
     ensures sixteen { size_of 16 ≡ sizes.Small 0 }
@@ -19,7 +19,7 @@ pub fn worked_sizes()
 {}
 
 /// A sequence of places in one heap of six pages, in which the second object is freed after the fifth place.
-#[tactic(auto, unfolding(mm_model::specs::SizeClass::class_sizes))]
+#[tactic(auto, unfolding(mm_model::specs::Places::SizeClass::class_sizes))]
 pub fn worked_places()
     ensures first_object { place_among [] 6 Objects (size_of 32) ≡ Some 4096 }
     ensures second_class { place_among (objects (4096 ∷ []) 32) 6 Objects (size_of 16) ≡ Some 8192 }

@@ -1,7 +1,7 @@
 // The text of traces and logs, as it is read, cut and written.
 ghost use Rattle.std.specs.Prelude.{◌≡◌, ◌∷◌, [], codes, None, Some, Ok, Err, true, false};
-ghost use Rattle.mm_model.specs.Spelling.{spelling_of};
-ghost use Rattle.mm_model.specs.Trace.{line_reading, lines_of, complete_lines};
+ghost use Rattle.mm_model.specs.Logs.Spelling.{spelling_of};
+ghost use Rattle.mm_model.specs.Logs.Trace.{line_reading, lines_of, complete_lines};
 ghost use Rattle.mm_model.specs.declared.refusal.LineFault.TheVariants.{UnknownCommand, WordCount, BadWord, BadNumber};
 ghost use Rattle.mm_model.specs.declared.command.Command.TheVariants as commands;
 ghost use Rattle.mm_model.specs.declared.line.Line.TheVariants as lines;
@@ -10,7 +10,7 @@ ghost use Rattle.mm_model.specs.declared.reply.Reply.TheVariants as replies;
 ghost use Rattle.mm_model.specs.declared.object.Kind.TheVariants as kinds;
 
 /// What single lines of a trace say.
-#[tactic(auto, unfolding(mm_model::specs::Trace::line_reading, mm_model::specs::Trace::words_reading))]
+#[tactic(auto, unfolding(mm_model::specs::Logs::Trace::line_reading, mm_model::specs::Logs::Trace::words_reading))]
 pub fn worked_lines()
     ensures passed_over { line_reading (codes "   ") ≡ Ok None }
     ensures comment { line_reading (codes "# new") ≡ Ok None }

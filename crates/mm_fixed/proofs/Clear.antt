@@ -7,7 +7,7 @@ use Rattle.std.proofs.lemmas.List.{length-set, get_or-set_same, get_or-set_other
 use Rattle.mm_model.specs.declared.object.Size.{Size}
 use Rattle.mm_model.specs.declared.object.Size.TheVariants.{Small, Pages}
 use Rattle.mm_model.proofs.Places.SizeClasses.{class_bounds}
-use Rattle.mm_model.specs.Lowest.{Of_first, Of_second}
+use Rattle.mm_model.specs.Places.Lowest.{Of_first, Of_second}
 use Rattle.mm_pages.specs.Pages as heaps
 use Rattle.mm_pages.specs.Pages.{Covers}
 use Rattle.mm_pages.specs.Parked.{AreParked, HaveNoCommonRun}

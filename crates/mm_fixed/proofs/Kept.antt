@@ -3,7 +3,7 @@ use Rattle.std.proofs.Common.{◌≡◌, ℕ, ◌/◌, Bool, List, refl, arith, 
 use Rattle.std.specs.Prelude.{Some, None, Result, Ok, Err, slice_get, slice_set}
 use Rattle.std.specs.Result.{IsErr}
 use Rattle.mm_model.specs.declared.object.Colour.TheVariants.{White}
-use Rattle.mm_model.specs.ByBase.{Begins}
+use Rattle.mm_model.specs.Views.ByBase.{Begins}
 use Rattle.mm_model.proofs.Lists.Replaced.{get-set_same}
 use Rattle.mm_pages.specs.Pages as heaps
 use Rattle.mm_cells.specs.Cells as cells

@@ -1,9 +1,9 @@
 -- What callers see of an allocator of blocks: which are out, and which are parked.
 use Rattle.std.specs.Prelude.{◌≡◌, ◌≢◌, ◌+◌, ◌*◌, ◌/◌, ◌<◌, ◌≤◌, ℕ, Bool, true, false, List, length, replicate}
 use Rattle.std.specs.Prelude.{Option, None, slice_index, slice_set}
-use Rattle.mm_model.specs.Place.{Piece, Areas}
+use Rattle.mm_model.specs.Places.Place.{Piece, Areas}
 use Rattle.mm_model.specs.Good.{IsInside, AreApart}
-use Rattle.mm_model.specs.ByBase.{Begins, with_entry}
+use Rattle.mm_model.specs.Views.ByBase.{Begins, with_entry}
 use Rattle.mm_words.specs.Location.{Location}
 
 -- a block: its bytes, and whether it is parked, or else out

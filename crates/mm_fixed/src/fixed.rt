@@ -1,8 +1,8 @@
 // The blocks of an allocator: handed out, parked and given back.
 ghost use Rattle.std.specs.Prelude.{◌≡◌, ◌+◌, ◌/◌, ◌≤◌, ◌<◌, ℕ, List, length, Some, None, IfOk, OnErr, slice_index};
 ghost use Rattle.mm_words.specs.Location.{location_of};
-ghost use Rattle.mm_model.specs.SizeClass.{size_of, extent_of};
-ghost use Rattle.mm_model.specs.ByBase.{Begins};
+ghost use Rattle.mm_model.specs.Places.SizeClass.{size_of, extent_of};
+ghost use Rattle.mm_model.specs.Views.ByBase.{Begins};
 ghost use Rattle.mm_pages.specs.Pages.{Pages, with_parked, IsQuick, IsSoundHeap};
 ghost use Rattle.mm_pages.specs.Parked.{AreParked, HaveNoCommonRun, AreAllParked};
 ghost use Rattle.mm_cells.specs.Map.{table_size};

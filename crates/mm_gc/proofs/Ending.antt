@@ -10,11 +10,11 @@ use Rattle.mm_model.specs.declared.line.Line.TheVariants as lines
 use Rattle.mm_model.specs.declared.reply.Reply.{Reply}
 use Rattle.mm_model.specs.declared.reply.Reply.TheVariants as replies
 use Rattle.mm_model.specs.State.{one_more_command}
-use Rattle.mm_model.specs.Journal.{Writes}
-use Rattle.mm_model.specs.Spelling.{spelling, spelling_of}
-use Rattle.mm_model.specs.View.{View, Shows}
-use Rattle.mm_model.specs.ViewWords.{view_zero_count, outside_references}
-use Rattle.mm_model.specs.ViewStep.{IsViewStep, ViewEnds, one_more_counted}
+use Rattle.mm_model.specs.Logs.Journal.{Writes}
+use Rattle.mm_model.specs.Logs.Spelling.{spelling, spelling_of}
+use Rattle.mm_model.specs.Views.View.{View, Shows}
+use Rattle.mm_model.specs.Views.ViewWords.{view_zero_count, outside_references}
+use Rattle.mm_model.specs.Views.ViewStep.{IsViewStep, ViewEnds, one_more_counted}
 use Rattle.mm_model.proofs.Good.Around.{carried_out_is_good}
 use Rattle.mm_model.proofs.Text.Journals.{writes-none, writes-append}
 use Rattle.mm_model.proofs.View.Shown.{shown-is, view_of-shows}
@@ -24,9 +24,9 @@ use Rattle.mm_gc.specs.Kept.{KeepsGc}
 use Rattle.mm_gc.specs.Rows.{Kept, Tells, Executes}
 use Rattle.mm_gc.specs.Showing.{IsShowing}
 use Rattle.mm_gc.proofs.Executed.{refused-step, done-step}
-use Rattle.mm_gc.proofs.Searching.{told-reap}
+use Rattle.mm_gc.proofs.Makes.Searching.{told-reap}
 use Rattle.mm_gc.proofs.Shown.{step-of}
-use Rattle.mm_gc.proofs.ZeroCount.{entries_are_zero_count}
+use Rattle.mm_gc.proofs.Frees.ZeroCount.{entries_are_zero_count}
 
 -- one more command leaves a good state shown
 counted-shows : (view : View) → IsShowing view → IsShowing (one_more_counted view)

@@ -14,19 +14,21 @@ use Rattle.mm_model.specs.declared.line.Line.TheVariants as lines
 use Rattle.mm_model.specs.declared.object.Shape.{Shape}
 use Rattle.mm_model.specs.Step.{is_full}
 use Rattle.mm_model.specs.Words.{SlotKind}
-use Rattle.mm_model.specs.ByBase.{Based}
-use Rattle.mm_model.specs.ObjectView.{ObjectView, slot_kind_of}
-use Rattle.mm_model.specs.View.{View}
-use Rattle.mm_model.specs.ViewWords.{object_at, view_meant, area_in, cell_kind_of, falls_in_counted_of}
+use Rattle.mm_model.specs.Views.ByBase.{Based}
+use Rattle.mm_model.specs.Views.ObjectView.{ObjectView, slot_kind_of}
+use Rattle.mm_model.specs.Views.View.{View}
+use Rattle.mm_model.specs.Views.ViewWords.{object_at, view_meant, area_in, cell_kind_of, falls_in_counted_of}
 use Rattle.mm_model.specs.Store.{is_counted_slot}
-use Rattle.mm_model.specs.ViewTests.{view_refusal}
-use Rattle.mm_model.specs.ViewStore.{view_store_reply}
-use Rattle.mm_model.specs.ViewEffect.{ViewEffect, with_found, view_done, view_pushed, view_pushes, view_look_effect}
-use Rattle.mm_model.specs.ViewEffect.{view_map_reply, view_plain_effect, view_put_effect, view_area_put_effect}
-use Rattle.mm_model.specs.ViewEffect.{view_new_effect, view_weak_effect, view_area_effect, view_weak_made}
+use Rattle.mm_model.specs.Views.ViewTests.{view_refusal}
+use Rattle.mm_model.specs.Views.ViewStore.{view_store_reply}
+use Rattle.mm_model.specs.Views.ViewEffect.{ViewEffect, with_found, view_done, view_pushed, view_pushes}
+use Rattle.mm_model.specs.Views.ViewEffect.{view_look_effect}
+use Rattle.mm_model.specs.Views.ViewEffect.{view_map_reply, view_plain_effect, view_put_effect, view_area_put_effect}
+use Rattle.mm_model.specs.Views.ViewEffect.{view_new_effect, view_weak_effect, view_area_effect, view_weak_made}
 use Rattle.mm_gc.specs.Ending.{is_refused}
-use Rattle.mm_model.specs.ViewStep.{IsViewRow, ViewRowUnless, IsViewStep, IsViewStepUnless, ViewCarries, ViewMakesWeak}
-use Rattle.mm_model.specs.ViewStep.{ViewEnds, ViewIsPlain, one_more_counted}
+use Rattle.mm_model.specs.Views.ViewStep.{IsViewRow, ViewRowUnless, IsViewStep, IsViewStepUnless, ViewCarries}
+use Rattle.mm_model.specs.Views.ViewStep.{ViewMakesWeak}
+use Rattle.mm_model.specs.Views.ViewStep.{ViewEnds, ViewIsPlain, one_more_counted}
 
 -- it refuses as full, or it refuses nothing
 record RefusesAtMostFull (reply : Reply) : Type 0 where

@@ -13,15 +13,15 @@ use Rattle.mm_model.specs.declared.refusal.Refusal.{Refusal}
 use Rattle.mm_model.specs.declared.refusal.Refusal.TheVariants as refusals
 use Rattle.mm_model.specs.declared.reply.Reply.TheVariants as replies
 use Rattle.mm_model.specs.Words.{falls}
-use Rattle.mm_model.specs.ByBase.{Begins, Based}
-use Rattle.mm_model.specs.ObjectView.{ObjectView}
-use Rattle.mm_model.specs.View.{View}
-use Rattle.mm_model.specs.ViewWords.{resolved_in}
-use Rattle.mm_model.specs.ViewEffect.{ViewEffect, view_pushes, view_look_effect, view_map_reply}
-use Rattle.mm_model.specs.ViewStep.{IsViewRow}
+use Rattle.mm_model.specs.Views.ByBase.{Begins, Based}
+use Rattle.mm_model.specs.Views.ObjectView.{ObjectView}
+use Rattle.mm_model.specs.Views.View.{View}
+use Rattle.mm_model.specs.Views.ViewWords.{resolved_in}
+use Rattle.mm_model.specs.Views.ViewEffect.{ViewEffect, view_pushes, view_look_effect, view_map_reply}
+use Rattle.mm_model.specs.Views.ViewStep.{IsViewRow}
 use Rattle.mm_model.proofs.Places.Falling.{falls_from, falls_within}
 use Rattle.mm_model.proofs.View.GoodRoom.{resolved_in-falls, resolved_in-begins}
-use Rattle.mm_model.proofs.View.MappedEntries.{begins_mapped, mapped_begins}
+use Rattle.mm_model.proofs.View.ByBase.MappedEntries.{begins_mapped, mapped_begins}
 use Rattle.mm_object.specs.declared.heap.Found.{Found}
 use Rattle.mm_object.specs.Object.{StoredObject, view_of_stored, shape_of}
 use Rattle.mm_object.specs.Heap.{Heap, IsSound, Covers, FallsInNone}

@@ -6,15 +6,15 @@ use Rattle.mm_model.specs.declared.command.Command.TheVariants as commands
 use Rattle.mm_model.specs.declared.refusal.Refusal.{Refusal}
 use Rattle.mm_model.specs.declared.refusal.Refusal.TheVariants as refusals
 use Rattle.mm_model.specs.declared.reply.Reply.TheVariants as replies
-use Rattle.mm_model.specs.ViewEffect.{view_pushed, view_pushes}
-use Rattle.mm_model.specs.ViewStep.{IsViewRow}
+use Rattle.mm_model.specs.Views.ViewEffect.{view_pushed, view_pushes}
+use Rattle.mm_model.specs.Views.ViewStep.{IsViewRow}
 use Rattle.mm_roots.specs.Stack.{Cells, pushed, popped}
 use Rattle.mm_gc.specs.Gc.{Gc, view_of_gc}
 use Rattle.mm_gc.specs.Kept.{KeepsGc}
 use Rattle.mm_gc.specs.Rows.{Answers}
 use Rattle.mm_gc.specs.Replies.{done_reply, word_reply}
 use Rattle.mm_gc.specs.Refused.{CellAnswer, PushAnswer}
-use Rattle.mm_gc.proofs.Keeps.{keeps-stack}
+use Rattle.mm_gc.proofs.Keeping.Keeps.{keeps-stack}
 use Rattle.mm_gc.proofs.Refusals.{RefusesIn, row-refused}
 use Rattle.mm_gc.proofs.Rows.Cells.{HasRoomOnStack, IsFull, has_room, is_full, push-row, pop-row}
 use Rattle.mm_gc.proofs.Shown.{row-of, row-shows}

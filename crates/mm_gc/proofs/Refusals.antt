@@ -5,10 +5,10 @@ use Rattle.mm_model.specs.declared.refusal.Refusal.{Refusal}
 use Rattle.mm_model.specs.declared.reply.Reply.TheVariants as replies
 use Rattle.mm_model.specs.declared.line.Line.{Line}
 use Rattle.mm_model.specs.Refusing.{first_refusal, refusal_row}
-use Rattle.mm_model.specs.View.{View}
-use Rattle.mm_model.specs.ViewTests.{tests_of_view}
-use Rattle.mm_model.specs.ViewEffect.{ViewEffect}
-use Rattle.mm_model.specs.ViewStep.{IsViewRow, ViewRowUnless, ViewCarries}
+use Rattle.mm_model.specs.Views.View.{View}
+use Rattle.mm_model.specs.Views.ViewTests.{tests_of_view}
+use Rattle.mm_model.specs.Views.ViewEffect.{ViewEffect}
+use Rattle.mm_model.specs.Views.ViewStep.{IsViewRow, ViewRowUnless, ViewCarries}
 
 -- the refusal whose test is the first that holds, if one does
 pub data Refuses : List (Bool × Refusal) → Option Refusal → Type 0 where

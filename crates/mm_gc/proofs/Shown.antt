@@ -10,13 +10,13 @@ use Rattle.mm_model.specs.Step.{IsRow, RowUnless}
 use Rattle.mm_model.specs.Refusing.{refusal}
 use Rattle.mm_model.specs.After.{after}
 use Rattle.mm_model.specs.declared.refusal.Refusal.{Refusal}
-use Rattle.mm_model.specs.View.{View, Shows}
-use Rattle.mm_model.specs.ViewStep.{IsViewRow, IsViewStep}
-use Rattle.mm_model.specs.GoodView.{IsGoodView}
+use Rattle.mm_model.specs.Views.View.{View, Shows}
+use Rattle.mm_model.specs.Views.ViewStep.{IsViewRow, IsViewStep}
+use Rattle.mm_model.specs.Views.GoodView.{IsGoodView}
 use Rattle.mm_model.proofs.Good.Steps.{carries_stays}
 use Rattle.mm_model.proofs.View.Shown.{shown-is, view_of-shows}
-use Rattle.mm_model.proofs.View.Rows.{row-shown}
-use Rattle.mm_model.proofs.View.Steps.{step-shown}
+use Rattle.mm_model.proofs.View.Commands.Rows.{row-shown}
+use Rattle.mm_model.proofs.View.Commands.Steps.{step-shown}
 use Rattle.mm_model.proofs.View.GoodViews.{shown_is_good}
 use Rattle.mm_laws.proofs.Turning.Lawful.{lawful-step}
 use Rattle.mm_gc.specs.Rows.{IsAnswered, IsRowOf, IsStepOf}

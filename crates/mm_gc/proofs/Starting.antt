@@ -6,14 +6,14 @@ use Rattle.std.proofs.lemmas.List.FromFn.{length-range_with_len}
 use Rattle.std.specs.Prelude.{slice_get, if◌then◌else◌}
 use Rattle.std.specs.List.{fold, range_with_len}
 use Rattle.mm_model.specs.declared.settings.Settings.{Settings}
-use Rattle.mm_model.specs.Limits.{IsWithinLimits}
+use Rattle.mm_model.specs.Places.Limits.{IsWithinLimits}
 use Rattle.mm_model.specs.Areas.{most_areas}
-use Rattle.mm_model.specs.ByBase.{Begins, Based, based_from}
-use Rattle.mm_model.specs.Place.{page_end}
+use Rattle.mm_model.specs.Views.ByBase.{Begins, Based, based_from}
+use Rattle.mm_model.specs.Places.Place.{page_end}
 use Rattle.mm_model.specs.State.{empty_state, totals_of}
-use Rattle.mm_model.specs.ObjectView.{ObjectView, ObjectsByBase, piece_of_object, pieces_of_objects}
-use Rattle.mm_model.specs.View.{CycleView, Shows, seen_at, seen_objects}
-use Rattle.mm_model.specs.ViewWords.{piece_of_area}
+use Rattle.mm_model.specs.Views.ObjectView.{ObjectView, ObjectsByBase, piece_of_object, pieces_of_objects}
+use Rattle.mm_model.specs.Views.View.{CycleView, Shows, seen_at, seen_objects}
+use Rattle.mm_model.specs.Views.ViewWords.{piece_of_area}
 use Rattle.mm_model.proofs.Good.Starting.{empty_is_good}
 use Rattle.mm_words.specs.Piece as pieces
 use Rattle.mm_words.specs.Arena.{Arena, blank_piece, with_cut}

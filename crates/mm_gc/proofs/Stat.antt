@@ -4,10 +4,10 @@ use Rattle.std.specs.List.{count_by, fold, range_with_len}
 use Rattle.mm_model.specs.declared.command.Command.TheVariants as commands
 use Rattle.mm_model.specs.declared.reply.Reply.TheVariants as replies
 use Rattle.mm_model.specs.declared.reply.Stat.{Stat}
-use Rattle.mm_model.specs.Place.{page_end, is_vacant}
-use Rattle.mm_model.specs.View.{View}
-use Rattle.mm_model.specs.ViewEffect.{view_stat, view_free_pages}
-use Rattle.mm_model.specs.ViewWords.{view_region_pages, outside_references}
+use Rattle.mm_model.specs.Places.Place.{page_end, is_vacant}
+use Rattle.mm_model.specs.Views.View.{View}
+use Rattle.mm_model.specs.Views.ViewEffect.{view_stat, view_free_pages}
+use Rattle.mm_model.specs.Views.ViewWords.{view_region_pages, outside_references}
 use Rattle.mm_model.proofs.View.GoodCounts.{shown_totals}
 use Rattle.mm_model.proofs.View.GoodRoom.{few_objects}
 use Rattle.mm_pages.specs.Pages.{Pages, TellsFreePages}
@@ -21,7 +21,7 @@ use Rattle.mm_gc.specs.Rows.{Answers}
 use Rattle.mm_gc.proofs.Placing.Vacant.{vacant_tells}
 use Rattle.mm_gc.proofs.Rows.Reading.{stat-row}
 use Rattle.mm_gc.proofs.Shown.{row-of, showing-good}
-use Rattle.mm_gc.proofs.ZeroCount.{entries_are_zero_count}
+use Rattle.mm_gc.proofs.Frees.ZeroCount.{entries_are_zero_count}
 
 -- so many pages pass each test that tells which of them are free
 abbrev pub AreFreePages : Pages → ℕ → Type 0

@@ -6,10 +6,10 @@ use Rattle.mm_model.specs.declared.refusal.Refusal.{Refusal}
 use Rattle.mm_model.specs.declared.refusal.Refusal.TheVariants as refusals
 use Rattle.mm_model.specs.declared.reply.Put.{Put}
 use Rattle.mm_model.specs.Words.{CountedSlot}
-use Rattle.mm_model.specs.View.{View, AreaView}
-use Rattle.mm_model.specs.ViewWords.{area_in, cell_kind_of, outside_references, view_refuses_word}
-use Rattle.mm_model.specs.ViewStore.{view_area_put, view_store_reply}
-use Rattle.mm_model.specs.GoodView.{AreTight, IsGoodView}
+use Rattle.mm_model.specs.Views.View.{View, AreaView}
+use Rattle.mm_model.specs.Views.ViewWords.{area_in, cell_kind_of, outside_references, view_refuses_word}
+use Rattle.mm_model.specs.Views.ViewStore.{view_area_put, view_store_reply}
+use Rattle.mm_model.specs.Views.GoodView.{AreTight, IsGoodView}
 use Rattle.mm_object.specs.declared.slot.Slot.{Slot}
 use Rattle.mm_object.specs.declared.slot.Slot.TheVariants as slots
 use Rattle.mm_object.specs.Object.{StoredObjects, views_of}

@@ -1,6 +1,6 @@
 -- What is left of a region once it is emptied.
 use Rattle.std.specs.Prelude.{◌≡◌, ℕ, ◌+◌, ◌*◌, ◌≤◌, ◌<◌, List}
-use Rattle.mm_model.specs.ByBase.{Begins}
+use Rattle.mm_model.specs.Views.ByBase.{Begins}
 use Rattle.mm_pages.specs.Pages.{Pages}
 use Rattle.mm_pages.specs.Parked.{AreParked, AreAllParked}
 use Rattle.mm_object.specs.Object.{StoredObject, StoredObjects}

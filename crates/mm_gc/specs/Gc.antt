@@ -3,10 +3,10 @@ use Rattle.std.specs.Prelude.{ℕ, ◌-◌, ◌*◌, ◌≤◌, if◌then◌else
 use Rattle.std.specs.List.{fold}
 use Rattle.mm_model.specs.declared.line.Totals.{Totals}
 use Rattle.mm_model.specs.declared.settings.Settings.{Settings}
-use Rattle.mm_model.specs.Place.{Piece, page_end}
-use Rattle.mm_model.specs.ObjectView.{ObjectsByBase, pieces_of_objects}
-use Rattle.mm_model.specs.View.{View, AreaView, CycleView}
-use Rattle.mm_model.specs.ViewWords.{piece_of_area}
+use Rattle.mm_model.specs.Places.Place.{Piece, page_end}
+use Rattle.mm_model.specs.Views.ObjectView.{ObjectsByBase, pieces_of_objects}
+use Rattle.mm_model.specs.Views.View.{View, AreaView, CycleView}
+use Rattle.mm_model.specs.Views.ViewWords.{piece_of_area}
 use Rattle.mm_words.specs.Location.{Location}
 use Rattle.mm_object.specs.Object.{views_of}
 use Rattle.mm_roots.specs.Views.{views_of_areas}

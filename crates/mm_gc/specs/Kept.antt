@@ -1,7 +1,7 @@
 -- What holds of a heap between its calls.
 use Rattle.std.specs.Prelude.{◌≡◌, ℕ, ◌+◌, ◌-◌, ◌*◌, ◌≤◌, true, false, None, slice_index}
-use Rattle.mm_model.specs.Limits.{IsWithinLimits}
-use Rattle.mm_model.specs.ViewWords.{outside_references}
+use Rattle.mm_model.specs.Places.Limits.{IsWithinLimits}
+use Rattle.mm_model.specs.Views.ViewWords.{outside_references}
 use Rattle.mm_pages.specs.Pages.{IsSoundHeap}
 use Rattle.mm_pages.specs.Parked.{AreParked, AreAllParked}
 use Rattle.mm_object.specs.Heap.{IsSound, FitsHeap, IsAtEnd}

@@ -1,5 +1,6 @@
 -- What takes room: an object, a weak object for a target, or an area.
-use Rattle.std.specs.Prelude.{◌≡◌, ◌≢◌, ◌<◌, ◌-◌, ◌^◌, ⊤, ℕ, false, if◌then◌else◌, IsTrue, List, length, Option, Some, None}
+use Rattle.std.specs.Prelude.{◌≡◌, ◌≢◌, ◌<◌, ◌-◌, ◌^◌, ⊤, ℕ, false, if◌then◌else◌, IsTrue, List, length, Option, Some}
+use Rattle.std.specs.Prelude.{None}
 use Rattle.mm_model.specs.declared.object.Kind.{Kind}
 use Rattle.mm_model.specs.declared.line.Line.{Line}
 use Rattle.mm_model.specs.declared.command.Command.{Command}
@@ -7,8 +8,8 @@ use Rattle.mm_model.specs.declared.command.Command.TheVariants as commands
 use Rattle.mm_model.specs.Areas.{most_areas}
 use Rattle.mm_model.specs.Object.{is_weak}
 use Rattle.mm_model.specs.Refusing.{is_bad_shape, is_bad_area}
-use Rattle.mm_model.specs.ByBase.{Begins}
-use Rattle.mm_model.specs.ObjectView.{ObjectView, names_at}
+use Rattle.mm_model.specs.Views.ByBase.{Begins}
+use Rattle.mm_model.specs.Views.ObjectView.{ObjectView, names_at}
 use Rattle.mm_object.specs.Object.{StoredObject, StoredObjects}
 use Rattle.mm_gc.specs.Gc.{Gc, view_of_gc}
 use Rattle.mm_gc.specs.Rows.{Kept, WritesLines}
@@ -17,11 +18,11 @@ use Rattle.mm_model.specs.declared.object.Shape.{Shape}
 use Rattle.mm_model.specs.declared.reply.Reply.{Reply}
 use Rattle.mm_model.specs.declared.reply.Reply.TheVariants as replies
 use Rattle.mm_model.specs.declared.refusal.Refusal.TheVariants as refusals
-use Rattle.mm_model.specs.SizeClass.{object_bytes, area_bytes}
-use Rattle.mm_model.specs.Place.{Family, Objects, Areas}
-use Rattle.mm_model.specs.View.{View}
-use Rattle.mm_model.specs.ViewEffect.{ViewEffect, view_new_effect, view_weak_effect, view_area_effect}
-use Rattle.mm_model.specs.ViewStep.{ViewMakes, view_place_now, view_place_grown}
+use Rattle.mm_model.specs.Places.SizeClass.{object_bytes, area_bytes}
+use Rattle.mm_model.specs.Places.Place.{Family, Objects, Areas}
+use Rattle.mm_model.specs.Views.View.{View}
+use Rattle.mm_model.specs.Views.ViewEffect.{ViewEffect, view_new_effect, view_weak_effect, view_area_effect}
+use Rattle.mm_model.specs.Views.ViewStep.{ViewMakes, view_place_now, view_place_grown}
 use Rattle.mm_gc.specs.declared.wanted.Wanted.{Wanted}
 use Rattle.mm_gc.specs.declared.wanted.Wanted.TheVariants as wanted
 use Rattle.mm_gc.specs.declared.wanted.Made.{Made}

@@ -2,10 +2,10 @@
 use Rattle.std.specs.Prelude.{◌≡◌, ℕ, List, [], ◌∷◌, length, Option, Some, None}
 use Rattle.mm_model.specs.declared.line.Line.{Line}
 use Rattle.mm_model.specs.declared.line.Line.TheVariants as lines
-use Rattle.mm_model.specs.ByBase.{Based}
-use Rattle.mm_model.specs.ObjectView.{ObjectView}
-use Rattle.mm_model.specs.View.{View}
-use Rattle.mm_model.specs.ViewStep.{view_part_slots, view_part_done, ViewMayScan, ViewScans, NoGray}
+use Rattle.mm_model.specs.Views.ByBase.{Based}
+use Rattle.mm_model.specs.Views.ObjectView.{ObjectView}
+use Rattle.mm_model.specs.Views.View.{View}
+use Rattle.mm_model.specs.Views.ViewStep.{view_part_slots, view_part_done, ViewMayScan, ViewScans, NoGray}
 use Rattle.mm_gc.specs.Rows.{Kept, WritesLines}
 
 -- a part of so many slots of one object is scanned

@@ -1,9 +1,9 @@
 -- The pieces of a region as the layers keep them: what is parked in its page heap are the runs of objects and areas.
 use Rattle.std.specs.Prelude.{◌≡◌, ℕ, List, slice_index}
 use Rattle.std.specs.List.{Contains}
-use Rattle.mm_model.specs.Place.{Family, Objects, Areas, Piece}
+use Rattle.mm_model.specs.Places.Place.{Family, Objects, Areas, Piece}
 use Rattle.mm_model.specs.Good.{IsPlaced}
-use Rattle.mm_model.specs.ByBase as entries
+use Rattle.mm_model.specs.Views.ByBase as entries
 use Rattle.mm_pages.specs.Pages.{Pages, IsSoundHeap}
 use Rattle.mm_pages.specs.Parked.{AreParked, AreAllParked}
 use Rattle.mm_cells.specs.Cells.{Taken, Cells, Begins, IsSoundCells}

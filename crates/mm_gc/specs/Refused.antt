@@ -3,8 +3,8 @@ use Rattle.std.specs.Prelude.{◌≡◌, ℕ, ◌<◌, ◌≤◌, IsTrue, List, 
 use Rattle.mm_model.specs.declared.refusal.Refusal.{Refusal}
 use Rattle.mm_model.specs.declared.refusal.Refusal.TheVariants as refusals
 use Rattle.mm_model.specs.Words.{falls}
-use Rattle.mm_model.specs.ByBase.{Begins}
-use Rattle.mm_model.specs.ViewWords.{view_meant}
+use Rattle.mm_model.specs.Views.ByBase.{Begins}
+use Rattle.mm_model.specs.Views.ViewWords.{view_meant}
 use Rattle.mm_object.specs.declared.heap.Found.{Found}
 use Rattle.mm_object.specs.Object.{StoredObject, shape_of, view_of_stored}
 use Rattle.mm_gc.specs.declared.reading.Meant.{Meant}

@@ -1,8 +1,8 @@
 -- What the calls of a region change, and what stays.
 use Rattle.std.specs.Prelude.{◌≡◌, ℕ, ◌+◌, ◌*◌, ◌≤◌, false, List, length, take, IsTrue}
-use Rattle.mm_model.specs.ByBase.{Begins, changed}
+use Rattle.mm_model.specs.Views.ByBase.{Begins, changed}
 use Rattle.mm_model.specs.Phase.{IsAscending, lists}
-use Rattle.mm_model.specs.ViewPhase.{view_after_release}
+use Rattle.mm_model.specs.Views.ViewPhase.{view_after_release}
 use Rattle.mm_object.specs.Object.{StoredObject, views_of}
 use Rattle.mm_object.specs.Heap.{Heap}
 use Rattle.mm_weak.specs.Links.{IsLinked}

@@ -9,11 +9,11 @@ use Rattle.mm_model.specs.Good.{IsGood}
 use Rattle.mm_model.specs.Effect.{Effect}
 use Rattle.mm_model.specs.Step.{IsRow, IsStep}
 use Rattle.mm_model.specs.After.{after}
-use Rattle.mm_model.specs.Faithful.{IsLawful}
-use Rattle.mm_model.specs.View.{View, Shows}
-use Rattle.mm_model.specs.ViewStep.{IsViewRow, IsViewStep}
-use Rattle.mm_model.specs.Journal.{Writes}
-use Rattle.mm_model.specs.Spelling.{spelling_of}
+use Rattle.mm_model.specs.Logs.Faithful.{IsLawful}
+use Rattle.mm_model.specs.Views.View.{View, Shows}
+use Rattle.mm_model.specs.Views.ViewStep.{IsViewRow, IsViewStep}
+use Rattle.mm_model.specs.Logs.Journal.{Writes}
+use Rattle.mm_model.specs.Logs.Spelling.{spelling_of}
 use Rattle.mm_gc.specs.Gc.{Gc, view_of_gc}
 
 -- what a journal keeps, where it tells it, and whether it is broken
@@ -50,8 +50,8 @@ pub record Tells (old new : Gc) (command : Command) (reply : Reply) (before afte
   pub written : WritesLines before after log
 
 -- The lines of a group are a step of a state, which stays good, and the heap shows the state after it. The step keeps
--- the laws for one step: no phase frees a protected object, a full collection leaves exactly what is reached, the end of
--- a cycle frees exactly what is neither marked nor reached, and a weak reference is empty exactly once its target is
+-- the laws for one step: no phase frees a protected object, a full collection leaves exactly what is reached, the end
+-- of a cycle frees exactly what is neither marked nor reached, and a weak reference is empty exactly once its target is
 -- gone.
 pub record IsStepOf (new : View) (command : Command) (group : List Line) (a : State) : Type 0 where
   pub step : IsStep a command group (after a command group)

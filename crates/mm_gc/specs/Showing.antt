@@ -1,7 +1,7 @@
 -- A view that shows a good state.
 use Rattle.mm_model.specs.State.{State}
 use Rattle.mm_model.specs.Good.{IsGood}
-use Rattle.mm_model.specs.View.{View, Shows}
+use Rattle.mm_model.specs.Views.View.{View, Shows}
 
 pub record IsShowing (view : View) : Type 0 where
   pub state : State

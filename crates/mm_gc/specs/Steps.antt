@@ -1,12 +1,12 @@
 -- How many steps the calls of a heap count at most.
 use Rattle.std.specs.Prelude.{◌≤◌, ◌<◌, ◌+◌, ◌*◌, ◌^◌, ◌||◌, ℕ, if◌then◌else◌, List, length, Option, None, Some}
 use Rattle.std.specs.List.{sum_by}
-use Rattle.mm_model.specs.Marking.{is_black}
+use Rattle.mm_model.specs.Sets.Marking.{is_black}
 use Rattle.mm_model.specs.Phase.{lists}
-use Rattle.mm_model.specs.ByBase.{Based, based}
-use Rattle.mm_model.specs.ObjectView.{ObjectView, ObjectsByBase, scanned_words_of}
-use Rattle.mm_model.specs.SetsByBase.{AreBasesAt, IsReapableAt, IsFreedAtFinishAt}
-use Rattle.mm_model.specs.ViewWords.{outside_references, marking_words}
+use Rattle.mm_model.specs.Views.ByBase.{Based, based}
+use Rattle.mm_model.specs.Views.ObjectView.{ObjectView, ObjectsByBase, scanned_words_of}
+use Rattle.mm_model.specs.Views.SetsByBase.{AreBasesAt, IsReapableAt, IsFreedAtFinishAt}
+use Rattle.mm_model.specs.Views.ViewWords.{outside_references, marking_words}
 use Rattle.mm_mark.specs.Marker.{Marking, marking}
 use Rattle.mm_roots.specs.declared.area_shape.AreaShape.{AreaShape}
 use Rattle.mm_roots.specs.Areas.{area_at}

@@ -4,12 +4,12 @@ use Rattle.mm_model.specs.declared.refusal.Refusal.{Refusal}
 use Rattle.mm_model.specs.declared.refusal.Refusal.TheVariants as refusals
 use Rattle.mm_model.specs.declared.reply.Put.{Put}
 use Rattle.mm_model.specs.Words.{SlotKind}
-use Rattle.mm_model.specs.ByBase.{Based}
-use Rattle.mm_model.specs.ObjectView.{ObjectView, ObjectsByBase, slot_kind_of}
-use Rattle.mm_model.specs.View.{View, CycleView}
-use Rattle.mm_model.specs.ViewWords.{view_refuses_word}
-use Rattle.mm_model.specs.ViewStore.{view_recounted, view_with_word, view_store_reply}
-use Rattle.mm_model.specs.GoodView.{HoldTight}
+use Rattle.mm_model.specs.Views.ByBase.{Based}
+use Rattle.mm_model.specs.Views.ObjectView.{ObjectView, ObjectsByBase, slot_kind_of}
+use Rattle.mm_model.specs.Views.View.{View, CycleView}
+use Rattle.mm_model.specs.Views.ViewWords.{view_refuses_word}
+use Rattle.mm_model.specs.Views.ViewStore.{view_recounted, view_with_word, view_store_reply}
+use Rattle.mm_model.specs.Views.GoodView.{HoldTight}
 use Rattle.mm_object.specs.Object.{views_of}
 use Rattle.mm_object.specs.Heap.{Heap}
 use Rattle.mm_count.specs.Table.{Table}

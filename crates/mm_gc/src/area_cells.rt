@@ -12,7 +12,7 @@ ghost use Rattle.mm_gc.specs.AreaCells.{AreaStore, ShowsCell, IsCellStored, IsSt
 ghost use Rattle.mm_gc.specs.AreaCells.{HasSlotAt, CellStoreAnswer, CanLower, CanLowerAll, HasCells, outside_with};
 ghost use Rattle.mm_model.specs.Store.{is_counted_slot};
 ghost use Rattle.mm_model.specs.declared.reply.Put.TheVariants.{Tight};
-ghost use Rattle.mm_model.specs.ViewWords.{begins_counted_in, cell_kind_of};
+ghost use Rattle.mm_model.specs.Views.ViewWords.{begins_counted_in, cell_kind_of};
 ghost use Rattle.mm_roots.specs.Areas.{HasCell, IsBeside, area_at};
 ghost use Rattle.mm_roots.specs.declared.area_shape.AreaShape.{AreaShape};
 ghost use Rattle.mm_roots.specs.Views.{area_words, slot_in, views_of_areas, with_cell};

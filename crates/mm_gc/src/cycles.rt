@@ -1,7 +1,7 @@
 // Cycles of marking, which other commands come between.
 ghost use Rattle.std.specs.Prelude.{◌≡◌, ◌≤◌, ◌+◌, ◌*◌, ℕ, true, length, unwrap_or};
 ghost use Rattle.mm_model.specs.declared.command.Command.TheVariants as commands;
-ghost use Rattle.mm_model.specs.ViewWords.{marking_words};
+ghost use Rattle.mm_model.specs.Views.ViewWords.{marking_words};
 ghost use Rattle.mm_mark.specs.Stale.{HasFewStale, IsPaid};
 ghost use Rattle.mm_gc.specs.Gc.{view_of_gc};
 ghost use Rattle.mm_gc.specs.Phases.{ScanAnswer, ScansTo};

@@ -3,12 +3,12 @@ ghost use Rattle.std.specs.Prelude.{◌≡◌, ◌≤◌, ◌<◌, ◌^◌, ◌+
 ghost use Rattle.std.specs.Prelude.{take};
 ghost use Rattle.mm_model.specs.declared.line.Phase.TheVariants as phases;
 ghost use Rattle.mm_model.specs.declared.object.Colour.TheVariants.{White};
-ghost use Rattle.mm_model.specs.ByBase.{changed};
-ghost use Rattle.mm_model.specs.GoodView.{AreWhite, HoldTight};
-ghost use Rattle.mm_model.specs.SetsByBase.{AreBasesAt, IsReapableAt, IsUnreachedAt, IsFreedAtFinishAt};
-ghost use Rattle.mm_model.specs.View.{View};
-ghost use Rattle.mm_model.specs.ViewEffect.{with_colour};
-ghost use Rattle.mm_model.specs.ViewPhase.{view_phase_lines, view_after_release};
+ghost use Rattle.mm_model.specs.Views.ByBase.{changed};
+ghost use Rattle.mm_model.specs.Views.GoodView.{AreWhite, HoldTight};
+ghost use Rattle.mm_model.specs.Views.SetsByBase.{AreBasesAt, IsReapableAt, IsUnreachedAt, IsFreedAtFinishAt};
+ghost use Rattle.mm_model.specs.Views.View.{View};
+ghost use Rattle.mm_model.specs.Views.ViewEffect.{with_colour};
+ghost use Rattle.mm_model.specs.Views.ViewPhase.{view_phase_lines, view_after_release};
 ghost use Rattle.mm_words.specs.Location.{location_of};
 ghost use Rattle.mm_object.specs.Object.{views_of};
 ghost use Rattle.mm_object.specs.Heap.{IsSound};
@@ -121,8 +121,8 @@ pub(crate) fn forget_freed<L: Ledger>(marker: &mut Marker, heap: &Heap, steps: &
     }
 }
 
-/// Frees the counted objects that only counted slots of each other hold, and that no stack word names. It answers how
-/// many it freed.
+/// Frees the reapable objects: counted ones that aren't sticky, that no stack word names, and that only counted slots
+/// of reapable objects hold. It answers how many it freed.
 pub(crate) fn free_reapable<J: Journal, L: Ledger>(
     region: &mut Region,
     count: &mut ZeroTable,

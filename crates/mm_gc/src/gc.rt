@@ -1,9 +1,9 @@
 // The whole heap, and what is told of it.
 ghost use Rattle.std.specs.Prelude.{◌≡◌, ◌+◌, ◌-◌, ◌*◌, ◌≤◌, IfOk};
 ghost use Rattle.mm_model.specs.State.{empty_state};
-ghost use Rattle.mm_model.specs.Limits.{IsWithinLimits};
-ghost use Rattle.mm_model.specs.View.{Shows};
-ghost use Rattle.mm_model.specs.ViewWords.{view_region_pages};
+ghost use Rattle.mm_model.specs.Places.Limits.{IsWithinLimits};
+ghost use Rattle.mm_model.specs.Views.View.{Shows};
+ghost use Rattle.mm_model.specs.Views.ViewWords.{view_region_pages};
 ghost use Rattle.mm_object.specs.Heap.{IsSound};
 ghost use Rattle.mm_roots.specs.Areas.{IsSoundAreas, IsBeside};
 ghost use Rattle.mm_weak.specs.Links.{IsLinked};
@@ -184,8 +184,8 @@ impl Gc {
         self.threshold
     }
 
-    /// How many pages the region has: at least those of the settings, and as many as its objects and areas need. No more
-    /// words are cut for its memory, and no other page is handed out.
+    /// How many pages the region has: at least those of the settings, and as many as its objects and areas need. No
+    /// more words are cut for its memory, and no other page is handed out.
     pub fn pages(&self) -> u32
         ensures value { result ≡ view_region_pages (view_of_gc self.now) }
         ensures memory { self.now.region.heap.memory.size ≡ 1024 * result }

@@ -14,7 +14,8 @@ use mm_sweep::Journal;
 use std::sync::ledger::Ledger;
 
 impl Gc {
-    /// Frees the counted objects that only counted slots of each other hold, and that no stack word names.
+    /// Frees the reapable objects: counted ones that aren't sticky, that no stack word names, and that only counted
+    /// slots of reapable objects hold.
     pub fn reap<J: Journal, L: Ledger>(&mut self, journal: &mut J, steps: &mut Steps<L>)
         ensures row { Tells self.old self.new commands.Reap replies.Done
             (record { bytes = J.kept journal.old; broken = J.is_broken journal.old })

@@ -2,8 +2,8 @@
 ghost use Rattle.std.specs.Prelude.{◌≡◌, ◌≢◌, ◌<◌, ◌-◌, ◌^◌, ◌⊎◌, ℕ, not, IsTrue, length, None};
 ghost use Rattle.std.specs.Option.{option_map};
 ghost use Rattle.mm_model.specs.Object.{is_counted};
-ghost use Rattle.mm_model.specs.ByBase.{Begins};
-ghost use Rattle.mm_model.specs.ViewEffect.{birth_colour};
+ghost use Rattle.mm_model.specs.Views.ByBase.{Begins};
+ghost use Rattle.mm_model.specs.Views.ViewEffect.{birth_colour};
 ghost use Rattle.mm_object.specs.Object.{StoredObject, views_of};
 ghost use Rattle.mm_object.specs.Heap.{IsObject, IsSound};
 ghost use Rattle.mm_roots.specs.Stack.{pushed};

@@ -3,12 +3,12 @@ ghost use Rattle.std.specs.Prelude.{◌≡◌, ◌==◌, ◌||◌, ◌+◌, ◌�
 ghost use Rattle.mm_model.specs.declared.command.Command.TheVariants as commands;
 ghost use Rattle.mm_model.specs.declared.reply.Put.TheVariants.{Tight, Loose};
 ghost use Rattle.mm_model.specs.Store.{is_counted_slot};
-ghost use Rattle.mm_model.specs.ByBase.{Begins};
-ghost use Rattle.mm_model.specs.ObjectView.{ObjectView, slot_kind_of};
-ghost use Rattle.mm_model.specs.View.{View};
-ghost use Rattle.mm_model.specs.ViewStore.{view_barrier};
-ghost use Rattle.mm_model.specs.ViewWords.{outside_references};
-ghost use Rattle.mm_model.specs.ViewWords.{begins_counted_in, falls_in_counted_of};
+ghost use Rattle.mm_model.specs.Views.ByBase.{Begins};
+ghost use Rattle.mm_model.specs.Views.ObjectView.{ObjectView, slot_kind_of};
+ghost use Rattle.mm_model.specs.Views.View.{View};
+ghost use Rattle.mm_model.specs.Views.ViewStore.{view_barrier};
+ghost use Rattle.mm_model.specs.Views.ViewWords.{outside_references};
+ghost use Rattle.mm_model.specs.Views.ViewWords.{begins_counted_in, falls_in_counted_of};
 ghost use Rattle.mm_object.specs.Object.{StoredObject, view_of_stored, views_of};
 ghost use Rattle.mm_object.specs.Heap.{HasSlot, IsSound};
 ghost use Rattle.mm_count.specs.Table.{Table, IsSameTable};

@@ -1,6 +1,6 @@
 -- The fault of a trace that stands behind another one.
 use Rattle.std.specs.Prelude.{ℕ, ◌+◌}
-use Rattle.mm_model.specs.Trace.{FaultAt}
+use Rattle.mm_model.specs.Logs.Trace.{FaultAt}
 
 -- the same fault, where so many lines come before it
 abbrev pub raised_by : ℕ → FaultAt → FaultAt

@@ -5,10 +5,10 @@ ghost use Rattle.mm_model.specs.declared.command.Command.TheVariants as commands
 ghost use Rattle.mm_model.specs.declared.line.Line.{Line};
 ghost use Rattle.mm_model.specs.Object.{Object};
 ghost use Rattle.mm_model.specs.State.{State, Lives};
-ghost use Rattle.mm_model.specs.Reached.{IsReached};
-ghost use Rattle.mm_model.specs.Marking.{IsFreedAtFinish, IsMarked};
-ghost use Rattle.mm_model.specs.Throughout.{IsThroughout};
-ghost use Rattle.mm_model.specs.Course.{IsCourse, IsGone, latest};
+ghost use Rattle.mm_model.specs.Sets.Reached.{IsReached};
+ghost use Rattle.mm_model.specs.Sets.Marking.{IsFreedAtFinish, IsMarked};
+ghost use Rattle.mm_model.specs.Logs.Throughout.{IsThroughout};
+ghost use Rattle.mm_model.specs.Logs.Course.{IsCourse, IsGone, latest};
 ghost use Rattle.mm_model.specs.Good.{IsGood};
 ghost use Rattle.mm_model.specs.Step.{IsStep};
 

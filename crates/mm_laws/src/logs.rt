@@ -8,13 +8,13 @@ ghost use Rattle.mm_model.specs.declared.reply.Reply.TheVariants as replies;
 ghost use Rattle.mm_model.specs.declared.settings.Settings.{Settings};
 ghost use Rattle.mm_model.specs.State.{State, empty_state};
 ghost use Rattle.mm_model.specs.Step.{IsStep};
-ghost use Rattle.mm_model.specs.Log.{IsRun, IsLegal};
+ghost use Rattle.mm_model.specs.Logs.Log.{IsRun, IsLegal};
 ghost use Rattle.mm_laws.specs.Logs.{IsCutBehind};
-ghost use Rattle.mm_model.specs.Turns.{Turn, AreTurns, AreSteps, reply_in};
+ghost use Rattle.mm_model.specs.Logs.Turns.{Turn, AreTurns, AreSteps, reply_in};
 ghost use Rattle.mm_model.specs.Good.{IsGood};
-ghost use Rattle.mm_model.specs.Spelling.{spelling_of};
+ghost use Rattle.mm_model.specs.Logs.Spelling.{spelling_of};
 ghost use Rattle.mm_laws.specs.Lines.{IsSpelledInFull};
-ghost use Rattle.mm_model.specs.Faithful.{IsLawful, IsFaithfulTurn, IsFaithful};
+ghost use Rattle.mm_model.specs.Logs.Faithful.{IsLawful, IsFaithfulTurn, IsFaithful};
 
 /// A legal log keeps all that is promised of logs, where the least number of pages isn't above the greatest.
 pub fn legal_logs_are_faithful()

@@ -1,11 +1,11 @@
 // Laws on where the next piece goes.
 ghost use Rattle.std.specs.Prelude.{◌≡◌, ℕ, ◌*◌, ◌<◌, ◌≤◌, ◌↔◌, Option, Some};
 ghost use Rattle.std.specs.List.{Contains};
-ghost use Rattle.mm_model.specs.SizeClass.{class_sizes, extent_of};
+ghost use Rattle.mm_model.specs.Places.SizeClass.{class_sizes, extent_of};
 ghost use Rattle.mm_model.specs.State.{State};
-ghost use Rattle.mm_model.specs.Place.{Family, live_pieces, place_of};
+ghost use Rattle.mm_model.specs.Places.Place.{Family, live_pieces, place_of};
 ghost use Rattle.mm_model.specs.Good.{IsPlaced};
-ghost use Rattle.mm_model.specs.Lowest.{piece_of, IsFreeFor, IsRun, IsFreeCell, IsLowestOf, IsPreferred};
+ghost use Rattle.mm_model.specs.Places.Lowest.{piece_of, IsFreeFor, IsRun, IsFreeCell, IsLowestOf, IsPreferred};
 
 /// A place that is found lies in the region, is free, and shares its pages with its own kind alone.
 pub fn place_is_free()

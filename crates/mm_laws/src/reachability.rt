@@ -4,13 +4,13 @@ ghost use Rattle.mm_model.specs.Object.{Object};
 ghost use Rattle.mm_model.specs.State.{State, Lives};
 ghost use Rattle.mm_model.specs.Words.{stack_words, names};
 ghost use Rattle.mm_model.specs.Count.{is_zero_count};
-ghost use Rattle.mm_model.specs.Protected.{IsProtected};
-ghost use Rattle.mm_model.specs.Reached.{IsReached};
-ghost use Rattle.mm_model.specs.Reapable.{IsReapable};
-ghost use Rattle.mm_model.specs.Marking.{IsFreedAtFinish};
+ghost use Rattle.mm_model.specs.Sets.Protected.{IsProtected};
+ghost use Rattle.mm_model.specs.Sets.Reached.{IsReached};
+ghost use Rattle.mm_model.specs.Sets.Reapable.{IsReapable};
+ghost use Rattle.mm_model.specs.Sets.Marking.{IsFreedAtFinish};
 ghost use Rattle.mm_model.specs.Phase.{AreReaped, AreCollected, AreFinished, collected};
 ghost use Rattle.mm_model.specs.Good.{IsGood};
-ghost use Rattle.mm_model.specs.Turns.{Reaping, Collecting, Finishing, Frees};
+ghost use Rattle.mm_model.specs.Logs.Turns.{Reaping, Collecting, Finishing, Frees};
 
 /// A zero-count object in which no stack word falls is reapable.
 pub fn unheld_is_reapable()

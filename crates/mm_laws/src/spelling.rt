@@ -1,7 +1,7 @@
 // Laws of how lines of a log are spelled.
 ghost use Rattle.std.specs.Prelude.{◌≡◌, ◌⊎◌, ◌++◌, [], ℕ, List};
 ghost use Rattle.std.specs.List.{All};
-ghost use Rattle.mm_model.specs.Spelling.{spelling, spelling_of};
+ghost use Rattle.mm_model.specs.Logs.Spelling.{spelling, spelling_of};
 ghost use Rattle.mm_model.specs.declared.line.Line.{Line};
 ghost use Rattle.mm_laws.specs.Lines.{IsSpelledInFull, AreNothing, AreAlike};
 

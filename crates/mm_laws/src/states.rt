@@ -5,7 +5,7 @@ ghost use Rattle.mm_model.specs.declared.line.Line.{Line};
 ghost use Rattle.mm_model.specs.declared.settings.Settings.{Settings};
 ghost use Rattle.mm_model.specs.State.{State, empty_state};
 ghost use Rattle.mm_model.specs.Good.{IsGood};
-ghost use Rattle.mm_model.specs.Log.{IsLegal};
+ghost use Rattle.mm_model.specs.Logs.Log.{IsLegal};
 ghost use Rattle.mm_model.specs.Step.{IsStep};
 
 /// The empty state is good, where the least number of pages isn't above the greatest.

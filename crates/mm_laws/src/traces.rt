@@ -1,7 +1,7 @@
 // Laws of how a trace is cut into lines and read.
 ghost use Rattle.std.specs.Prelude.{◌≡◌, ◌∷◌, ◌++◌, [], ℕ, List, length, Some, None};
 ghost use Rattle.std.specs.Option.{option_map};
-ghost use Rattle.mm_model.specs.Trace.{lines_of, trace_reading, FaultAt};
+ghost use Rattle.mm_model.specs.Logs.Trace.{lines_of, trace_reading, FaultAt};
 ghost use Rattle.mm_laws.specs.Faults.{raised_by};
 
 /// Bytes that end at a newline are cut into lines on their own, whatever comes behind them.

@@ -7,10 +7,10 @@ ghost use Rattle.mm_model.specs.Effect.{Effect};
 ghost use Rattle.mm_model.specs.Step.{IsRow, IsStep};
 ghost use Rattle.mm_model.specs.After.{after};
 ghost use Rattle.mm_model.specs.Good.{IsGood};
-ghost use Rattle.mm_model.specs.View.{View, Shows};
-ghost use Rattle.mm_model.specs.ViewEffect.{ViewEffect};
-ghost use Rattle.mm_model.specs.ViewStep.{IsViewRow, IsViewStep};
-ghost use Rattle.mm_model.specs.GoodView.{IsGoodView};
+ghost use Rattle.mm_model.specs.Views.View.{View, Shows};
+ghost use Rattle.mm_model.specs.Views.ViewEffect.{ViewEffect};
+ghost use Rattle.mm_model.specs.Views.ViewStep.{IsViewRow, IsViewStep};
+ghost use Rattle.mm_model.specs.Views.GoodView.{IsGoodView};
 
 /// A step of a view is a step of every good state that it shows, with one group of lines for all of them. The state
 /// after it is good, and the view that is left shows it.

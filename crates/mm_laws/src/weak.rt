@@ -11,9 +11,9 @@ ghost use Rattle.mm_model.specs.Meaning.{meant_at};
 ghost use Rattle.mm_model.specs.Effect.{look_effect};
 ghost use Rattle.mm_model.specs.Refusing.{is_stack_full};
 ghost use Rattle.mm_model.specs.Good.{IsGood};
-ghost use Rattle.mm_model.specs.Log.{IsRun};
+ghost use Rattle.mm_model.specs.Logs.Log.{IsRun};
 ghost use Rattle.mm_model.specs.Step.{IsStep};
-ghost use Rattle.mm_model.specs.Course.{IsGone};
+ghost use Rattle.mm_model.specs.Logs.Course.{IsGone};
 ghost use Rattle.mm_model.specs.WeakReferences.{IsMadeFor};
 
 /// A `weak` that replies a new base has made a weak reference for the object that the cell means. It has the next birth

@@ -8,13 +8,13 @@ use Rattle.std.proofs.lemmas.List.{length-take, length-drop, get_or-drop, take_m
 use Rattle.mm_model.specs.declared.object.Colour.{Colour}
 use Rattle.mm_model.specs.declared.object.Colour.TheVariants.{Gray, Black}
 use Rattle.mm_model.specs.Object.{is_scanned}
-use Rattle.mm_model.specs.Marking.{is_white}
-use Rattle.mm_model.specs.ByBase.{Begins, with_entry}
-use Rattle.mm_model.specs.ObjectView.{ObjectView, ObjectsByBase, scanned_words_of, names_at}
-use Rattle.mm_model.specs.SetsByBase.{grayed_at, with_grayed_objects}
-use Rattle.mm_model.specs.View.{PartlyScannedView}
+use Rattle.mm_model.specs.Sets.Marking.{is_white}
+use Rattle.mm_model.specs.Views.ByBase.{Begins, with_entry}
+use Rattle.mm_model.specs.Views.ObjectView.{ObjectView, ObjectsByBase, scanned_words_of, names_at}
+use Rattle.mm_model.specs.Views.SetsByBase.{grayed_at, with_grayed_objects}
+use Rattle.mm_model.specs.Views.View.{PartlyScannedView}
 use Rattle.mm_model.proofs.Lists.Replaced.{get-set_same, get-set_other, map-set, map-set_alike}
-use Rattle.mm_model.proofs.View.Entries.{get-changed, begins_same}
+use Rattle.mm_model.proofs.View.ByBase.Entries.{get-changed, begins_same}
 use Rattle.mm_object.specs.Object.{StoredObject, view_of_stored, views_of}
 use Rattle.mm_object.specs.Heap.{Heap, HasSlot, with_object}
 use Rattle.mm_object.specs.Colours.{white_object}

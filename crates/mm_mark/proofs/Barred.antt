@@ -1,12 +1,12 @@
 -- The write barrier: what it does to a marking it does to each view that shows it.
 use Rattle.std.proofs.Common.{◌≡◌, ℕ, Bool, true, false, [], ◌∷◌, Option, sym, ap, subst, ◌∙◌}
 use Rattle.std.specs.Prelude.{◌&&◌, ◌||◌, not, if◌then◌else◌}
-use Rattle.mm_model.specs.ByBase.{Begins, Based}
-use Rattle.mm_model.specs.ObjectView.{ObjectView, ObjectsByBase, slot_kind_of}
-use Rattle.mm_model.specs.SetsByBase.{with_grayed_objects}
-use Rattle.mm_model.specs.Marking.{is_black, is_raw}
-use Rattle.mm_model.specs.View.{View, CycleView, PartlyScannedView}
-use Rattle.mm_model.specs.ViewStore.{is_slot_done, view_is_passed, view_with_grayed, view_barrier}
+use Rattle.mm_model.specs.Views.ByBase.{Begins, Based}
+use Rattle.mm_model.specs.Views.ObjectView.{ObjectView, ObjectsByBase, slot_kind_of}
+use Rattle.mm_model.specs.Views.SetsByBase.{with_grayed_objects}
+use Rattle.mm_model.specs.Sets.Marking.{is_black, is_raw}
+use Rattle.mm_model.specs.Views.View.{View, CycleView, PartlyScannedView}
+use Rattle.mm_model.specs.Views.ViewStore.{is_slot_done, view_is_passed, view_with_grayed, view_barrier}
 use Rattle.mm_object.specs.Object.{StoredObject, view_of_stored, views_of}
 use Rattle.mm_object.specs.Heap.{Heap}
 use Rattle.mm_mark.specs.Marker.{Marker, Marking, ShowsMarking, is_passed}

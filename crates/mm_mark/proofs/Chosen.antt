@@ -5,10 +5,10 @@ use Rattle.std.specs.Prelude.{IfSome, IsTrue, MatchOption, ◌||◌, ◌==◌, i
 use Rattle.std.specs.List.{list_any}
 use Rattle.std.proofs.lemmas.Bool.{cases_eq, eq-eqb}
 use Rattle.mm_model.specs.declared.object.Colour.TheVariants.{Gray}
-use Rattle.mm_model.specs.ByBase.{Begins}
-use Rattle.mm_model.specs.ObjectView.{ObjectsByBase}
-use Rattle.mm_model.specs.View.{PartlyScannedView}
-use Rattle.mm_model.specs.ViewStep.{slots_done_of, may_go_on}
+use Rattle.mm_model.specs.Views.ByBase.{Begins}
+use Rattle.mm_model.specs.Views.ObjectView.{ObjectsByBase}
+use Rattle.mm_model.specs.Views.View.{PartlyScannedView}
+use Rattle.mm_model.specs.Views.ViewStep.{slots_done_of, may_go_on}
 use Rattle.mm_object.specs.Object.{view_of_stored, views_of}
 use Rattle.mm_object.specs.Heap.{Heap}
 use Rattle.mm_object.specs.Colours.{IsNextOf, NoneOfFrom}

@@ -10,17 +10,17 @@ use Rattle.std.proofs.lemmas.List.Folds.{list_any-append}
 use Rattle.mm_model.specs.declared.object.Colour.{Colour}
 use Rattle.mm_model.specs.declared.object.Colour.TheVariants.{White, Gray, Black}
 use Rattle.mm_model.specs.declared.object.Part.{Part}
-use Rattle.mm_model.specs.Marking.{is_white}
+use Rattle.mm_model.specs.Sets.Marking.{is_white}
 use Rattle.mm_model.specs.Words.{falls}
-use Rattle.mm_model.specs.ByBase.{Begins, with_entry}
-use Rattle.mm_model.specs.ObjectView.{ObjectView, ObjectsByBase, scanned_words_of, names_at}
-use Rattle.mm_model.specs.SetsByBase.{IsKeptAtFinishAt, grayed_at, with_grayed_objects}
-use Rattle.mm_model.specs.GoodView.{NamesNoWhiteAt}
-use Rattle.mm_model.specs.View.{PartlyScannedView}
-use Rattle.mm_model.specs.ViewStep.{slots_done_of, may_go_on}
+use Rattle.mm_model.specs.Views.ByBase.{Begins, with_entry}
+use Rattle.mm_model.specs.Views.ObjectView.{ObjectView, ObjectsByBase, scanned_words_of, names_at}
+use Rattle.mm_model.specs.Views.SetsByBase.{IsKeptAtFinishAt, grayed_at, with_grayed_objects}
+use Rattle.mm_model.specs.Views.GoodView.{NamesNoWhiteAt}
+use Rattle.mm_model.specs.Views.View.{PartlyScannedView}
+use Rattle.mm_model.specs.Views.ViewStep.{slots_done_of, may_go_on}
 use Rattle.mm_model.proofs.Lists.Passing.{any-take, any-drop}
 use Rattle.mm_model.proofs.Lists.Truth.{no_other}
-use Rattle.mm_model.proofs.View.Entries.{get-changed, begins_same}
+use Rattle.mm_model.proofs.View.ByBase.Entries.{get-changed, begins_same}
 use Rattle.mm_mark.specs.Marker.{Marking}
 use Rattle.mm_mark.specs.Parts.{NoneIsGray, IsScanned, IsAdvanced, part_words, part_end}
 use Rattle.mm_mark.specs.Draining.{IsDrained, NamesNoWhiteDone, IsMove, IsMoved, WasThere, IsPassedOver, IsDraining}

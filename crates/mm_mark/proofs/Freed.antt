@@ -3,11 +3,11 @@ use Rattle.std.proofs.Common.{◌≡◌, ℕ, ◌+◌, Bool, true, false, List, 
 use Rattle.std.proofs.Common.{sym, ap, subst, ◌∙◌}
 use Rattle.std.specs.Prelude.{if◌then◌else◌}
 use Rattle.mm_model.specs.Phase.{lists}
-use Rattle.mm_model.specs.ByBase.{changed}
-use Rattle.mm_model.specs.ObjectView.{ObjectView, ObjectsByBase, holds_base}
-use Rattle.mm_model.specs.ViewPhase.{unless_listed, view_after_release}
-use Rattle.mm_model.proofs.View.ChangedEntries.{begins_changed, changed_begins}
-use Rattle.mm_model.proofs.View.Entries.{length-changed}
+use Rattle.mm_model.specs.Views.ByBase.{changed}
+use Rattle.mm_model.specs.Views.ObjectView.{ObjectView, ObjectsByBase, holds_base}
+use Rattle.mm_model.specs.Views.ViewPhase.{unless_listed, view_after_release}
+use Rattle.mm_model.proofs.View.ByBase.ChangedEntries.{begins_changed, changed_begins}
+use Rattle.mm_model.proofs.View.ByBase.Entries.{length-changed}
 use Rattle.mm_mark.specs.Marker.{Marking}
 use Rattle.mm_mark.specs.Colours.{IsGrayAt, IsWhiteAt}
 use Rattle.mm_mark.specs.Stale.{HasFewStale}

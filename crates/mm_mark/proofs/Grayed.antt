@@ -9,13 +9,13 @@ use Rattle.std.proofs.lemmas.List.Folds.{list_any-append}
 use Rattle.std.proofs.lemmas.List.Sorted.{IsPermutation-reverse, list_any-IsPermutation}
 use Rattle.mm_model.specs.declared.object.Colour.{Colour}
 use Rattle.mm_model.specs.declared.object.Colour.TheVariants.{White, Gray, Black}
-use Rattle.mm_model.specs.Marking.{is_white}
+use Rattle.mm_model.specs.Sets.Marking.{is_white}
 use Rattle.mm_model.specs.Words.{falls}
-use Rattle.mm_model.specs.ObjectView.{ObjectView, ObjectsByBase, names_at}
-use Rattle.mm_model.specs.SetsByBase.{grayed_at, with_grayed_objects}
-use Rattle.mm_model.specs.GoodView.{AreWhite}
-use Rattle.mm_model.specs.View.{PartlyScannedView}
-use Rattle.mm_model.proofs.View.Entries.{get-changed, same_entries}
+use Rattle.mm_model.specs.Views.ObjectView.{ObjectView, ObjectsByBase, names_at}
+use Rattle.mm_model.specs.Views.SetsByBase.{grayed_at, with_grayed_objects}
+use Rattle.mm_model.specs.Views.GoodView.{AreWhite}
+use Rattle.mm_model.specs.Views.View.{PartlyScannedView}
+use Rattle.mm_model.proofs.View.ByBase.Entries.{get-changed, same_entries}
 use Rattle.mm_object.specs.Object.{views_of}
 use Rattle.mm_object.specs.Heap.{Heap}
 use Rattle.mm_mark.specs.Marker.{Marker, IsSameButQueue, IsUnderScan, AreKnown, KeepsGray}

@@ -4,9 +4,9 @@ use Rattle.std.proofs.Common.{refl, sym, ap, subst, ◌∙◌, arith, eqb-true}
 use Rattle.std.specs.Prelude.{slice_get, ◌==◌, ◌||◌, if◌then◌else◌}
 use Rattle.mm_model.specs.declared.object.Colour.{Colour}
 use Rattle.mm_model.specs.declared.object.Colour.TheVariants.{White, Gray, Black}
-use Rattle.mm_model.specs.ObjectView.{ObjectView, ObjectsByBase, holds_base}
-use Rattle.mm_model.specs.Marking.{is_gray}
-use Rattle.mm_model.specs.View.{PartlyScannedView}
+use Rattle.mm_model.specs.Views.ObjectView.{ObjectView, ObjectsByBase, holds_base}
+use Rattle.mm_model.specs.Sets.Marking.{is_gray}
+use Rattle.mm_model.specs.Views.View.{PartlyScannedView}
 use Rattle.mm_model.proofs.Lists.Truth.{no_other}
 use Rattle.mm_model.proofs.Lists.Keyed.{refuted}
 use Rattle.mm_mark.specs.Marker.{Marker, AreKnown}

@@ -6,11 +6,11 @@ use Rattle.std.specs.Option.{option_map}
 use Rattle.std.proofs.lemmas.Bool.{eq-eqb}
 use Rattle.mm_model.specs.declared.object.Colour.TheVariants.{Gray, Black}
 use Rattle.mm_model.specs.declared.object.Part.{Part}
-use Rattle.mm_model.specs.ByBase.{Begins, Based, with_entry}
-use Rattle.mm_model.specs.ObjectView.{ObjectView, ObjectsByBase, scanned_words_of}
-use Rattle.mm_model.specs.SetsByBase.{with_grayed_objects}
-use Rattle.mm_model.specs.View.{View, CycleView, PartlyScannedView}
-use Rattle.mm_model.specs.ViewStep.{view_advanced, with_partly, slots_done_in, slots_done_of, may_go_on}
+use Rattle.mm_model.specs.Views.ByBase.{Begins, Based, with_entry}
+use Rattle.mm_model.specs.Views.ObjectView.{ObjectView, ObjectsByBase, scanned_words_of}
+use Rattle.mm_model.specs.Views.SetsByBase.{with_grayed_objects}
+use Rattle.mm_model.specs.Views.View.{View, CycleView, PartlyScannedView}
+use Rattle.mm_model.specs.Views.ViewStep.{view_advanced, with_partly, slots_done_in, slots_done_of, may_go_on}
 use Rattle.mm_mark.specs.Marker.{Marking, ShowsMarking, IsPartOf, IsPartDone, HasNoGray}
 use Rattle.mm_mark.specs.Parts.{NoneIsGray, IsScanned, IsAdvanced, part_words, part_end}
 

@@ -6,13 +6,13 @@ use Rattle.std.proofs.lemmas.List.Sums.{sum-map}
 use Rattle.mm_model.specs.declared.object.Colour.{Colour}
 use Rattle.mm_model.specs.declared.object.Colour.TheVariants.{White, Gray, Black}
 use Rattle.mm_model.specs.declared.object.Part.{Part}
-use Rattle.mm_model.specs.Marking.{is_white, is_black}
-use Rattle.mm_model.specs.ByBase.{Begins, with_entry, changed_from}
-use Rattle.mm_model.specs.ObjectView.{ObjectView, ObjectsByBase, scanned_words_of, names_at}
-use Rattle.mm_model.specs.SetsByBase.{grayed_at, with_grayed_objects}
-use Rattle.mm_model.specs.View.{PartlyScannedView}
-use Rattle.mm_model.specs.ViewStep.{slots_done_of, may_go_on}
-use Rattle.mm_model.proofs.Good.CountedWords.{sum-set}
+use Rattle.mm_model.specs.Sets.Marking.{is_white, is_black}
+use Rattle.mm_model.specs.Views.ByBase.{Begins, with_entry, changed_from}
+use Rattle.mm_model.specs.Views.ObjectView.{ObjectView, ObjectsByBase, scanned_words_of, names_at}
+use Rattle.mm_model.specs.Views.SetsByBase.{grayed_at, with_grayed_objects}
+use Rattle.mm_model.specs.Views.View.{PartlyScannedView}
+use Rattle.mm_model.specs.Views.ViewStep.{slots_done_of, may_go_on}
+use Rattle.mm_model.proofs.Good.Writing.CountedWords.{sum-set}
 use Rattle.mm_model.proofs.Lists.Truth.{no_other}
 use Rattle.mm_mark.specs.Marker.{Marker, Marking}
 use Rattle.mm_mark.specs.Parts.{IsSameCycle, IsScanned, IsAdvanced, part_words}

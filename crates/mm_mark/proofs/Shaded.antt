@@ -8,14 +8,14 @@ use Rattle.std.proofs.lemmas.Bool.{cases_eq, eq-eqb}
 use Rattle.std.proofs.lemmas.Option.{slice_get-map}
 use Rattle.mm_model.specs.declared.object.Colour.{Colour}
 use Rattle.mm_model.specs.declared.object.Colour.TheVariants.{White, Gray, Black}
-use Rattle.mm_model.specs.Marking.{is_white}
+use Rattle.mm_model.specs.Sets.Marking.{is_white}
 use Rattle.mm_model.specs.Words.{falls}
-use Rattle.mm_model.specs.ByBase.{Begins}
-use Rattle.mm_model.specs.ObjectView.{ObjectView}
-use Rattle.mm_model.specs.SetsByBase.{grayed_at, with_grayed_objects}
+use Rattle.mm_model.specs.Views.ByBase.{Begins}
+use Rattle.mm_model.specs.Views.ObjectView.{ObjectView}
+use Rattle.mm_model.specs.Views.SetsByBase.{grayed_at, with_grayed_objects}
 use Rattle.mm_model.proofs.Lists.Replaced.{get-set_same, get-set_other, map-set_alike}
 use Rattle.mm_model.proofs.Places.Falling.{falls_from, falls_within}
-use Rattle.mm_model.proofs.View.Entries.{get-changed, same_entries}
+use Rattle.mm_model.proofs.View.ByBase.Entries.{get-changed, same_entries}
 use Rattle.mm_object.specs.Object.{StoredObject, view_of_stored, views_of}
 use Rattle.mm_object.specs.Heap.{Heap, Covers, IsSound}
 use Rattle.mm_object.specs.Colours.{NoWhite, Shades, all_whitened, white_object}

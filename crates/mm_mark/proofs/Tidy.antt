@@ -9,14 +9,14 @@ use Rattle.std.proofs.lemmas.Map.Steps.{length-le_from_distinct_below}
 use Rattle.std.proofs.lemmas.Option.{slice_get_within}
 use Rattle.mm_model.specs.declared.object.Colour.{Colour}
 use Rattle.mm_model.specs.declared.object.Colour.TheVariants.{White, Gray, Black}
-use Rattle.mm_model.specs.ByBase.{Begins, with_entry}
-use Rattle.mm_model.specs.ObjectView.{ObjectView, ObjectsByBase, holds_base}
-use Rattle.mm_model.specs.Marking.{is_gray}
-use Rattle.mm_model.specs.View.{PartlyScannedView}
+use Rattle.mm_model.specs.Views.ByBase.{Begins, with_entry}
+use Rattle.mm_model.specs.Views.ObjectView.{ObjectView, ObjectsByBase, holds_base}
+use Rattle.mm_model.specs.Sets.Marking.{is_gray}
+use Rattle.mm_model.specs.Views.View.{PartlyScannedView}
 use Rattle.mm_model.proofs.Lists.Replaced.{get-set_other}
 use Rattle.mm_model.proofs.Lists.Truth.{no_other}
 use Rattle.mm_model.proofs.Lists.Keyed.{refuted}
-use Rattle.mm_model.proofs.View.Entries.{begins_same}
+use Rattle.mm_model.proofs.View.ByBase.Entries.{begins_same}
 use Rattle.mm_mark.specs.Marker.{Marker, IsNoted}
 use Rattle.mm_mark.specs.Marker.{is_gray_entry, has_gray}
 use Rattle.mm_mark.specs.Stale.{stale_in, IsPlace, AreDistinctPlaces, known_bases, IsTidy, HasFewStale}

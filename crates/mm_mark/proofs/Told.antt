@@ -5,9 +5,9 @@ use Rattle.std.specs.Option.{option_map}
 use Rattle.std.proofs.lemmas.Bool.{cases_eq}
 use Rattle.std.proofs.lemmas.Option.{slice_get-map}
 use Rattle.mm_model.specs.declared.object.Colour.{Colour}
-use Rattle.mm_model.specs.ByBase.{Begins}
-use Rattle.mm_model.specs.ObjectView.{ObjectView}
-use Rattle.mm_model.proofs.View.Entries.{begins_same}
+use Rattle.mm_model.specs.Views.ByBase.{Begins}
+use Rattle.mm_model.specs.Views.ObjectView.{ObjectView}
+use Rattle.mm_model.proofs.View.ByBase.Entries.{begins_same}
 use Rattle.mm_cells.specs.Cells as cells
 use Rattle.mm_object.specs.Object.{StoredObject, StoredObjects, view_of_stored, views_of}
 use Rattle.mm_object.specs.Heap.{Heap, cell_of, cells_in, Covers, IsSound}

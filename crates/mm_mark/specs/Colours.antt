@@ -1,12 +1,12 @@
 -- What marking changes of a heap.
 use Rattle.std.specs.Prelude.{◌≡◌, ◌≢◌, ℕ, List, ◌+◌, ◌*◌, ◌++◌, length}
 use Rattle.std.specs.List.{flat_map}
-use Rattle.mm_model.specs.ViewWords.{scanned_cells_of}
+use Rattle.mm_model.specs.Views.ViewWords.{scanned_cells_of}
 use Rattle.mm_model.specs.declared.object.Colour.{Colour}
 use Rattle.mm_model.specs.declared.object.Colour.TheVariants.{White, Gray}
-use Rattle.mm_model.specs.ByBase.{Begins}
-use Rattle.mm_model.specs.ObjectView.{ObjectView, ObjectsByBase}
-use Rattle.mm_model.specs.SetsByBase.{with_grayed_objects}
+use Rattle.mm_model.specs.Views.ByBase.{Begins}
+use Rattle.mm_model.specs.Views.ObjectView.{ObjectView, ObjectsByBase}
+use Rattle.mm_model.specs.Views.SetsByBase.{with_grayed_objects}
 use Rattle.mm_object.specs.Object.{StoredObject, views_of}
 use Rattle.mm_object.specs.Heap.{Heap}
 use Rattle.mm_roots.specs.Stack.{Cells}

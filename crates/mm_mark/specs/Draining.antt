@@ -3,12 +3,12 @@ use Rattle.std.specs.Prelude.{◌≡◌, ◌≢◌, ◌+◌, ℕ, if◌then◌el
 use Rattle.std.specs.List.{sum_by}
 use Rattle.mm_model.specs.declared.object.Colour.{Colour}
 use Rattle.mm_model.specs.declared.object.Colour.TheVariants.{White, Black}
-use Rattle.mm_model.specs.ByBase.{Begins}
-use Rattle.mm_model.specs.ObjectView.{ObjectView, ObjectsByBase, scanned_words_of}
-use Rattle.mm_model.specs.SetsByBase.{IsKeptAtFinishAt}
-use Rattle.mm_model.specs.Marking.{is_black}
-use Rattle.mm_model.specs.GoodView.{NamesNoWhiteAt}
-use Rattle.mm_model.specs.View.{PartlyScannedView}
+use Rattle.mm_model.specs.Views.ByBase.{Begins}
+use Rattle.mm_model.specs.Views.ObjectView.{ObjectView, ObjectsByBase, scanned_words_of}
+use Rattle.mm_model.specs.Views.SetsByBase.{IsKeptAtFinishAt}
+use Rattle.mm_model.specs.Sets.Marking.{is_black}
+use Rattle.mm_model.specs.Views.GoodView.{NamesNoWhiteAt}
+use Rattle.mm_model.specs.Views.View.{PartlyScannedView}
 use Rattle.mm_mark.specs.Marker.{Marking}
 
 -- Nothing is gray any more. What `finish` keeps of what was white or gray is black, and all else is as it was.

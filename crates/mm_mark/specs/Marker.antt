@@ -5,12 +5,12 @@ use Rattle.std.specs.List.{list_any}
 use Rattle.std.specs.Option.{option_map}
 use Rattle.mm_model.specs.declared.object.Colour.TheVariants.{Gray}
 use Rattle.mm_model.specs.declared.object.Part.{Part}
-use Rattle.mm_model.specs.ByBase.{Begins}
-use Rattle.mm_model.specs.ObjectView.{ObjectView, ObjectsByBase, scanned_words_of, slot_kind_of}
-use Rattle.mm_model.specs.View.{View, CycleView, PartlyScannedView}
-use Rattle.mm_model.specs.Marking.{is_black, is_gray, is_raw}
-use Rattle.mm_model.specs.ViewStore.{is_slot_done}
-use Rattle.mm_model.specs.ViewStep.{view_part_slots, view_part_done, ViewMayScan, NoGray}
+use Rattle.mm_model.specs.Views.ByBase.{Begins}
+use Rattle.mm_model.specs.Views.ObjectView.{ObjectView, ObjectsByBase, scanned_words_of, slot_kind_of}
+use Rattle.mm_model.specs.Views.View.{View, CycleView, PartlyScannedView}
+use Rattle.mm_model.specs.Sets.Marking.{is_black, is_gray, is_raw}
+use Rattle.mm_model.specs.Views.ViewStore.{is_slot_done}
+use Rattle.mm_model.specs.Views.ViewStep.{view_part_slots, view_part_done, ViewMayScan, NoGray}
 use Rattle.mm_words.specs.Location.{Location}
 use Rattle.mm_object.specs.Object.{views_of}
 use Rattle.mm_object.specs.Heap.{Heap}

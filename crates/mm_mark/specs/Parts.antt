@@ -4,11 +4,11 @@ use Rattle.std.specs.Prelude.{true, ◌==◌}
 use Rattle.std.specs.List.{list_any}
 use Rattle.mm_model.specs.declared.object.Colour.TheVariants.{Gray, Black}
 use Rattle.mm_model.specs.declared.object.Part.{Part}
-use Rattle.mm_model.specs.ByBase.{Begins, with_entry}
-use Rattle.mm_model.specs.ObjectView.{ObjectView, ObjectsByBase, scanned_words_of}
-use Rattle.mm_model.specs.SetsByBase.{with_grayed_objects}
-use Rattle.mm_model.specs.View.{PartlyScannedView}
-use Rattle.mm_model.specs.ViewStep.{slots_done_of, may_go_on}
+use Rattle.mm_model.specs.Views.ByBase.{Begins, with_entry}
+use Rattle.mm_model.specs.Views.ObjectView.{ObjectView, ObjectsByBase, scanned_words_of}
+use Rattle.mm_model.specs.Views.SetsByBase.{with_grayed_objects}
+use Rattle.mm_model.specs.Views.View.{PartlyScannedView}
+use Rattle.mm_model.specs.Views.ViewStep.{slots_done_of, may_go_on}
 use Rattle.mm_object.specs.Object.{views_of}
 use Rattle.mm_object.specs.Heap.{Heap}
 use Rattle.mm_mark.specs.Marker.{Marker, Marking, IsUnderScan}

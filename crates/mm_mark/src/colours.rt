@@ -1,8 +1,8 @@
 // The colours of objects.
 ghost use Rattle.std.specs.Prelude.{◌≡◌, ◌+◌, MatchOption, MatchBool};
 ghost use Rattle.mm_model.specs.declared.object.Colour.TheVariants.{Gray};
-ghost use Rattle.mm_model.specs.ByBase.{Begins};
-ghost use Rattle.mm_model.specs.Marking.{is_black, is_gray};
+ghost use Rattle.mm_model.specs.Views.ByBase.{Begins};
+ghost use Rattle.mm_model.specs.Sets.Marking.{is_black, is_gray};
 ghost use Rattle.mm_object.specs.Object.{StoredObject};
 ghost use Rattle.mm_object.specs.Heap.{IsObject};
 ghost use Rattle.mm_mark.specs.Colours.{HasColour, BeginsNone, IsNoneGrayAt};

@@ -1,6 +1,6 @@
 // The beginning and the end of a cycle.
 ghost use Rattle.std.specs.Prelude.{◌≡◌, ◌+◌, ◌*◌, ◌≤◌, ◌++◌, length, true, false, IfSome, MatchBool, None};
-ghost use Rattle.mm_model.specs.GoodView.{AreWhite};
+ghost use Rattle.mm_model.specs.Views.GoodView.{AreWhite};
 ghost use Rattle.mm_object.specs.Object.{views_of};
 ghost use Rattle.mm_object.specs.Heap.{IsSound};
 ghost use Rattle.mm_object.specs.Colours.{all_whitened};

@@ -1,7 +1,7 @@
 // Graying what the stack and the scanned areas name.
 ghost use Rattle.std.specs.Prelude.{◌≡◌, ◌+◌, ◌*◌, ◌++◌, length, take};
 ghost use Rattle.std.specs.List.{flat_map};
-ghost use Rattle.mm_model.specs.ViewWords.{scanned_cells_of};
+ghost use Rattle.mm_model.specs.Views.ViewWords.{scanned_cells_of};
 ghost use Rattle.mm_object.specs.Object.{views_of};
 ghost use Rattle.mm_object.specs.Heap.{IsSound};
 ghost use Rattle.mm_roots.specs.Areas.{IsScanned, IsBeside};

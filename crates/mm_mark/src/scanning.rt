@@ -1,8 +1,8 @@
 // Scanning a part of one object. It is inlined into the loop over parts: its results would go through memory else.
 ghost use Rattle.std.specs.Prelude.{◌≡◌, ℕ, ◌+◌, ◌-◌, ◌*◌, ◌≤◌, length, true, Some, None, MatchOption, min, take, drop};
-ghost use Rattle.mm_model.specs.ByBase.{Begins};
+ghost use Rattle.mm_model.specs.Views.ByBase.{Begins};
 ghost use Rattle.mm_model.specs.declared.object.Colour.TheVariants.{Gray};
-ghost use Rattle.mm_model.specs.ObjectView.{ObjectView, scanned_words_of};
+ghost use Rattle.mm_model.specs.Views.ObjectView.{ObjectView, scanned_words_of};
 ghost use Rattle.mm_object.specs.Object.{StoredObject, view_of_stored, views_of};
 ghost use Rattle.mm_object.specs.Heap.{IsObject, IsSound};
 ghost use Rattle.mm_mark.specs.Marker.{view_of_partly, IsSameButQueue, AreKnown, KeepsGray, marking};

@@ -1,10 +1,10 @@
 // Graying what words fall in, and the write barrier.
 ghost use Rattle.std.specs.Prelude.{◌≡◌, ◌+◌, ◌≤◌, ◌∷◌, length, true, [], IsTrue};
 ghost use Rattle.std.specs.List.{list_any};
-ghost use Rattle.mm_model.specs.ByBase.{Begins, Based};
-ghost use Rattle.mm_model.specs.ObjectView.{ObjectView};
-ghost use Rattle.mm_model.specs.View.{View};
-ghost use Rattle.mm_model.specs.ViewStore.{is_slot_done, view_barrier};
+ghost use Rattle.mm_model.specs.Views.ByBase.{Begins, Based};
+ghost use Rattle.mm_model.specs.Views.ObjectView.{ObjectView};
+ghost use Rattle.mm_model.specs.Views.View.{View};
+ghost use Rattle.mm_model.specs.Views.ViewStore.{is_slot_done, view_barrier};
 ghost use Rattle.mm_object.specs.Object.{StoredObject, view_of_stored, views_of};
 ghost use Rattle.mm_object.specs.Heap.{HasSlot, IsSound};
 ghost use Rattle.mm_mark.specs.Marker.{IsSameButQueue, AreKnown, KeepsGray, marking, IsNoted, ShowsMarking, is_passed};

@@ -7,14 +7,14 @@ use Rattle.mm_model.specs.declared.command.Command.TheVariants as commands
 use Rattle.mm_model.specs.declared.refusal.Refusal.{Refusal}
 use Rattle.mm_model.specs.declared.line.Line.{Line}
 use Rattle.mm_model.specs.declared.line.Line.TheVariants as lines
-use Rattle.mm_model.specs.SizeClass.{object_bytes, area_bytes}
-use Rattle.mm_model.specs.Place.{Family, Objects, Areas}
+use Rattle.mm_model.specs.Places.SizeClass.{object_bytes, area_bytes}
+use Rattle.mm_model.specs.Places.Place.{Family, Objects, Areas}
 use Rattle.mm_model.specs.State.{State, lives_at, one_more_command}
 use Rattle.mm_model.specs.Meaning.{meant_at, object_meant}
 use Rattle.mm_model.specs.Count.{zero_count}
-use Rattle.mm_model.specs.Marking.{part_done}
+use Rattle.mm_model.specs.Sets.Marking.{part_done}
 use Rattle.mm_model.specs.Phase.{reaped, collected}
-use Rattle.mm_model.specs.Search.{place_now, place_grown}
+use Rattle.mm_model.specs.Places.Search.{place_now, place_grown}
 use Rattle.mm_model.specs.Effect.{Effect, done, with_some, new_effect, weak_effect, area_effect, pushes_object}
 use Rattle.mm_model.specs.Effect.{plain_effect}
 use Rattle.mm_model.specs.Refusing.{refusal}

@@ -3,9 +3,9 @@ use Rattle.std.specs.Prelude.{ℕ, Bool, not, if◌then◌else◌, ◌==◌, nat
 use Rattle.std.specs.Prelude.{unwrap_or}
 use Rattle.std.specs.List.{find, filter}
 use Rattle.mm_model.specs.Value.{integer}
-use Rattle.mm_model.specs.SizeClass.{extent_of, area_bytes}
+use Rattle.mm_model.specs.Places.SizeClass.{extent_of, area_bytes}
 use Rattle.mm_model.specs.State.{State, Area}
-use Rattle.mm_model.specs.Place.{first_from}
+use Rattle.mm_model.specs.Places.Place.{first_from}
 
 abbrev pub most_areas : ℕ
 most_areas = 1024

@@ -16,8 +16,8 @@ use Rattle.mm_model.specs.State.{State, Area, live_count, pushed, with_born}
 use Rattle.mm_model.specs.Words.{slot_kind, cell_kind}
 use Rattle.mm_model.specs.Meaning.{meant_at, object_meant}
 use Rattle.mm_model.specs.Count.{zero_count}
-use Rattle.mm_model.specs.Marking.{begun}
-use Rattle.mm_model.specs.Place.{is_vacant, live_pieces, region_pages}
+use Rattle.mm_model.specs.Sets.Marking.{begun}
+use Rattle.mm_model.specs.Places.Place.{is_vacant, live_pieces, region_pages}
 use Rattle.mm_model.specs.Areas.{area_at, free_number, new_area, with_area, without_area}
 use Rattle.mm_model.specs.Store.{with_object, put_in_slot, put_in_cell, store_reply}
 

@@ -3,15 +3,15 @@ use Rattle.std.specs.Prelude.{◌≡◌, ℕ, ◌+◌, ◌*◌, ◌%◌, ◌<◌
 use Rattle.std.specs.Prelude.{map, Some, IfSome, slice_get, length, take, ⊤}
 use Rattle.std.specs.List.{AllByRecursion, Contains}
 use Rattle.mm_model.specs.declared.object.Colour.TheVariants.{White, Gray, Black}
-use Rattle.mm_model.specs.SizeClass.{class_sizes, extent_of, object_bytes, area_bytes}
-use Rattle.mm_model.specs.Place.{Piece, overlaps, live_pieces}
+use Rattle.mm_model.specs.Places.SizeClass.{class_sizes, extent_of, object_bytes, area_bytes}
+use Rattle.mm_model.specs.Places.Place.{Piece, overlaps, live_pieces}
 use Rattle.mm_model.specs.Value.{Value}
 use Rattle.mm_model.specs.Object.{Object, is_leaf, is_counted, is_weak}
 use Rattle.mm_model.specs.State.{State, Area, Cycle, PartlyScanned, Lives}
 use Rattle.mm_model.specs.Words.{SlotKind, slot_kind, cell_kind, scanned_slots, counted_words, names, falls}
 use Rattle.mm_model.specs.Meaning.{stored}
 use Rattle.mm_model.specs.Count.{refs, names_counted}
-use Rattle.mm_model.specs.Marking.{colour_of}
+use Rattle.mm_model.specs.Sets.Marking.{colour_of}
 use Rattle.mm_model.specs.Areas.{most_areas}
 use Rattle.mm_model.specs.Refusing.{most_slots}
 use Rattle.mm_model.specs.Phase.{IsAscending}

@@ -5,7 +5,7 @@ use Rattle.mm_model.specs.declared.object.Kind.{Kind}
 use Rattle.mm_model.specs.declared.object.Kind.TheVariants.{Traced, Leaf, Counted, Weak}
 use Rattle.mm_model.specs.declared.object.Shape.{Shape}
 use Rattle.mm_model.specs.Value.{Value, integer}
-use Rattle.mm_model.specs.SizeClass.{extent_of, object_bytes}
+use Rattle.mm_model.specs.Places.SizeClass.{extent_of, object_bytes}
 
 abbrev pub is_leaf : Kind → Bool
 is_leaf Traced = false

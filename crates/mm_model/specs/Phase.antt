@@ -10,9 +10,9 @@ use Rattle.mm_model.specs.Value.{words_of}
 use Rattle.mm_model.specs.Object.{Object, is_live}
 use Rattle.mm_model.specs.State.{State, Cycle, PartlyScanned, Lives, lives_at}
 use Rattle.mm_model.specs.Count.{zero_count}
-use Rattle.mm_model.specs.Reapable.{IsReapable}
-use Rattle.mm_model.specs.Reached.{IsUnreached}
-use Rattle.mm_model.specs.Marking.{IsFreedAtFinish}
+use Rattle.mm_model.specs.Sets.Reapable.{IsReapable}
+use Rattle.mm_model.specs.Sets.Reached.{IsUnreached}
+use Rattle.mm_model.specs.Sets.Marking.{IsFreedAtFinish}
 
 abbrev pub lists : List ℕ → ℕ → Bool
 lists bases base = list_any (λ b. b == base) bases

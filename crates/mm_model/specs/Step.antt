@@ -9,15 +9,15 @@ use Rattle.mm_model.specs.declared.reply.Reply.TheVariants as replies
 use Rattle.mm_model.specs.declared.line.Line.{Line}
 use Rattle.mm_model.specs.declared.line.Line.TheVariants as lines
 use Rattle.mm_model.specs.declared.line.Phase.TheVariants.{Reap, Collect}
-use Rattle.mm_model.specs.SizeClass.{object_bytes, area_bytes}
-use Rattle.mm_model.specs.Place.{Family, Objects, Areas}
+use Rattle.mm_model.specs.Places.SizeClass.{object_bytes, area_bytes}
+use Rattle.mm_model.specs.Places.Place.{Family, Objects, Areas}
 use Rattle.mm_model.specs.Object.{Object}
 use Rattle.mm_model.specs.State.{State, one_more_command}
 use Rattle.mm_model.specs.Meaning.{meant_at, object_meant}
 use Rattle.mm_model.specs.Count.{zero_count}
 use Rattle.mm_model.specs.Phase.{phase_lines, reaped, collected, AreReaped, AreCollected, AreFinished}
-use Rattle.mm_model.specs.Search.{Searches}
-use Rattle.mm_model.specs.Scan.{AreScanned, IsEnough}
+use Rattle.mm_model.specs.Places.Search.{Searches}
+use Rattle.mm_model.specs.Sets.Scan.{AreScanned, IsEnough}
 use Rattle.mm_model.specs.Effect.{Effect, new_effect, weak_effect, area_effect, pushes_object, plain_effect}
 use Rattle.mm_model.specs.Refusing.{refusal}
 
@@ -127,6 +127,7 @@ IsStepUnless (Some because) a command group b = IsRefused a because group b
 IsStepUnless None a command group b = IsCarriedOut a command group b
 
 -- The command takes the first state to the second with this group of lines. A refused command changes nothing but the
--- number of commands. `full` alone leaves what its search freed.
+-- number of commands. `full` alone leaves what its search left: a reap and a collection were run, which free objects,
+-- end a cycle and set the threshold.
 abbrev pub IsStep : State → Command → List Line → State → Type 0
 IsStep a command group b = IsStepUnless (refusal a command) a command group b

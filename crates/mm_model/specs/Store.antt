@@ -9,7 +9,7 @@ use Rattle.mm_model.specs.State.{State, Area}
 use Rattle.mm_model.specs.Words.{SlotKind, CountedSlot, WordSlot, RawSlot, slot_kind, cell_kind}
 use Rattle.mm_model.specs.Meaning.{falls_in, stored}
 use Rattle.mm_model.specs.Count.{with_sticky, names_counted}
-use Rattle.mm_model.specs.Marking.{barrier}
+use Rattle.mm_model.specs.Sets.Marking.{barrier}
 use Rattle.mm_model.specs.Areas.{with_changed_area}
 
 abbrev pub is_counted_slot : SlotKind → Bool

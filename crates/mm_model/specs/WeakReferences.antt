@@ -2,7 +2,7 @@
 use Rattle.std.specs.Prelude.{◌≡◌, ℕ, IsTrue, Some, None, slice_get}
 use Rattle.mm_model.specs.Object.{Object, is_weak}
 use Rattle.mm_model.specs.State.{State}
-use Rattle.mm_model.specs.Course.{IsGone}
+use Rattle.mm_model.specs.Logs.Course.{IsGone}
 
 -- The weak reference has the target as its partner. Or it is empty, and the target was freed.
 pub data IsTarget (a : State) (weak : Object) (target : ℕ) : Type 0 where

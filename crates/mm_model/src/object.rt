@@ -79,7 +79,7 @@ pub enum Colour {
     Black,
 }
 
-/// One step of scanning: an object and how many of its slots were scanned, at most 64.
+/// What is scanned at once: an object and how many of its slots, at most 64.
 #[derive(Clone, Copy, Debug, PartialEq, Eq)]
 pub struct Part {
     pub base: u32,

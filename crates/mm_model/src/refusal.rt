@@ -2,7 +2,8 @@
 
 use thiserror::Error;
 
-/// Why a command is refused. A refused command changes nothing, apart from what `Full` leaves.
+/// Why a command is refused. A refused command changes nothing but the number of commands, apart from what `Full`
+/// leaves.
 #[derive(Clone, Copy, Debug, PartialEq, Eq)]
 pub enum Refusal {
     /// No stack cell has the index. For `pop`: it is asked for more cells than the stack has.

@@ -8,9 +8,9 @@ use Rattle.mm_model.specs.declared.object.Shape.{Shape}
 use Rattle.mm_model.specs.Object.{is_scanned}
 use Rattle.mm_cells.specs.declared.marks.CellBits.{CellBits}
 use Rattle.mm_cells.specs.Marks.{IsFlags}
-use Rattle.mm_model.specs.ByBase as bases
+use Rattle.mm_model.specs.Views.ByBase as bases
 use Rattle.mm_words.specs.Piece.{Piece, with_words}
-use Rattle.mm_model.proofs.View.Entries.{begins_same}
+use Rattle.mm_model.proofs.View.ByBase.Entries.{begins_same}
 use Rattle.mm_cells.specs.Cells as cells_specs
 use Rattle.mm_cells.specs.Cells.{Taken, Cells, with_cell, Begins, IsTaken, IsSoundCells}
 use Rattle.mm_object.specs.Object.{StoredObject, shape_of, flags_with, has_finalizer, has_weak_object}

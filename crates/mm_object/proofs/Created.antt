@@ -5,8 +5,8 @@ use Rattle.std.specs.Prelude.{Result, Ok, Err, IsErr, slice_get, slice_set}
 use Rattle.std.proofs.lemmas.List.{set-set}
 use Rattle.mm_model.specs.declared.object.Shape.{Shape}
 use Rattle.mm_model.specs.declared.object.Colour.{Colour}
-use Rattle.mm_model.specs.SizeClass.{size_of, extent_of, object_bytes}
-use Rattle.mm_model.specs.ByBase as bases
+use Rattle.mm_model.specs.Places.SizeClass.{size_of, extent_of, object_bytes}
+use Rattle.mm_model.specs.Views.ByBase as bases
 use Rattle.mm_model.proofs.Lists.Replaced.{get-set_same}
 use Rattle.mm_words.specs.Piece.{Piece, with_words}
 use Rattle.mm_words.specs.Writes.{written}

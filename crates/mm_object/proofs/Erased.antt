@@ -1,7 +1,7 @@
 -- A heap once an object was taken away.
 use Rattle.std.proofs.Common.{◌≡◌, ℕ, ◌/◌, ◌≤◌, length, None, refl, sym, ap, subst, ◌∙◌, arith}
 use Rattle.std.specs.Prelude.{slice_set}
-use Rattle.mm_model.specs.ByBase as bases
+use Rattle.mm_model.specs.Views.ByBase as bases
 use Rattle.mm_words.specs.Piece.{Piece}
 use Rattle.mm_pages.specs.Pages as heaps
 use Rattle.mm_pages.specs.Parked.{AreParked}

@@ -4,7 +4,7 @@ use Rattle.std.proofs.Common.{inr, refl, sym, ap, subst, ◌∙◌, arith}
 use Rattle.std.specs.Prelude.{slice_set}
 use Rattle.std.proofs.lemmas.Bool.{false_from_ne_true}
 use Rattle.std.proofs.lemmas.Option.{slice_get_within, slice_get-get_or}
-use Rattle.mm_model.specs.ByBase as bases
+use Rattle.mm_model.specs.Views.ByBase as bases
 use Rattle.mm_words.specs.Piece.{Piece}
 use Rattle.mm_cells.specs.Cells.{Taken, Cells, Begins, IsSoundCells}
 use Rattle.mm_object.specs.Object.{StoredObject}

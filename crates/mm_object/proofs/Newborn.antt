@@ -8,7 +8,7 @@ use Rattle.std.proofs.lemmas.List.{replicate-append-replicate, set-append_left, 
 use Rattle.std.proofs.lemmas.List.{length-set}
 use Rattle.mm_model.specs.declared.object.Shape.{Shape}
 use Rattle.mm_model.specs.declared.object.Colour.{Colour}
-use Rattle.mm_model.specs.SizeClass.{extent_of, object_bytes}
+use Rattle.mm_model.specs.Places.SizeClass.{extent_of, object_bytes}
 use Rattle.mm_words.specs.Writes.{written}
 use Rattle.mm_words.proofs.Writes.{written-is, length-written, get_or-written-before, get_or-written-after}
 use Rattle.mm_cells.specs.Cells.{Taken}

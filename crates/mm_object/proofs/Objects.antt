@@ -4,8 +4,8 @@ use Rattle.std.proofs.Common.{inr, refl, sym, ap, ◌∙◌, arith}
 use Rattle.std.specs.Prelude.{slice_get, slice_set}
 use Rattle.std.specs.Option.{option_map}
 use Rattle.std.proofs.lemmas.Bool.{cases_eq}
-use Rattle.mm_model.specs.ByBase as bases
-use Rattle.mm_model.proofs.View.Entries.{same_entries}
+use Rattle.mm_model.specs.Views.ByBase as bases
+use Rattle.mm_model.proofs.View.ByBase.Entries.{same_entries}
 use Rattle.mm_model.proofs.Lists.Replaced.{get-set_same, get-set_other}
 use Rattle.mm_cells.specs.Cells.{Taken, Cells, Begins}
 use Rattle.mm_cells.specs.declared.marks.CellBits.{CellBits}

@@ -6,7 +6,7 @@ use Rattle.std.specs.Option.{option_map}
 use Rattle.std.proofs.lemmas.Bool.{cases_Bool, and_parts, and_from, ltb-true, lt-ltb, leb-true, le-leb}
 use Rattle.std.proofs.lemmas.Bool.{false_from_ne_true}
 use Rattle.std.proofs.lemmas.Option.{slice_get_within}
-use Rattle.mm_model.proofs.View.Entries.{same_entries, any_begins, begins_any}
+use Rattle.mm_model.proofs.View.ByBase.Entries.{same_entries, any_begins, begins_any}
 use Rattle.mm_cells.specs.Cells.{Taken, Cells, Begins}
 use Rattle.mm_object.specs.Kept.{is_covered, raw_from}
 

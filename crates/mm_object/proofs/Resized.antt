@@ -6,7 +6,7 @@ use Rattle.std.specs.Option.{option_map}
 use Rattle.std.proofs.lemmas.List.{ext_get_or}
 use Rattle.mm_object.proofs.Extents.{length-extent_words, extent_words-get}
 use Rattle.std.proofs.lemmas.Option.{slice_get-get_or}
-use Rattle.mm_model.specs.ByBase as bases
+use Rattle.mm_model.specs.Views.ByBase as bases
 use Rattle.mm_words.specs.Piece.{Piece, Name}
 use Rattle.mm_words.specs.Location.{location_of}
 use Rattle.mm_cells.specs.Cells.{Taken, Cells, Begins}

@@ -6,7 +6,7 @@ use Rattle.std.specs.Option.{option_map}
 use Rattle.std.proofs.lemmas.Option.{slice_get-map}
 use Rattle.mm_model.specs.declared.object.Colour.{Colour}
 use Rattle.mm_model.specs.declared.object.Colour.TheVariants.{White, Gray}
-use Rattle.mm_model.specs.ByBase as bases
+use Rattle.mm_model.specs.Views.ByBase as bases
 use Rattle.mm_words.specs.Piece.{Piece}
 use Rattle.mm_cells.specs.Cells.{Taken, Cells, with_cell, Begins, IsSoundCells}
 use Rattle.mm_cells.specs.Looking as cells_looking

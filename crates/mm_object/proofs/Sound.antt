@@ -5,7 +5,7 @@ use Rattle.std.specs.Prelude.{slice_get}
 use Rattle.std.proofs.lemmas.Bool.{false_from_ne_true}
 use Rattle.std.proofs.lemmas.List.{length-take, length-drop}
 use Rattle.std.proofs.lemmas.Option.{slice_get-get_or}
-use Rattle.mm_model.specs.SizeClass.{extent_of, object_bytes}
+use Rattle.mm_model.specs.Places.SizeClass.{extent_of, object_bytes}
 use Rattle.mm_words.specs.Piece.{Piece}
 use Rattle.mm_model.specs.Good.{IsInside, AreApart}
 use Rattle.mm_cells.specs.Cells as cells_specs

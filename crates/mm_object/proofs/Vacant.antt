@@ -5,8 +5,8 @@ use Rattle.std.proofs.Math.Nat.{mul_assoc, mul_comm}
 use Rattle.std.proofs.lemmas.Bool.{cases_lt}
 use Rattle.mm_model.specs.declared.object.Size.{Size}
 use Rattle.mm_model.specs.declared.object.Size.TheVariants.{Small, Pages}
-use Rattle.mm_model.specs.SizeClass.{class_sizes, class_index, size_of, extent_of, extent_of_size}
-use Rattle.mm_model.specs.Lowest.{IsLowest, Of_first, Of_second}
+use Rattle.mm_model.specs.Places.SizeClass.{class_sizes, class_index, size_of, extent_of, extent_of_size}
+use Rattle.mm_model.specs.Places.Lowest.{IsLowest, Of_first, Of_second}
 use Rattle.mm_model.proofs.Places.SizeClasses.{IsCellSize, class_bounds, class_of_small}
 use Rattle.mm_model.proofs.Places.Choosing.{size_of-small, size_of-large}
 use Rattle.mm_words.specs.Piece.{Piece}

@@ -2,10 +2,10 @@
 use Rattle.std.specs.Prelude.{◌≡◌, ◌≢◌, ℕ, ◌+◌, ◌-◌, ◌*◌, ◌/◌, ◌<◌, ◌≤◌, List, length, map, replicate, Option, Some}
 use Rattle.std.specs.Prelude.{None, slice_get, slice_set}
 use Rattle.std.specs.Option.{option_map}
-use Rattle.mm_model.specs.Place.{Piece, Objects}
+use Rattle.mm_model.specs.Places.Place.{Piece, Objects}
 use Rattle.mm_model.specs.Good.{IsInside, AreApart}
-use Rattle.mm_model.specs.SizeClass.{extent_of, object_bytes}
-use Rattle.mm_model.specs.ByBase.{Begins, with_entry}
+use Rattle.mm_model.specs.Places.SizeClass.{extent_of, object_bytes}
+use Rattle.mm_model.specs.Views.ByBase.{Begins, with_entry}
 use Rattle.mm_words.specs.Piece as pieces
 use Rattle.mm_words.specs.Arena.{Arena}
 use Rattle.mm_words.specs.Location.{Location, location_of}

@@ -4,8 +4,8 @@ use Rattle.std.specs.Prelude.{replicate, slice_index, Option, Some, None}
 use Rattle.std.specs.Option.{option_map}
 use Rattle.std.specs.List.{list_any}
 use Rattle.mm_model.specs.declared.object.Shape.{Shape}
-use Rattle.mm_model.specs.SizeClass.{extent_of, object_bytes}
-use Rattle.mm_model.specs.ByBase.{based}
+use Rattle.mm_model.specs.Places.SizeClass.{extent_of, object_bytes}
+use Rattle.mm_model.specs.Views.ByBase.{based}
 use Rattle.mm_model.specs.Words.{falls}
 use Rattle.mm_words.specs.Piece.{Piece}
 use Rattle.mm_words.specs.Location.{location_of}

@@ -7,8 +7,8 @@ use Rattle.mm_model.specs.declared.object.Colour.{Colour}
 use Rattle.mm_model.specs.declared.object.Shape.{Shape}
 use Rattle.mm_model.specs.Object.{is_scanned}
 use Rattle.mm_model.specs.Words.{SlotKind, CountedSlot, WordSlot, RawSlot, slot_kind_at}
-use Rattle.mm_model.specs.SizeClass.{extent_of, object_bytes}
-use Rattle.mm_model.specs.ObjectView.{ObjectView, ObjectsByBase}
+use Rattle.mm_model.specs.Places.SizeClass.{extent_of, object_bytes}
+use Rattle.mm_model.specs.Views.ObjectView.{ObjectView, ObjectsByBase}
 use Rattle.mm_cells.specs.declared.marks.CellBits.{CellBits}
 use Rattle.mm_object.specs.declared.slot.Slot.{Slot}
 use Rattle.mm_object.specs.declared.slot.Slot.TheVariants.{Count, Word, Raw}

@@ -1,8 +1,8 @@
 // Objects are made and taken away.
 ghost use Rattle.std.specs.Prelude.{◌≡◌, ◌≢◌, ◌+◌, ◌/◌, ◌≤◌, ◌<◌, ℕ, List, length, replicate, slice_get, slice_index};
 ghost use Rattle.std.specs.Prelude.{slice_set, IfOk, OnErr, Some, None, false};
-ghost use Rattle.mm_model.specs.SizeClass.{size_of, extent_of, object_bytes};
-ghost use Rattle.mm_model.specs.ByBase.{Begins, with_entry};
+ghost use Rattle.mm_model.specs.Places.SizeClass.{size_of, extent_of, object_bytes};
+ghost use Rattle.mm_model.specs.Views.ByBase.{Begins, with_entry};
 ghost use Rattle.mm_words.specs.Piece.{with_words};
 ghost use Rattle.mm_words.specs.Writes.{written};
 ghost use Rattle.mm_pages.specs.Pages.{IsQuick, with_parked, IsSoundHeap};

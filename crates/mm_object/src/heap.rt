@@ -1,7 +1,7 @@
 // The objects of a region, and what is told of each.
 ghost use Rattle.std.specs.Prelude.{◌≡◌, ◌*◌, ◌/◌, ◌+◌, ◌≤◌, ◌<◌, length, drop, MatchOption, Some};
-ghost use Rattle.mm_model.specs.ByBase.{Begins};
-ghost use Rattle.mm_model.specs.SizeClass.{object_bytes};
+ghost use Rattle.mm_model.specs.Views.ByBase.{Begins};
+ghost use Rattle.mm_model.specs.Places.SizeClass.{object_bytes};
 ghost use Rattle.mm_words.specs.Location.{location_of};
 ghost use Rattle.mm_cells.specs.Cells.{HasNoCell, IsSoundCells};
 ghost use Rattle.mm_cells.specs.Marks.{IsFlags};

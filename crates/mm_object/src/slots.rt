@@ -1,8 +1,8 @@
 // The slots of objects.
 ghost use Rattle.std.specs.Prelude.{◌≡◌, ◌+◌, if◌then◌else◌, length, slice_index, slice_set, Some};
-ghost use Rattle.mm_model.specs.ByBase.{Begins};
+ghost use Rattle.mm_model.specs.Views.ByBase.{Begins};
 ghost use Rattle.mm_model.specs.Object.{is_scanned};
-ghost use Rattle.mm_model.specs.ObjectView.{scanned_words_of};
+ghost use Rattle.mm_model.specs.Views.ObjectView.{scanned_words_of};
 ghost use Rattle.mm_object.specs.Object.{StoredObject, view_of_stored, slot_of};
 ghost use Rattle.mm_object.specs.Heap.{with_object, IsObject, HasSlot, IsSound};
 

@@ -12,7 +12,7 @@ use Rattle.mm_model.specs.Effect.{Effect}
 use Rattle.mm_model.specs.Refusing.{refusal, first_refusal}
 use Rattle.mm_model.specs.Step.{Ends, Refused_as_full, Below_threshold, At_threshold, IsCarriedOut, IsStepUnless}
 use Rattle.mm_model.specs.Step.{IsStep, is_full}
-use Rattle.mm_model.specs.Turns.{reply_in}
+use Rattle.mm_model.specs.Logs.Turns.{reply_in}
 use Rattle.mm_model.proofs.Steps.Groups.{over-phase}
 use Rattle.mm_model.proofs.Cycle.ContinuedSteps.{ends_is_end}
 use Rattle.mm_pace.specs.Work.{is_running}

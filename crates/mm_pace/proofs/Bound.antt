@@ -12,7 +12,7 @@ use Rattle.mm_model.specs.declared.reply.Reply.{Reply}
 use Rattle.mm_model.specs.declared.settings.Settings.{Settings}
 use Rattle.mm_model.specs.State.{State, empty_state}
 use Rattle.mm_model.specs.Step.{IsStep}
-use Rattle.mm_model.specs.Turns.{Turn, AreSteps, begins, births_of, births_if, is_refusal, is_begin}
+use Rattle.mm_model.specs.Logs.Turns.{Turn, AreSteps, begins, births_of, births_if, is_refusal, is_begin}
 use Rattle.mm_pace.specs.Work.{work_of, is_running}
 use Rattle.mm_pace.specs.Recent.{changes_cycle, extent_born, since, work_begun}
 use Rattle.mm_pace.specs.Rules.{command_if, due_finish, due_begin, rules_at, runs_after, work_after}

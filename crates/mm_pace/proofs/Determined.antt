@@ -8,7 +8,7 @@ use Rattle.mm_model.specs.declared.line.Line.{Line}
 use Rattle.mm_model.specs.declared.settings.Settings.{Settings}
 use Rattle.mm_model.specs.State.{State, empty_state}
 use Rattle.mm_model.specs.After.{after}
-use Rattle.mm_model.specs.Turns.{Turn, is_group, AreJoined}
+use Rattle.mm_model.specs.Logs.Turns.{Turn, is_group, AreJoined}
 use Rattle.mm_model.proofs.Faithful.Turns.{group-same}
 use Rattle.mm_pace.specs.Rules.{Rule, rules_at}
 use Rattle.mm_pace.specs.Paced.{Stretch, turns_in, commands_in, AreAdded, AreRuled, IsPacedList}

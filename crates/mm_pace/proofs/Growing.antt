@@ -7,7 +7,7 @@ use Rattle.std.specs.List.{flat_map}
 use Rattle.mm_model.specs.declared.command.Command.{Command}
 use Rattle.mm_model.specs.declared.settings.Settings.{Settings}
 use Rattle.mm_model.specs.State.{State, empty_state}
-use Rattle.mm_model.specs.Turns.{Turn, AreSteps}
+use Rattle.mm_model.specs.Logs.Turns.{Turn, AreSteps}
 use Rattle.mm_model.specs.Good.{IsGood}
 use Rattle.mm_model.proofs.Good.Starting.{empty_is_good}
 use Rattle.mm_model.proofs.Good.Steps.{step_is_good}

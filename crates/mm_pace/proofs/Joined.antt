@@ -3,7 +3,7 @@ use Rattle.std.proofs.Common.{◌≡◌, List, [], ◌∷◌, ◌++◌, Option, 
 use Rattle.std.specs.Option.{option_map_or}
 use Rattle.mm_model.specs.declared.settings.Settings.{Settings}
 use Rattle.mm_model.specs.State.{State, empty_state}
-use Rattle.mm_model.specs.Turns.{Turn, AreSteps}
+use Rattle.mm_model.specs.Logs.Turns.{Turn, AreSteps}
 use Rattle.mm_pace.specs.Work.{work_of, is_running}
 use Rattle.mm_pace.specs.Rules.{last_turn, runs_after, work_after}
 

@@ -8,7 +8,7 @@ use Rattle.std.proofs.lemmas.List.{reverse-append, append-nil}
 use Rattle.std.proofs.lemmas.List.Folds.{list_any-append}
 use Rattle.std.proofs.lemmas.List.Sums.{sum_by-append}
 use Rattle.std.proofs.lemmas.Grind.{flat_map-append}
-use Rattle.mm_model.specs.Turns.{Turn, births_of, births_in, begins}
+use Rattle.mm_model.specs.Logs.Turns.{Turn, births_of, births_in, begins}
 use Rattle.mm_pace.specs.Work.{work_of}
 use Rattle.mm_pace.specs.Recent.{extent_born, changes_cycle, recent, since, work_begun}
 

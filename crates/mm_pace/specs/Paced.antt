@@ -5,7 +5,7 @@ use Rattle.mm_model.specs.declared.command.Command.{Command}
 use Rattle.mm_model.specs.declared.line.Line.{Line}
 use Rattle.mm_model.specs.declared.settings.Settings.{Settings}
 use Rattle.mm_model.specs.State.{State, empty_state}
-use Rattle.mm_model.specs.Turns.{Turn, AreTurns, AreSteps}
+use Rattle.mm_model.specs.Logs.Turns.{Turn, AreTurns, AreSteps}
 use Rattle.mm_pace.specs.Rules.{Rule, rules_at}
 
 -- A command of the trace as it is carried out: its own turn, and those of the commands that are added after it.

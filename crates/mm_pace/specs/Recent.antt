@@ -2,8 +2,8 @@
 use Rattle.std.specs.Prelude.{ℕ, Bool, not, if◌then◌else◌, List, [], ◌∷◌, reverse, Option}
 use Rattle.std.specs.List.{list_any, find, sum_by}
 use Rattle.std.specs.Option.{option_map_or}
-use Rattle.mm_model.specs.SizeClass.{extent_of, object_bytes}
-use Rattle.mm_model.specs.Turns.{Turn, Born, births_in, begins}
+use Rattle.mm_model.specs.Places.SizeClass.{extent_of, object_bytes}
+use Rattle.mm_model.specs.Logs.Turns.{Turn, Born, births_in, begins}
 use Rattle.mm_pace.specs.Work.{work_of, is_running}
 
 -- the bytes that an object took as it was born

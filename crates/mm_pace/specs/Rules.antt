@@ -4,7 +4,7 @@ use Rattle.std.specs.Prelude.{Some, None}
 use Rattle.std.specs.Option.{option_map_or, option_and_then}
 use Rattle.mm_model.specs.declared.command.Command.{Command}
 use Rattle.mm_model.specs.declared.command.Command.TheVariants as commands
-use Rattle.mm_model.specs.Turns.{Turn, Born, births_of}
+use Rattle.mm_model.specs.Logs.Turns.{Turn, Born, births_of}
 use Rattle.mm_pace.specs.Work.{work_of, is_running}
 use Rattle.mm_pace.specs.Recent.{extent_born, since, work_begun}
 

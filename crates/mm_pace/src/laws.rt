@@ -5,7 +5,7 @@ ghost use Rattle.mm_model.specs.declared.command.Command.{Command};
 ghost use Rattle.mm_model.specs.declared.line.Line.{Line};
 ghost use Rattle.mm_model.specs.declared.settings.Settings.{Settings};
 ghost use Rattle.mm_model.specs.State.{State, empty_state};
-ghost use Rattle.mm_model.specs.Turns.{Turn, AreSteps, births_of, begins};
+ghost use Rattle.mm_model.specs.Logs.Turns.{Turn, AreSteps, births_of, begins};
 ghost use Rattle.mm_pace.specs.Work.{work_of, is_running};
 ghost use Rattle.mm_pace.specs.Recent.{extent_born, changes_cycle, since, work_begun};
 ghost use Rattle.mm_pace.specs.Rules.{rules_at};

@@ -1,7 +1,7 @@
 -- Counts that are right apart from some objects.
 use Rattle.std.proofs.Common.{◌≡◌, ℕ, ◌+◌, ◌≤◌, false, List, [], sym, ap, ◌∙◌, arith}
 use Rattle.mm_model.specs.Phase.{lists}
-use Rattle.mm_model.specs.ObjectView.{ObjectsByBase, references_in}
+use Rattle.mm_model.specs.Views.ObjectView.{ObjectsByBase, references_in}
 use Rattle.mm_object.specs.Object.{StoredObjects, view_of_stored, views_of}
 use Rattle.mm_count.specs.declared.composite.Composite.{Composite}
 use Rattle.mm_count.specs.Table.{IsCountedAt}

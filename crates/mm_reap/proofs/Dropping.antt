@@ -5,13 +5,13 @@ use Rattle.std.specs.Prelude.{◌||◌, ◌==◌, slice_index}
 use Rattle.std.proofs.lemmas.List.{take_more, length-take-le, get_or-take, take-take}
 use Rattle.std.proofs.lemmas.Option.{get_or_from_slice_get}
 use Rattle.mm_model.specs.Phase.{lists}
-use Rattle.mm_model.specs.ByBase.{Begins}
-use Rattle.mm_model.specs.ObjectView.{ObjectView, ObjectsByBase, counted_words_of, holds_base, references_in}
-use Rattle.mm_model.specs.SetsByBase.{IsReapableAt}
+use Rattle.mm_model.specs.Views.ByBase.{Begins}
+use Rattle.mm_model.specs.Views.ObjectView.{ObjectView, ObjectsByBase, counted_words_of, holds_base, references_in}
+use Rattle.mm_model.specs.Views.SetsByBase.{IsReapableAt}
 use Rattle.mm_model.proofs.Lists.Growing.{any_get}
 use Rattle.mm_model.proofs.Lists.Tests.{same_tests}
 use Rattle.mm_model.proofs.Lists.Truth.{no_other, or_true}
-use Rattle.mm_model.proofs.View.Entries.{begins_same}
+use Rattle.mm_model.proofs.View.ByBase.Entries.{begins_same}
 use Rattle.mm_model.proofs.Lists.Fronts.{get-take, get-take_within}
 use Rattle.mm_object.specs.Object.{StoredObjects, view_of_stored, views_of}
 use Rattle.mm_object.specs.Heap.{Heap}

@@ -3,7 +3,7 @@ use Rattle.std.proofs.Common.{◌≡◌, ℕ, ◌+◌, ◌-◌, ◌<◌, ◌≤�
 use Rattle.std.proofs.Common.{arith}
 use Rattle.std.specs.Prelude.{slice_set, slice_index, slice_range}
 use Rattle.std.proofs.lemmas.List.Sums.{sum_by_more}
-use Rattle.mm_model.specs.ObjectView.{ObjectsByBase}
+use Rattle.mm_model.specs.Views.ObjectView.{ObjectsByBase}
 use Rattle.mm_reap.specs.Slots.{counted_slots_at, counted_slots_of}
 use Rattle.std.proofs.lemmas.List.{take-set, take_more_set, drop-set-lt, drop-drop, take-take, take-append-le}
 use Rattle.std.proofs.lemmas.List.{take_all, length-take}

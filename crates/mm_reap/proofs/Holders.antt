@@ -7,12 +7,12 @@ use Rattle.std.specs.Option.{option_map, option_and_then}
 use Rattle.std.proofs.lemmas.List.Sums.{sum_by-cons, get_or-le-sum_by}
 use Rattle.std.proofs.lemmas.Option.{slice_get_within, get_or_from_slice_get}
 use Rattle.mm_model.specs.Phase.{lists}
-use Rattle.mm_model.specs.ByBase.{Begins, Based, based, changed_from, changed}
-use Rattle.mm_model.specs.ObjectView.{ObjectView, ObjectsByBase, counted_words_of, holds_base, references_in}
+use Rattle.mm_model.specs.Views.ByBase.{Begins, Based, based, changed_from, changed}
+use Rattle.mm_model.specs.Views.ObjectView.{ObjectView, ObjectsByBase, counted_words_of, holds_base, references_in}
 use Rattle.mm_model.proofs.Lists.Counts.{none-counted}
 use Rattle.mm_model.proofs.Lists.KeyedSums.{count-flat_map}
 use Rattle.mm_model.proofs.Lists.Truth.{no_other}
-use Rattle.mm_model.proofs.View.Entries.{based_at, begins_at, get-changed}
+use Rattle.mm_model.proofs.View.ByBase.Entries.{based_at, begins_at, get-changed}
 use Rattle.mm_object.specs.Object.{StoredObjects, view_of_stored, views_of}
 use Rattle.mm_count.specs.Apart.{unless_dead, without_dead}
 use Rattle.mm_reap.proofs.Lists.{same-true, true-same}

@@ -4,9 +4,10 @@ use Rattle.std.proofs.Common.{refl, sym, ap, ◌∙◌, subst, length-append, ar
 use Rattle.std.specs.Prelude.{not, ◌&&◌, ◌==◌}
 use Rattle.mm_model.specs.Object.{is_counted}
 use Rattle.mm_model.specs.Phase.{lists}
-use Rattle.mm_model.specs.ByBase.{Begins}
-use Rattle.mm_model.specs.ObjectView.{ObjectView, ObjectsByBase, counted_words_of, holds_base, names_at, references_in}
-use Rattle.mm_model.specs.SetsByBase.{only_slots_hold_at, IsReapableAt}
+use Rattle.mm_model.specs.Views.ByBase.{Begins}
+use Rattle.mm_model.specs.Views.ObjectView.{ObjectView, ObjectsByBase, counted_words_of, holds_base, names_at}
+use Rattle.mm_model.specs.Views.ObjectView.{references_in}
+use Rattle.mm_model.specs.Views.SetsByBase.{only_slots_hold_at, IsReapableAt}
 use Rattle.mm_model.proofs.Lists.Truth.{no_other}
 use Rattle.mm_object.specs.Object.{StoredObject, view_of_stored, views_of}
 use Rattle.mm_object.specs.Heap.{Heap, IsSound}

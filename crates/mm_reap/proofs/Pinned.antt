@@ -7,9 +7,9 @@ use Rattle.std.proofs.lemmas.List.Folds.{list_any_more}
 use Rattle.std.proofs.lemmas.List.Sorted.{list_any-IsPermutation, IsPermutation-reverse}
 use Rattle.mm_model.specs.Object.{is_counted}
 use Rattle.mm_model.specs.Words.{falls}
-use Rattle.mm_model.specs.ByBase.{Begins}
-use Rattle.mm_model.specs.ObjectView.{ObjectView, names_at}
-use Rattle.mm_model.proofs.View.Entries.{begins_same}
+use Rattle.mm_model.specs.Views.ByBase.{Begins}
+use Rattle.mm_model.specs.Views.ObjectView.{ObjectView, names_at}
+use Rattle.mm_model.proofs.View.ByBase.Entries.{begins_same}
 use Rattle.mm_model.proofs.Places.Falling.{falls_from, falls_within}
 use Rattle.mm_model.proofs.Lists.Truth.{no_other}
 use Rattle.mm_object.specs.Object.{StoredObject, StoredObjects, view_of_stored}

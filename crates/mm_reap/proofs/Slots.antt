@@ -8,13 +8,13 @@ use Rattle.mm_model.specs.declared.object.Kind.{Kind}
 use Rattle.mm_model.specs.declared.object.Kind.TheVariants.{Traced, Leaf, Counted, Weak}
 use Rattle.mm_model.specs.Object.{is_scanned, is_counted}
 use Rattle.mm_model.specs.Words.{CountedSlot, WordSlot, slot_kind_at}
-use Rattle.mm_model.specs.ByBase.{Begins}
-use Rattle.mm_model.specs.ObjectView.{ObjectView, ObjectsByBase, counted_words_of, holds_base}
-use Rattle.mm_model.specs.GoodView.{HoldTight}
-use Rattle.mm_model.specs.ViewWords.{begins_counted_in}
+use Rattle.mm_model.specs.Views.ByBase.{Begins}
+use Rattle.mm_model.specs.Views.ObjectView.{ObjectView, ObjectsByBase, counted_words_of, holds_base}
+use Rattle.mm_model.specs.Views.GoodView.{HoldTight}
+use Rattle.mm_model.specs.Views.ViewWords.{begins_counted_in}
 use Rattle.mm_model.proofs.Good.Living.{each_get}
 use Rattle.mm_model.proofs.Lists.Truth.{no_other}
-use Rattle.mm_model.proofs.View.Entries.{begins_same}
+use Rattle.mm_model.proofs.View.ByBase.Entries.{begins_same}
 use Rattle.mm_model.proofs.View.GoodWords.{begins_counted_from}
 use Rattle.mm_object.specs.Object.{StoredObject, StoredObjects, view_of_stored, views_of}
 use Rattle.mm_object.specs.Heap.{Heap, IsSound}
@@ -23,7 +23,7 @@ use Rattle.mm_count.specs.Counts.{composite_at, HasCountedSlot}
 use Rattle.mm_count.specs.DeadApart.{IsRecounted}
 use Rattle.std.proofs.lemmas.Bool.Decides.{nat_tests}
 use Rattle.mm_count.proofs.Entries.{entry_at-begins}
-use Rattle.mm_count.proofs.Stored.{counted-slot}
+use Rattle.mm_count.proofs.Stores.Stored.{counted-slot}
 use Rattle.mm_reap.specs.Slots.{counted_slots_told, counted_slots_at}
 use Rattle.mm_reap.specs.Pins.{ListsPinned, ListsPinnedOrNamed, HasLeft, IsUnpinnedEntry}
 use Rattle.mm_reap.proofs.Recounted.{view-begins, seen, counted-back}

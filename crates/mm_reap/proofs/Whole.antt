@@ -8,9 +8,10 @@ use Rattle.std.proofs.lemmas.Option.{slice_get_within, get_or_from_slice_get}
 use Rattle.std.proofs.lemmas.List.Sorted.{list_any-IsPermutation, sum_by-IsPermutation}
 use Rattle.mm_model.specs.Object.{is_counted}
 use Rattle.mm_model.specs.Phase.{lists, IsAscending}
-use Rattle.mm_model.specs.ByBase.{Begins}
-use Rattle.mm_model.specs.ObjectView.{ObjectView, ObjectsByBase, counted_words_of, holds_base, names_at, references_in}
-use Rattle.mm_model.specs.SetsByBase.{only_slots_hold_at, IsReapableAt, AreBasesAt}
+use Rattle.mm_model.specs.Views.ByBase.{Begins}
+use Rattle.mm_model.specs.Views.ObjectView.{ObjectView, ObjectsByBase, counted_words_of, holds_base, names_at}
+use Rattle.mm_model.specs.Views.ObjectView.{references_in}
+use Rattle.mm_model.specs.Views.SetsByBase.{only_slots_hold_at, IsReapableAt, AreBasesAt}
 use Rattle.mm_model.proofs.Lists.Growing.{any_get}
 use Rattle.mm_model.proofs.Lists.Truth.{no_other, or_true}
 use Rattle.mm_object.specs.Object.{StoredObjects, view_of_stored, views_of}

@@ -2,7 +2,7 @@
 use Rattle.std.specs.Prelude.{◌≡◌, ◌≤◌, ℕ, ◌==◌, true, false, List}
 use Rattle.std.specs.List.{count_by}
 use Rattle.mm_model.specs.Phase.{lists}
-use Rattle.mm_model.specs.SetsByBase.{IsReapableAt}
+use Rattle.mm_model.specs.Views.SetsByBase.{IsReapableAt}
 use Rattle.mm_object.specs.Object.{StoredObjects, views_of}
 use Rattle.mm_object.specs.Heap.{Heap, IsSound}
 use Rattle.mm_count.specs.Table.{Table, IsCountedAt, IsRight}

@@ -1,8 +1,8 @@
 -- Which objects are pinned.
 use Rattle.std.specs.Prelude.{◌≡◌, ◌≢◌, ◌≤◌, ℕ, Bool, Some, slice_get, drop, true, false, IsTrue, List}
 use Rattle.mm_model.specs.Object.{is_counted}
-use Rattle.mm_model.specs.ByBase.{Begins}
-use Rattle.mm_model.specs.ObjectView.{ObjectView, counted_words_of, names_at, holds_base}
+use Rattle.mm_model.specs.Views.ByBase.{Begins}
+use Rattle.mm_model.specs.Views.ObjectView.{ObjectView, counted_words_of, names_at, holds_base}
 use Rattle.mm_object.specs.Object.{StoredObject, StoredObjects, view_of_stored, views_of}
 use Rattle.mm_object.specs.Heap.{Heap, Covers}
 use Rattle.mm_count.specs.Table.{IsCountedAt, composite_of}

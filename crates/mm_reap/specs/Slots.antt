@@ -1,7 +1,7 @@
 -- How many counted slots some objects have.
 use Rattle.std.specs.Prelude.{ℕ, List, length, Option, Some, None}
 use Rattle.std.specs.List.{sum_by}
-use Rattle.mm_model.specs.ObjectView.{ObjectView, ObjectsByBase, counted_words_of}
+use Rattle.mm_model.specs.Views.ObjectView.{ObjectView, ObjectsByBase, counted_words_of}
 use Rattle.mm_count.specs.Counts.{entry_at}
 
 abbrev pub counted_slots_told : Option ObjectView → ℕ

@@ -1,6 +1,6 @@
 // Objects that are found since those found before them alone hold them.
 ghost use Rattle.std.specs.Prelude.{◌≡◌, ◌≤◌, ◌<◌, ◌+◌, ◌-◌, ◌*◌, [], ℕ, List, length, take, slice_index};
-ghost use Rattle.mm_model.specs.GoodView.{HoldTight};
+ghost use Rattle.mm_model.specs.Views.GoodView.{HoldTight};
 ghost use Rattle.mm_object.specs.Object.{views_of};
 ghost use Rattle.mm_count.specs.Table.{IsCountedAt, IsSameTable};
 ghost use Rattle.mm_count.specs.DeadApart.{IsRecounted};

@@ -1,8 +1,8 @@
 // Which objects a reap frees.
 ghost use Rattle.std.specs.Prelude.{◌≡◌, ◌≤◌, ◌<◌, ◌+◌, ◌-◌, ◌*◌, ℕ, false, length, take, drop, IsPermutation};
 ghost use Rattle.std.specs.List.Sorted.{IsNonDecreasing};
-ghost use Rattle.mm_model.specs.GoodView.{HoldTight};
-ghost use Rattle.mm_model.specs.SetsByBase.{IsReapableAt, AreBasesAt};
+ghost use Rattle.mm_model.specs.Views.GoodView.{HoldTight};
+ghost use Rattle.mm_model.specs.Views.SetsByBase.{IsReapableAt, AreBasesAt};
 ghost use Rattle.mm_object.specs.Object.{views_of};
 ghost use Rattle.mm_object.specs.Heap.{IsSound};
 ghost use Rattle.mm_count.specs.Table.{IsRight, IsSameTable};

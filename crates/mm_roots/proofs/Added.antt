@@ -2,8 +2,8 @@
 use Rattle.std.proofs.Common.{◌≡◌, ◌≢◌, ℕ, ◌+◌, ◌-◌, ◌*◌, ◌/◌, inl, inr, List, Option, Some}
 use Rattle.std.proofs.Common.{replicate, sym, ap, ◌∙◌, subst, arith}
 use Rattle.std.specs.Prelude.{slice_get}
-use Rattle.mm_model.specs.ByBase.{Begins}
-use Rattle.mm_model.specs.SizeClass.{extent_of, area_bytes}
+use Rattle.mm_model.specs.Views.ByBase.{Begins}
+use Rattle.mm_model.specs.Places.SizeClass.{extent_of, area_bytes}
 use Rattle.mm_model.proofs.Places.Choosing.{extent_of-enough}
 use Rattle.mm_object.specs.Heap.{Heap}
 use Rattle.mm_fixed.specs.Fixed.{Fixed, Block, block_parked}

@@ -6,7 +6,7 @@ use Rattle.std.proofs.lemmas.Bool.{cases_eq, cases_lt}
 use Rattle.std.proofs.lemmas.List.{get_or-set_same, get_or-set_other, get_or_past, length-set}
 use Rattle.std.specs.Option.{option_map}
 use Rattle.std.proofs.lemmas.Option.{slice_get-map}
-use Rattle.mm_model.specs.ByBase.{Begins, with_entry}
+use Rattle.mm_model.specs.Views.ByBase.{Begins, with_entry}
 use Rattle.mm_model.proofs.Lists.Replaced.{get-set_same, get-set_other}
 use Rattle.mm_pages.specs.Pages.{Pages, IsSoundHeap}
 use Rattle.mm_pages.specs.Parked.{AreParked, HaveNoCommonRun}

@@ -3,7 +3,7 @@ use Rattle.std.proofs.Common.{◌≡◌, ℕ, ◌+◌, ◌*◌, ◌/◌, ◌^◌
 use Rattle.std.proofs.Common.{set, refl, sym, ap, ◌∙◌, subst, arith}
 use Rattle.std.specs.Prelude.{slice_get, slice_index}
 use Rattle.std.proofs.lemmas.Option.{slice_get_within}
-use Rattle.mm_model.specs.SizeClass.{area_bytes}
+use Rattle.mm_model.specs.Places.SizeClass.{area_bytes}
 use Rattle.mm_model.proofs.Places.Choosing.{extent_of-enough}
 use Rattle.mm_object.specs.Heap.{Heap, IsRaw, IsSound, with_raw}
 use Rattle.mm_fixed.specs.Fixed.{block_parked}

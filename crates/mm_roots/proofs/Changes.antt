@@ -6,7 +6,7 @@ use Rattle.std.proofs.lemmas.Bool.{cases_eq, cases_lt}
 use Rattle.std.proofs.lemmas.List.{same_lists, get_or-replicate, length-replicate, get_or_past, length-set}
 use Rattle.mm_sets.specs.Set.{members, IsSet, IsEmpty, IsLowest, IsEmptyFrom, IsLowestFrom}
 use Rattle.mm_model.specs.Areas.{most_areas}
-use Rattle.mm_model.specs.SizeClass.{extent_of, area_bytes}
+use Rattle.mm_model.specs.Places.SizeClass.{extent_of, area_bytes}
 use Rattle.mm_words.specs.Piece.{Piece, with_words}
 use Rattle.mm_words.specs.Location.{location_of}
 use Rattle.mm_words.specs.Writes.{written}

@@ -5,8 +5,8 @@ use Rattle.std.proofs.Common.{refl, ap, ◌∙◌, arith}
 use Rattle.std.specs.Prelude.{is_some}
 use Rattle.std.specs.Option.{option_map}
 use Rattle.mm_model.specs.Areas.{most_areas}
-use Rattle.mm_model.specs.Place.{first_from}
-use Rattle.mm_model.specs.View.{AreaView}
+use Rattle.mm_model.specs.Places.Place.{first_from}
+use Rattle.mm_model.specs.Views.View.{AreaView}
 use Rattle.mm_model.proofs.Lists.Tests.{first_from-next, first_from-here}
 use Rattle.mm_roots.specs.declared.area_shape.AreaShape.{AreaShape}
 use Rattle.mm_roots.specs.Areas.{Areas, area_at, IsLowestNumber}

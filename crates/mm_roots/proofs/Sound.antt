@@ -4,7 +4,7 @@ use Rattle.std.proofs.Common.{None, sym, ap, ◌∙◌, subst, arith}
 use Rattle.std.proofs.lemmas.Bool.{cases_eq, cases_lt}
 use Rattle.std.proofs.lemmas.List.{get_or-set_same, get_or-set_other, get_or_past, length-set}
 use Rattle.mm_model.specs.Areas.{most_areas}
-use Rattle.mm_model.specs.ByBase.{Begins, with_entry}
+use Rattle.mm_model.specs.Views.ByBase.{Begins, with_entry}
 use Rattle.mm_fixed.specs.Fixed.{Fixed, Block, block_parked, HasNoBlockAt, IsSoundFixed}
 use Rattle.mm_roots.specs.declared.area_shape.AreaShape.{AreaShape}
 use Rattle.mm_roots.specs.Areas.{Areas, area_at, with_area, over, IsAreaShape, IsSoundAreas, OwnsAll}

@@ -8,7 +8,7 @@ use Rattle.std.proofs.lemmas.List.{length-take, length-drop}
 use Rattle.std.proofs.lemmas.List.FromFn.{get_or-map-range_with_len, length-map-range_with_len}
 use Rattle.mm_sets.specs.Set.{members, IsSet}
 use Rattle.mm_model.specs.Areas.{most_areas}
-use Rattle.mm_model.specs.SizeClass.{extent_of, area_bytes}
+use Rattle.mm_model.specs.Places.SizeClass.{extent_of, area_bytes}
 use Rattle.mm_words.specs.Piece.{Piece}
 use Rattle.mm_words.specs.Location.{location_of}
 use Rattle.mm_words.specs.Writes.{written}

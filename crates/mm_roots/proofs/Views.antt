@@ -7,9 +7,9 @@ use Rattle.std.specs.Option.{option_map}
 use Rattle.std.proofs.lemmas.Bool.{cases_lt}
 use Rattle.std.proofs.lemmas.Bool.Decides.{nat_tests}
 use Rattle.std.proofs.lemmas.List.{drop_more, drop_all}
-use Rattle.mm_model.specs.View.{AreaView}
-use Rattle.mm_model.specs.ViewWords.{scanned_cells_of}
-use Rattle.mm_model.specs.ViewEffect.{view_area_inserted}
+use Rattle.mm_model.specs.Views.View.{AreaView}
+use Rattle.mm_model.specs.Views.ViewWords.{scanned_cells_of}
+use Rattle.mm_model.specs.Views.ViewEffect.{view_area_inserted}
 use Rattle.mm_roots.specs.declared.area_shape.AreaShape.{AreaShape}
 use Rattle.mm_roots.proofs.Counts.{count-none, count-some}
 use Rattle.mm_roots.specs.Views.{area_words, view_of_area, views_from, view_numbered, with_cell}

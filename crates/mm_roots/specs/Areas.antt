@@ -5,8 +5,8 @@ use Rattle.std.specs.Prelude.{slice_set}
 use Rattle.std.specs.List.{count_by}
 use Rattle.mm_model.specs.declared.reply.AreaAnswer.{AreaAnswer}
 use Rattle.mm_model.specs.Areas.{most_areas}
-use Rattle.mm_model.specs.ByBase.{Begins}
-use Rattle.mm_model.specs.SizeClass.{size_of, extent_of, area_bytes}
+use Rattle.mm_model.specs.Views.ByBase.{Begins}
+use Rattle.mm_model.specs.Places.SizeClass.{size_of, extent_of, area_bytes}
 use Rattle.mm_words.specs.Location.{Location}
 use Rattle.mm_pages.specs.Pages.{Pages}
 use Rattle.mm_object.specs.Heap.{Heap}

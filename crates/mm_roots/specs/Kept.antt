@@ -4,7 +4,7 @@ use Rattle.std.specs.Prelude.{Option, Some, None, slice_index, slice_index_or, s
 use Rattle.std.specs.List.{range_with_len}
 use Rattle.mm_sets.specs.Set.{members, IsSet}
 use Rattle.mm_model.specs.Areas.{most_areas}
-use Rattle.mm_model.specs.SizeClass.{extent_of, area_bytes}
+use Rattle.mm_model.specs.Places.SizeClass.{extent_of, area_bytes}
 use Rattle.mm_words.specs.Piece.{Piece, with_words}
 use Rattle.mm_words.specs.Location.{Location, location_of}
 use Rattle.mm_words.specs.Writes.{written}

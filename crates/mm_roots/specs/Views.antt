@@ -4,9 +4,9 @@ use Rattle.std.specs.Prelude.{Option, Some, None, is_some, slice_index, slice_in
 use Rattle.std.specs.Option.{unwrap_or}
 use Rattle.std.specs.List.{find, flat_map}
 use Rattle.mm_model.specs.Areas.{most_areas}
-use Rattle.mm_model.specs.Place.{first_from}
-use Rattle.mm_model.specs.View.{AreaView}
-use Rattle.mm_model.specs.ViewWords.{scanned_cells_of, cell_kind_of}
+use Rattle.mm_model.specs.Places.Place.{first_from}
+use Rattle.mm_model.specs.Views.View.{AreaView}
+use Rattle.mm_model.specs.Views.ViewWords.{scanned_cells_of, cell_kind_of}
 use Rattle.mm_object.specs.declared.slot.Slot.{Slot}
 use Rattle.mm_object.specs.Object.{slot_with}
 use Rattle.mm_roots.specs.declared.area_shape.AreaShape.{AreaShape}

@@ -2,9 +2,9 @@
 ghost use Rattle.std.specs.Prelude.{◌≡◌, ◌+◌, ◌*◌, ◌/◌, ◌<◌, ◌≤◌, ℕ, false, not, ◌==◌, List, Option, Some, None};
 ghost use Rattle.std.specs.Prelude.{IfOk, OnErr, length};
 ghost use Rattle.std.specs.List.{filter};
-ghost use Rattle.mm_model.specs.SizeClass.{size_of, extent_of, area_bytes};
-ghost use Rattle.mm_model.specs.ByBase.{Begins};
-ghost use Rattle.mm_model.specs.ViewEffect.{new_area_view, view_area_inserted};
+ghost use Rattle.mm_model.specs.Places.SizeClass.{size_of, extent_of, area_bytes};
+ghost use Rattle.mm_model.specs.Views.ByBase.{Begins};
+ghost use Rattle.mm_model.specs.Views.ViewEffect.{new_area_view, view_area_inserted};
 ghost use Rattle.mm_pages.specs.Pages.{with_parked, IsQuick, IsSoundHeap};
 ghost use Rattle.mm_pages.specs.Parked.{AreParked, HaveNoCommonRun, AreAllParked};
 ghost use Rattle.mm_cells.specs.Placing.{run_length, found_in, LeavesPage};

@@ -2,7 +2,7 @@
 ghost use Rattle.std.specs.Prelude.{◌≡◌, ℕ, ◌+◌, ◌<◌, ◌≤◌, [], ◌++◌, List, Option, MatchOption, IfSome, slice_index};
 ghost use Rattle.std.specs.List.{flat_map};
 ghost use Rattle.mm_model.specs.Areas.{most_areas};
-ghost use Rattle.mm_model.specs.ViewWords.{scanned_cells_of};
+ghost use Rattle.mm_model.specs.Views.ViewWords.{scanned_cells_of};
 ghost use Rattle.mm_roots.specs.Areas.{IsScanned, IsSoundAreas, IsBeside};
 ghost use Rattle.mm_roots.specs.Views.{cell_words, views_of_areas, scanned_words_from};
 

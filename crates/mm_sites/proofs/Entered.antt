@@ -2,7 +2,7 @@
 use Rattle.std.proofs.Common.{◌≡◌, ℕ, ◌/◌, ◌%◌, ◌≤◌, true, false, length, Option, Some, None, refl, arith}
 use Rattle.std.proofs.lemmas.Option.{slice_get_past}
 use Rattle.std.specs.Prelude.{is_some, slice_get}
-use Rattle.mm_model.proofs.View.ReplacedEntries.{begins_get}
+use Rattle.mm_model.proofs.View.ByBase.ReplacedEntries.{begins_get}
 use Rattle.mm_sites.specs.declared.entry.Entry.{Entry}
 use Rattle.mm_sites.specs.Entries.{EntriesByBase, HasEntry}
 

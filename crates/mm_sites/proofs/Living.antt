@@ -8,16 +8,16 @@ use Rattle.std.specs.List.{filter, find, sum_by, zip, IsDistinct}
 use Rattle.std.specs.Option.{option_map}
 use Rattle.mm_model.specs.Object.{Object, is_live, live_objects}
 use Rattle.mm_model.specs.State.{State, Lives}
-use Rattle.mm_model.specs.Place.{live_pieces}
+use Rattle.mm_model.specs.Places.Place.{live_pieces}
 use Rattle.mm_model.specs.Good.{IsPlaced}
-use Rattle.mm_model.specs.ByBase.{Based, based}
+use Rattle.mm_model.specs.Views.ByBase.{Based, based}
 use Rattle.mm_model.proofs.Lists.Growing.{find-Some, find-only}
 use Rattle.mm_model.proofs.Lists.Keyed.{at, IsKeyed, keyed-get}
 use Rattle.mm_model.proofs.Lists.KeyedSums.{sums_alike}
 use Rattle.mm_model.proofs.Lists.Truth.{together}
 use Rattle.mm_model.proofs.Places.Placing.{both}
 use Rattle.mm_model.proofs.Good.LiveLists.{keyed-lives, one_birth}
-use Rattle.mm_model.proofs.View.Entries.{based_at, begins_at, keyed-based}
+use Rattle.mm_model.proofs.View.ByBase.Entries.{based_at, begins_at, keyed-based}
 use Rattle.mm_sites.specs.declared.entry.Entry.{Entry}
 use Rattle.mm_sites.specs.Entries.{EntriesByBase, total_of}
 use Rattle.mm_sites.specs.Births.{total_in}

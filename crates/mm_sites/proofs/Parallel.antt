@@ -10,9 +10,10 @@ use Rattle.std.specs.List.{list_all, starts_with}
 use Rattle.mm_model.specs.declared.command.Command.{Command}
 use Rattle.mm_model.specs.declared.refusal.LineFault.{LineFault}
 use Rattle.mm_model.specs.declared.refusal.LineFault.TheVariants.{LineTooLong}
-use Rattle.mm_model.specs.Trace.{is_comment, is_digit, digits_value, is_number, line_reading, words_reading, words_of}
-use Rattle.mm_model.specs.Trace.{reading_before, reading_from}
-use Rattle.mm_model.specs.Turns.{Turn, Born, births_of, births_in}
+use Rattle.mm_model.specs.Logs.Trace.{is_comment, is_digit, digits_value, is_number, line_reading, words_reading}
+use Rattle.mm_model.specs.Logs.Trace.{words_of}
+use Rattle.mm_model.specs.Logs.Trace.{reading_before, reading_from}
+use Rattle.mm_model.specs.Logs.Turns.{Turn, Born, births_of, births_in}
 use Rattle.mm_sites.specs.Births.{birth_sites}
 use Rattle.mm_sites.specs.Lines.{site_number, site_line, site_mark, site_after, site_before, sites_behind}
 

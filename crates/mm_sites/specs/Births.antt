@@ -3,7 +3,7 @@ use Rattle.std.specs.Prelude.{ℕ, ◌&&◌, ◌==◌, List, map, length}
 use Rattle.std.specs.List.{filter, flat_map, sum_by, zip}
 use Rattle.mm_model.specs.Object.{Object, is_live}
 use Rattle.mm_model.specs.State.{State}
-use Rattle.mm_model.specs.Turns.{Turn, births_of}
+use Rattle.mm_model.specs.Logs.Turns.{Turn, births_of}
 use Rattle.mm_sites.specs.declared.site_total.SiteTotal.{SiteTotal}
 
 -- What is born in a turn has the site of the turn's command. The turns are those of a trace's commands, and the sites

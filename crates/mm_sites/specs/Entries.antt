@@ -1,7 +1,7 @@
 -- Objects with their sites, as a list by base, and the totals of a site.
 use Rattle.std.specs.Prelude.{ℕ, ◌==◌, List, length, Option}
 use Rattle.std.specs.List.{filter, sum_by}
-use Rattle.mm_model.specs.ByBase.{Begins, Based, based}
+use Rattle.mm_model.specs.Views.ByBase.{Begins, Based, based}
 use Rattle.mm_sites.specs.declared.entry.Entry.{Entry}
 use Rattle.mm_sites.specs.declared.site_total.SiteTotal.{SiteTotal}
 

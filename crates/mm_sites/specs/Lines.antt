@@ -5,7 +5,7 @@ use Rattle.std.specs.List.{find, starts_with}
 use Rattle.std.specs.Option.{option_and_then}
 use Rattle.mm_model.specs.declared.command.Command.{Command}
 use Rattle.mm_model.specs.declared.refusal.LineFault.{LineFault}
-use Rattle.mm_model.specs.Trace.{is_number, digits_value, line_reading, lines_of}
+use Rattle.mm_model.specs.Logs.Trace.{is_number, digits_value, line_reading, lines_of}
 
 -- how many sites there are
 abbrev pub most_sites : ℕ

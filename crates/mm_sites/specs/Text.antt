@@ -1,7 +1,7 @@
 -- The lines that tell of sites.
 use Rattle.std.specs.Prelude.{ℕ, if◌then◌else◌, ◌==◌, List, [], ◌∷◌, codes, decimal}
 use Rattle.std.specs.List.{flat_map, range_with_len}
-use Rattle.mm_model.specs.Spelling.{sentence}
+use Rattle.mm_model.specs.Logs.Spelling.{sentence}
 use Rattle.mm_model.specs.State.{State}
 use Rattle.mm_sites.specs.declared.site_total.SiteTotal.{SiteTotal}
 use Rattle.mm_sites.specs.Births.{total_in}

@@ -2,8 +2,8 @@
 ghost use Rattle.std.specs.Prelude.{◌≡◌, ℕ, List, length, Ok, Some, None};
 ghost use Rattle.mm_model.specs.Good.{IsGood};
 ghost use Rattle.mm_model.specs.State.{State};
-ghost use Rattle.mm_model.specs.Trace.{line_reading, reading_from, trace_reading};
-ghost use Rattle.mm_model.specs.Turns.{Turn, births_in};
+ghost use Rattle.mm_model.specs.Logs.Trace.{line_reading, reading_from, trace_reading};
+ghost use Rattle.mm_model.specs.Logs.Turns.{Turn, births_in};
 ghost use Rattle.mm_sites.specs.Births.{birth_sites, total_in};
 ghost use Rattle.mm_sites.specs.Entries.{EntriesByBase, total_of};
 ghost use Rattle.mm_sites.specs.Lines.{site_line, sites_of_lines, sites_of_trace};

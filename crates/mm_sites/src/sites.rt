@@ -2,7 +2,7 @@
 ghost use Rattle.std.specs.Prelude.{◌≡◌, ℕ, ◌*◌, ◌%◌, ◌<◌, ◌≤◌, ◌↔◌, true, false, length, replicate, Some, None};
 ghost use Rattle.std.specs.Prelude.{IsTrue, IfOk};
 ghost use Rattle.std.specs.Bool.{OnTrue, OnFalse};
-ghost use Rattle.mm_model.specs.ByBase.{with_entry};
+ghost use Rattle.mm_model.specs.Views.ByBase.{with_entry};
 ghost use Rattle.mm_sites.specs.Entries.{HasEntry, total_of};
 
 use crate::NoMemory;

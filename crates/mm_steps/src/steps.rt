@@ -4,7 +4,7 @@ ghost use Rattle.std.specs.Prelude.{◌≡◌, ◌+◌, ◌<◌};
 use std::marker::Model;
 use std::sync::ledger::{Blank, Book, Ledger, Share};
 
-/// The number of steps taken so far. It takes no bytes at run time, and nothing but `tick` changes it.
+/// The number of steps taken so far. It takes no bytes at run time, and `tick` counts one.
 ///
 /// The ledger `L` ties the counter to the call that made it, so that no other counter passes for it.
 #[derive(Drop)]

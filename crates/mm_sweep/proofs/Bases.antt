@@ -10,10 +10,10 @@ use Rattle.std.proofs.lemmas.List.Sums.{sum_by-append, sum_by-cons}
 use Rattle.mm_model.specs.declared.line.Line.{Line}
 use Rattle.mm_model.specs.declared.line.Line.TheVariants as lines
 use Rattle.mm_model.specs.Phase.{lists, IsAscending}
-use Rattle.mm_model.specs.ObjectView.{ObjectsByBase}
-use Rattle.mm_model.specs.Spelling.{spelling, spelling_of}
-use Rattle.mm_model.specs.ViewPhase.{view_final_lines}
-use Rattle.mm_model.specs.ViewWords.{object_at}
+use Rattle.mm_model.specs.Views.ObjectView.{ObjectsByBase}
+use Rattle.mm_model.specs.Logs.Spelling.{spelling, spelling_of}
+use Rattle.mm_model.specs.Views.ViewPhase.{view_final_lines}
+use Rattle.mm_model.specs.Views.ViewWords.{object_at}
 use Rattle.mm_sweep.specs.Release.{final_lines_at, final_slots, finalized_slots}
 
 -- each of the first k

@@ -2,8 +2,8 @@
 use Rattle.std.proofs.Common.{◌≡◌, ℕ, ◌+◌, List, [], ◌∷◌, ◌++◌, Option, Some, None, refl, sym, ap, ◌∙◌}
 use Rattle.std.specs.Prelude.{◌==◌}
 use Rattle.std.specs.List.{flat_map, count_by}
-use Rattle.mm_model.specs.ByBase.{Based, based_from, changed_from, changed}
-use Rattle.mm_model.specs.ObjectView.{ObjectView, counted_words_of, references_in}
+use Rattle.mm_model.specs.Views.ByBase.{Based, based_from, changed_from, changed}
+use Rattle.mm_model.specs.Views.ObjectView.{ObjectView, counted_words_of, references_in}
 use Rattle.mm_object.specs.Object.{StoredObject, StoredObjects, view_of_stored, views_of}
 
 abbrev counted_words : List (Based ObjectView) → List ℕ

@@ -5,10 +5,10 @@ use Rattle.std.specs.Prelude.{slice_get, if◌then◌else◌, IsTrue}
 use Rattle.std.specs.Option.{option_and_then}
 use Rattle.mm_model.specs.Object.{is_counted}
 use Rattle.mm_model.specs.Phase.{lists}
-use Rattle.mm_model.specs.ByBase.{Begins, changed}
-use Rattle.mm_model.specs.ObjectView.{ObjectView, references_in}
-use Rattle.mm_model.specs.SetsByBase.{count_at}
-use Rattle.mm_model.proofs.View.MappedEntries.{mapped_begins}
+use Rattle.mm_model.specs.Views.ByBase.{Begins, changed}
+use Rattle.mm_model.specs.Views.ObjectView.{ObjectView, references_in}
+use Rattle.mm_model.specs.Views.SetsByBase.{count_at}
+use Rattle.mm_model.proofs.View.ByBase.MappedEntries.{mapped_begins}
 use Rattle.mm_object.specs.Object.{StoredObject, StoredObjects, view_of_stored, views_of}
 use Rattle.mm_weak.specs.Links.{unlinked}
 use Rattle.mm_count.specs.declared.composite.Composite.{Composite}

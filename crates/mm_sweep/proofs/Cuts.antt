@@ -4,10 +4,10 @@ use Rattle.std.proofs.Common.{arith}
 use Rattle.std.specs.Prelude.{slice_get, slice_set}
 use Rattle.std.specs.Option.{option_map, option_and_then}
 use Rattle.std.proofs.lemmas.Bool.{cases_eq}
-use Rattle.mm_model.specs.ByBase.{Begins, with_entry, changed}
+use Rattle.mm_model.specs.Views.ByBase.{Begins, with_entry, changed}
 use Rattle.mm_model.proofs.Lists.Replaced.{get-set_same, get-set_other}
-use Rattle.mm_model.proofs.View.Entries.{begins_same}
-use Rattle.mm_model.proofs.View.ChangedEntries.{changed-entries}
+use Rattle.mm_model.proofs.View.ByBase.Entries.{begins_same}
+use Rattle.mm_model.proofs.View.ByBase.ChangedEntries.{changed-entries}
 use Rattle.mm_object.specs.Object.{StoredObject, StoredObjects}
 use Rattle.mm_object.specs.Heap.{Heap}
 use Rattle.mm_weak.specs.Links.{IsLinked, unlinked}

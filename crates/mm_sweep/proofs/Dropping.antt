@@ -5,13 +5,13 @@ use Rattle.std.specs.Prelude.{◌==◌, ◌||◌, slice_index, if◌then◌else�
 use Rattle.std.specs.List.{sum_by}
 use Rattle.std.proofs.lemmas.List.Sums.{sum_by-append, sum_by-cons}
 use Rattle.mm_model.specs.Phase.{lists}
-use Rattle.mm_model.specs.ByBase.{Begins}
-use Rattle.mm_model.specs.ObjectView.{ObjectView, ObjectsByBase, counted_words_of}
-use Rattle.mm_model.specs.SetsByBase.{count_at}
-use Rattle.mm_model.specs.ViewWords.{object_at}
-use Rattle.mm_model.proofs.View.Entries.{begins_same}
-use Rattle.mm_model.proofs.View.ChangedEntries.{changed-alike}
-use Rattle.mm_model.proofs.View.MappedEntries.{begins_mapped}
+use Rattle.mm_model.specs.Views.ByBase.{Begins}
+use Rattle.mm_model.specs.Views.ObjectView.{ObjectView, ObjectsByBase, counted_words_of}
+use Rattle.mm_model.specs.Views.SetsByBase.{count_at}
+use Rattle.mm_model.specs.Views.ViewWords.{object_at}
+use Rattle.mm_model.proofs.View.ByBase.Entries.{begins_same}
+use Rattle.mm_model.proofs.View.ByBase.ChangedEntries.{changed-alike}
+use Rattle.mm_model.proofs.View.ByBase.MappedEntries.{begins_mapped}
 use Rattle.mm_object.specs.Object.{StoredObject, StoredObjects, view_of_stored, views_of}
 use Rattle.mm_object.specs.Heap.{Heap, IsObject}
 use Rattle.mm_count.specs.Table.{composite_of}

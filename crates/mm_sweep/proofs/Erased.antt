@@ -6,12 +6,12 @@ use Rattle.std.specs.Option.{option_map}
 use Rattle.std.proofs.lemmas.Bool.{cases_eq, eq-eqb, cases_lt}
 use Rattle.std.proofs.lemmas.List.{get_or-set_other}
 use Rattle.std.proofs.lemmas.Option.{slice_get-map}
-use Rattle.mm_model.specs.ByBase.{Begins, with_entry}
-use Rattle.mm_model.specs.ObjectView.{ObjectView, ObjectsByBase}
-use Rattle.mm_model.specs.GoodView.{ArePaired, IsPairedAt}
+use Rattle.mm_model.specs.Views.ByBase.{Begins, with_entry}
+use Rattle.mm_model.specs.Views.ObjectView.{ObjectView, ObjectsByBase}
+use Rattle.mm_model.specs.Views.GoodView.{ArePaired, IsPairedAt}
 use Rattle.mm_model.proofs.Lists.Replaced.{get-set_same, get-set_other, map-set}
-use Rattle.mm_model.proofs.View.Entries.{begins_same}
-use Rattle.mm_model.proofs.View.MappedEntries.{begins_mapped}
+use Rattle.mm_model.proofs.View.ByBase.Entries.{begins_same}
+use Rattle.mm_model.proofs.View.ByBase.MappedEntries.{begins_mapped}
 use Rattle.mm_pages.specs.Pages.{Pages, with_parked, IsSoundHeap}
 use Rattle.mm_pages.specs.Parked.{AreParked, HaveNoCommonRun, AreAllParked}
 use Rattle.mm_cells.specs.Cells as cells

@@ -7,13 +7,13 @@ use Rattle.std.specs.Option.{option_map}
 use Rattle.std.proofs.lemmas.Bool.{eq-eqb}
 use Rattle.std.proofs.lemmas.Option.{slice_get-map}
 use Rattle.mm_model.specs.declared.line.Line.TheVariants as lines
-use Rattle.mm_model.specs.ByBase.{Begins, Based, based}
-use Rattle.mm_model.specs.ObjectView.{ObjectView, ObjectsByBase}
-use Rattle.mm_model.specs.ViewPhase.{view_final_lines}
-use Rattle.mm_model.specs.ViewWords.{object_at}
+use Rattle.mm_model.specs.Views.ByBase.{Begins, Based, based}
+use Rattle.mm_model.specs.Views.ObjectView.{ObjectView, ObjectsByBase}
+use Rattle.mm_model.specs.Views.ViewPhase.{view_final_lines}
+use Rattle.mm_model.specs.Views.ViewWords.{object_at}
 use Rattle.mm_model.proofs.Lists.Growing.{find-only}
-use Rattle.mm_model.proofs.View.Entries.{based_at, begins_at, begins_same}
-use Rattle.mm_model.proofs.View.MappedEntries.{begins_mapped}
+use Rattle.mm_model.proofs.View.ByBase.Entries.{based_at, begins_at, begins_same}
+use Rattle.mm_model.proofs.View.ByBase.MappedEntries.{begins_mapped}
 use Rattle.mm_cells.specs.declared.marks.CellBits.{CellBits}
 use Rattle.mm_cells.specs.Cells as cells
 use Rattle.mm_cells.specs.Cells.{Cells}

@@ -2,8 +2,8 @@
 use Rattle.std.proofs.Common.{◌≡◌, ℕ, Bool, false, List, [], ◌++◌, Some, None, refl, sym, ap, subst, ◌∙◌}
 use Rattle.std.specs.Prelude.{if◌then◌else◌}
 use Rattle.mm_model.specs.Phase.{lists}
-use Rattle.mm_model.specs.ByBase.{Begins, changed}
-use Rattle.mm_model.proofs.View.ChangedEntries.{begins_changed}
+use Rattle.mm_model.specs.Views.ByBase.{Begins, changed}
+use Rattle.mm_model.proofs.View.ByBase.ChangedEntries.{begins_changed}
 use Rattle.mm_pages.specs.Pages.{Pages}
 use Rattle.mm_object.specs.Object.{StoredObject, StoredObjects}
 use Rattle.mm_object.specs.Heap.{Heap, IsObject}

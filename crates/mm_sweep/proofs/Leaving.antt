@@ -5,10 +5,10 @@ use Rattle.std.specs.Prelude.{◌||◌, IsTrue}
 use Rattle.std.proofs.lemmas.Bool.{cases_eq}
 use Rattle.mm_model.specs.Object.{is_counted}
 use Rattle.mm_model.specs.Phase.{lists}
-use Rattle.mm_model.specs.ByBase.{Begins}
-use Rattle.mm_model.specs.ObjectView.{ObjectsByBase}
-use Rattle.mm_model.specs.SetsByBase.{count_at}
-use Rattle.mm_model.proofs.View.Entries.{begins_same}
+use Rattle.mm_model.specs.Views.ByBase.{Begins}
+use Rattle.mm_model.specs.Views.ObjectView.{ObjectsByBase}
+use Rattle.mm_model.specs.Views.SetsByBase.{count_at}
+use Rattle.mm_model.proofs.View.ByBase.Entries.{begins_same}
 use Rattle.mm_object.specs.Object.{StoredObject, StoredObjects, views_of}
 use Rattle.mm_object.specs.Heap.{Heap}
 use Rattle.mm_count.specs.declared.composite.Composite.{Composite}
@@ -21,7 +21,7 @@ use Rattle.mm_count.proofs.Apart.{views_without, views_of-without_dead}
 use Rattle.mm_count.proofs.Null.{keeps-same}
 use Rattle.mm_count.proofs.Places.{cases, IsOwn, IsOther, composite_of-own, composite_of-other}
 use Rattle.mm_count.proofs.Words.{fits-composite_in}
-use Rattle.mm_count.proofs.Writing.{keeps-then}
+use Rattle.mm_count.proofs.Stores.Writing.{keeps-then}
 use Rattle.mm_sweep.proofs.Released.{lists-append, lists_one-same, lists_one-other}
 
 -- the counts are as they were, and only the object at a base isn't in the table any more

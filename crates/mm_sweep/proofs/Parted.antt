@@ -2,8 +2,8 @@
 use Rattle.std.proofs.Common.{◌≡◌, ◌≢◌, ℕ, Bool, true, false, [], ◌∷◌, Some, None, refl, sym, ap, subst, ◌∙◌, arith}
 use Rattle.std.specs.Prelude.{slice_get}
 use Rattle.mm_model.specs.Object.{is_weak}
-use Rattle.mm_model.specs.ByBase.{Begins, with_entry, changed}
-use Rattle.mm_model.proofs.View.Entries.{begins_same}
+use Rattle.mm_model.specs.Views.ByBase.{Begins, with_entry, changed}
+use Rattle.mm_model.proofs.View.ByBase.Entries.{begins_same}
 use Rattle.mm_object.specs.Object.{StoredObject, StoredObjects}
 use Rattle.mm_object.specs.Heap.{Heap, IsSound}
 use Rattle.mm_weak.specs.Links.{IsLinked, IsParted, unlinked}

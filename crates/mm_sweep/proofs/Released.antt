@@ -6,10 +6,10 @@ use Rattle.std.specs.Option.{option_map, option_and_then}
 use Rattle.std.proofs.lemmas.Bool.Decides.{nat_tests}
 use Rattle.std.proofs.lemmas.List.Folds.{list_any-append}
 use Rattle.mm_model.specs.Phase.{lists}
-use Rattle.mm_model.specs.ByBase.{changed}
-use Rattle.mm_model.specs.ObjectView.{ObjectView}
-use Rattle.mm_model.specs.ViewPhase.{unless_listed, view_after_release}
-use Rattle.mm_model.proofs.View.ChangedEntries.{changed-changed, changed-alike, changed-none, map-changed}
+use Rattle.mm_model.specs.Views.ByBase.{changed}
+use Rattle.mm_model.specs.Views.ObjectView.{ObjectView}
+use Rattle.mm_model.specs.Views.ViewPhase.{unless_listed, view_after_release}
+use Rattle.mm_model.proofs.View.ByBase.ChangedEntries.{changed-changed, changed-alike, changed-none, map-changed}
 use Rattle.mm_object.specs.Object.{StoredObject, StoredObjects, view_of_stored, views_of}
 use Rattle.mm_weak.specs.Links.{unlinked}
 use Rattle.mm_sweep.specs.Release.{after_release}

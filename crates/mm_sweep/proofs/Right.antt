@@ -3,8 +3,8 @@ use Rattle.std.proofs.Common.{◌≡◌, ℕ, ◌≤◌, Bool, true, false, List
 use Rattle.std.specs.Prelude.{slice_get, if◌then◌else◌, IsTrue}
 use Rattle.mm_model.specs.Object.{is_counted}
 use Rattle.mm_model.specs.Phase.{lists}
-use Rattle.mm_model.specs.ByBase.{Begins, changed}
-use Rattle.mm_model.proofs.View.ChangedEntries.{IsChangedFrom, changed_begins, begins_changed}
+use Rattle.mm_model.specs.Views.ByBase.{Begins, changed}
+use Rattle.mm_model.proofs.View.ByBase.ChangedEntries.{IsChangedFrom, changed_begins, begins_changed}
 use Rattle.mm_object.specs.Object.{StoredObject, StoredObjects}
 use Rattle.mm_object.specs.Heap.{Heap}
 use Rattle.mm_weak.specs.Links.{unlinked}

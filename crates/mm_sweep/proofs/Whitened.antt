@@ -6,12 +6,12 @@ use Rattle.std.specs.Option.{option_map}
 use Rattle.mm_model.specs.declared.object.Colour.TheVariants.{White}
 use Rattle.mm_model.specs.Object.{is_counted}
 use Rattle.mm_model.specs.Phase.{lists}
-use Rattle.mm_model.specs.ByBase.{Begins, changed_from, changed}
-use Rattle.mm_model.specs.ObjectView.{ObjectsByBase}
-use Rattle.mm_model.specs.SetsByBase.{count_at}
-use Rattle.mm_model.specs.ViewEffect.{with_colour}
-use Rattle.mm_model.proofs.View.ChangedEntries.{changed-map}
-use Rattle.mm_model.proofs.View.MappedEntries.{begins_mapped, mapped_begins}
+use Rattle.mm_model.specs.Views.ByBase.{Begins, changed_from, changed}
+use Rattle.mm_model.specs.Views.ObjectView.{ObjectsByBase}
+use Rattle.mm_model.specs.Views.SetsByBase.{count_at}
+use Rattle.mm_model.specs.Views.ViewEffect.{with_colour}
+use Rattle.mm_model.proofs.View.ByBase.ChangedEntries.{changed-map}
+use Rattle.mm_model.proofs.View.ByBase.MappedEntries.{begins_mapped, mapped_begins}
 use Rattle.mm_object.specs.Object.{StoredObject, StoredObjects, view_of_stored, views_of}
 use Rattle.mm_object.specs.Heap.{Heap}
 use Rattle.mm_object.specs.Colours.{white_object, all_whitened}

@@ -4,10 +4,10 @@ use Rattle.std.specs.Prelude.{slice_get}
 use Rattle.std.specs.List.{flat_map, sum_by, AllByRecursion}
 use Rattle.mm_model.specs.declared.line.Line.{Line}
 use Rattle.mm_model.specs.Phase.{lists}
-use Rattle.mm_model.specs.ByBase.{Based, changed}
-use Rattle.mm_model.specs.ObjectView.{ObjectView, ObjectsByBase}
-use Rattle.mm_model.specs.ViewWords.{object_at}
-use Rattle.mm_model.specs.ViewPhase.{view_final_lines}
+use Rattle.mm_model.specs.Views.ByBase.{Based, changed}
+use Rattle.mm_model.specs.Views.ObjectView.{ObjectView, ObjectsByBase}
+use Rattle.mm_model.specs.Views.ViewWords.{object_at}
+use Rattle.mm_model.specs.Views.ViewPhase.{view_final_lines}
 use Rattle.mm_pages.specs.Pages.{Pages, IsSoundHeap}
 use Rattle.mm_pages.specs.Parked.{AreParked, HaveNoCommonRun, AreAllParked}
 use Rattle.mm_object.specs.Object.{StoredObject}

@@ -4,9 +4,9 @@ use Rattle.std.specs.List.{sum_by, AllByRecursion}
 use Rattle.mm_model.specs.declared.object.Colour.{Colour}
 use Rattle.mm_model.specs.declared.object.Colour.TheVariants.{White}
 use Rattle.mm_model.specs.Phase.{IsAscending, lists}
-use Rattle.mm_model.specs.ByBase.{Begins, Based}
-use Rattle.mm_model.specs.ObjectView.{ObjectView, ObjectsByBase, counted_words_of}
-use Rattle.mm_model.specs.ViewWords.{object_at}
+use Rattle.mm_model.specs.Views.ByBase.{Begins, Based}
+use Rattle.mm_model.specs.Views.ObjectView.{ObjectView, ObjectsByBase, counted_words_of}
+use Rattle.mm_model.specs.Views.ViewWords.{object_at}
 use Rattle.mm_object.specs.Object.{StoredObject, StoredObjects}
 
 -- a white object begins at a base

@@ -1,10 +1,10 @@
 // The finalizers of the objects that a phase frees.
 ghost use Rattle.std.specs.Prelude.{◌≡◌, ◌+◌, ◌≤◌, length, take};
-ghost use Rattle.mm_model.specs.ByBase.{Begins};
-ghost use Rattle.mm_model.specs.Journal.{Writes};
-ghost use Rattle.mm_model.specs.Spelling.{spelling_of};
-ghost use Rattle.mm_model.specs.ViewPhase.{view_final_lines};
-ghost use Rattle.mm_model.specs.ViewWords.{object_at};
+ghost use Rattle.mm_model.specs.Views.ByBase.{Begins};
+ghost use Rattle.mm_model.specs.Logs.Journal.{Writes};
+ghost use Rattle.mm_model.specs.Logs.Spelling.{spelling_of};
+ghost use Rattle.mm_model.specs.Views.ViewPhase.{view_final_lines};
+ghost use Rattle.mm_model.specs.Views.ViewWords.{object_at};
 ghost use Rattle.mm_object.specs.Object.{StoredObject, views_of};
 ghost use Rattle.mm_object.specs.Heap.{cells_in, IsObject, IsSound};
 ghost use Rattle.mm_sweep.specs.Release.{AreObjects, final_lines_at, final_slots, finalized_slots};

@@ -1,10 +1,10 @@
 // Objects are freed, and their partners have none from then on.
 ghost use Rattle.std.specs.Prelude.{◌≡◌, ◌≤◌, ◌<◌, ◌+◌, ◌*◌, ◌^◌, ℕ, [], ◌∷◌, None, map, length, take};
 ghost use Rattle.mm_model.specs.declared.line.Line.TheVariants as lines;
-ghost use Rattle.mm_model.specs.ByBase.{Begins, with_entry, changed};
-ghost use Rattle.mm_model.specs.Journal.{Writes};
+ghost use Rattle.mm_model.specs.Views.ByBase.{Begins, with_entry, changed};
+ghost use Rattle.mm_model.specs.Logs.Journal.{Writes};
 ghost use Rattle.mm_model.specs.Phase.{IsAscending};
-ghost use Rattle.mm_model.specs.Spelling.{spelling_of};
+ghost use Rattle.mm_model.specs.Logs.Spelling.{spelling_of};
 ghost use Rattle.mm_object.specs.Object.{StoredObject};
 ghost use Rattle.mm_object.specs.Heap.{IsObject, IsSound, FitsHeap};
 ghost use Rattle.mm_weak.specs.Links.{IsLinked};

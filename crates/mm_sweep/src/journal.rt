@@ -1,7 +1,7 @@
 // Who is told what a command did before it replies.
 ghost use Rattle.std.specs.Prelude.{◌≡◌, ◌<◌, ℕ, ◌%◌, ◌^◌, Bool, List, [], ◌∷◌, Option, length, sum};
-ghost use Rattle.mm_model.specs.Journal.{Writes};
-ghost use Rattle.mm_model.specs.Spelling.{spelling};
+ghost use Rattle.mm_model.specs.Logs.Journal.{Writes};
+ghost use Rattle.mm_model.specs.Logs.Spelling.{spelling};
 ghost use Rattle.mm_model.specs.declared.line.Line.TheVariants as lines;
 
 use mm_model::Phase;

@@ -1,11 +1,11 @@
 // One phase, from its finalizers to the last object that it frees.
 ghost use Rattle.std.specs.Prelude.{◌≡◌, ◌≤◌, ℕ, List, length, take, false, IsTrue};
-ghost use Rattle.mm_model.specs.ByBase.{Begins, changed};
-ghost use Rattle.mm_model.specs.Journal.{Writes};
+ghost use Rattle.mm_model.specs.Views.ByBase.{Begins, changed};
+ghost use Rattle.mm_model.specs.Logs.Journal.{Writes};
 ghost use Rattle.mm_model.specs.Phase.{IsAscending, lists};
-ghost use Rattle.mm_model.specs.Spelling.{spelling_of};
-ghost use Rattle.mm_model.specs.View.{View};
-ghost use Rattle.mm_model.specs.ViewPhase.{view_phase_lines, view_after_release};
+ghost use Rattle.mm_model.specs.Logs.Spelling.{spelling_of};
+ghost use Rattle.mm_model.specs.Views.View.{View};
+ghost use Rattle.mm_model.specs.Views.ViewPhase.{view_phase_lines, view_after_release};
 ghost use Rattle.mm_pages.specs.Pages.{IsSoundHeap};
 ghost use Rattle.mm_pages.specs.Parked.{AreParked, HaveNoCommonRun, AreAllParked};
 ghost use Rattle.mm_object.specs.Object.{StoredObject, views_of};

@@ -1,11 +1,11 @@
 // What no marking has reached is found, and its counts are dropped.
 ghost use Rattle.std.specs.Prelude.{◌≡◌, ◌≤◌, ◌+◌, ◌*◌, ◌-◌, ◌++◌, ◌∷◌, [], ℕ, List, length, drop, take};
 ghost use Rattle.mm_model.specs.declared.object.Colour.TheVariants.{White};
-ghost use Rattle.mm_model.specs.ByBase.{based, changed};
-ghost use Rattle.mm_model.specs.GoodView.{HoldTight};
+ghost use Rattle.mm_model.specs.Views.ByBase.{based, changed};
+ghost use Rattle.mm_model.specs.Views.GoodView.{HoldTight};
 ghost use Rattle.mm_model.specs.Phase.{IsAscending};
-ghost use Rattle.mm_model.specs.SetsByBase.{AreBasesAt};
-ghost use Rattle.mm_model.specs.ViewEffect.{with_colour};
+ghost use Rattle.mm_model.specs.Views.SetsByBase.{AreBasesAt};
+ghost use Rattle.mm_model.specs.Views.ViewEffect.{with_colour};
 ghost use Rattle.mm_words.specs.Location.{location_of};
 ghost use Rattle.mm_object.specs.Object.{views_of};
 ghost use Rattle.mm_object.specs.Heap.{IsObject, IsSound};

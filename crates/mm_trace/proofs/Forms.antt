@@ -2,7 +2,7 @@
 use Rattle.std.proofs.Common.{◌≡◌, ℕ, ◌<◌, Bool, true, false, if◌then◌else◌, List, [], ◌∷◌, length, get_or, Option}
 use Rattle.std.proofs.Common.{Some, None, bytes_eq, refl, sym, ◌∙◌, ap, arith}
 use Rattle.std.specs.Option.{option_map}
-use Rattle.mm_model.specs.Trace.{forms, entry_at}
+use Rattle.mm_model.specs.Logs.Trace.{forms, entry_at}
 use Rattle.mm_trace.specs.declared.form.Form.{Form}
 use Rattle.mm_trace.specs.Form.{model_form}
 

@@ -6,7 +6,7 @@ use Rattle.std.proofs.lemmas.Grind.{common_steps}
 use Rattle.std.proofs.lemmas.Bool.Decides.{nat_tests}
 use Rattle.std.proofs.lemmas.List.{take-append-drop}
 use Rattle.std.specs.List.{list_all}
-use Rattle.mm_model.specs.Trace.{number_of, is_number, is_digit, digits_value}
+use Rattle.mm_model.specs.Logs.Trace.{number_of, is_number, is_digit, digits_value}
 use Rattle.mm_trace.specs.Plain.{has_no_space, EndsWord, BeginsWith}
 
 -- at most ten digits

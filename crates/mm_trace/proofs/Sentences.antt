@@ -1,7 +1,7 @@
 -- A name and numbers, as a line has them one after another.
 use Rattle.std.proofs.Common.{◌≡◌, ℕ, List, [], ◌∷◌, ◌++◌, map, decimal, refl, sym, ◌∙◌, ap, append_assoc}
 use Rattle.std.specs.List.{flat_map}
-use Rattle.mm_model.specs.Spelling.{sentence}
+use Rattle.mm_model.specs.Logs.Spelling.{sentence}
 
 -- a number as it stands behind a name
 abbrev pub behind_space : ℕ → List ℕ

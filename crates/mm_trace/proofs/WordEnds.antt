@@ -4,7 +4,7 @@ use Rattle.std.proofs.Common.{drop, get_or, refl, ap, ◌∙◌, arith, append-n
 use Rattle.std.proofs.lemmas.Grind.{common_steps}
 use Rattle.std.proofs.lemmas.List.{take_all}
 use Rattle.std.specs.List.{slice_split}
-use Rattle.mm_model.specs.Trace.{words_of}
+use Rattle.mm_model.specs.Logs.Trace.{words_of}
 use Rattle.mm_trace.specs.Plain.{has_no_space, EndsWord}
 use Rattle.mm_trace.proofs.Words.{is_space}
 

@@ -5,7 +5,7 @@ use Rattle.std.proofs.lemmas.Grind.{common_steps}
 use Rattle.std.proofs.lemmas.List.{take_all}
 use Rattle.std.specs.List.{prefix_len, slice_split}
 use Rattle.std.proofs.lemmas.List.Folds.{length-prefix_len}
-use Rattle.mm_model.specs.Trace.{words_of}
+use Rattle.mm_model.specs.Logs.Trace.{words_of}
 
 -- what stands behind the first n bytes, as a slice without an end has it
 pub take-drop_rest : (line : List ℕ) (n : ℕ) → take (length line - n) (drop n line) ≡ drop n line

@@ -1,6 +1,6 @@
 -- The names of commands, as the model has them.
 use Rattle.std.specs.Prelude.{ℕ}
-use Rattle.mm_model.specs.Trace as trace
+use Rattle.mm_model.specs.Logs.Trace as trace
 use Rattle.mm_model.specs.declared.command.Command.{Command}
 use Rattle.mm_model.specs.declared.command.Command.TheVariants as commands
 use Rattle.mm_trace.specs.declared.form.Form.{Form}

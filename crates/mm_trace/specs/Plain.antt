@@ -1,7 +1,7 @@
 -- What is read of a plain line: one where no space stands but one between two words.
 use Rattle.std.specs.Prelude.{◌≡◌, ◌<◌, ◌==◌, ℕ, Bool, true, not, ◌&&◌, List, ◌∷◌, ◌++◌, length, Some, Ok}
 use Rattle.std.specs.List.{list_all}
-use Rattle.mm_model.specs.Trace.{words_of, is_comment, forms, entry_at, number_of, kind_of}
+use Rattle.mm_model.specs.Logs.Trace.{words_of, is_comment, forms, entry_at, number_of, kind_of}
 use Rattle.mm_model.specs.declared.object.Kind.{Kind}
 use Rattle.mm_trace.specs.Form.{model_form}
 use Rattle.mm_trace.specs.declared.form.Form.{Form}

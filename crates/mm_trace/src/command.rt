@@ -1,7 +1,7 @@
 // The command of a form and the words after the first.
 ghost use Rattle.std.specs.Prelude.{◌≡◌};
-ghost use Rattle.mm_model.specs.Trace as trace;
-ghost use Rattle.mm_model.specs.Trace.{words_of};
+ghost use Rattle.mm_model.specs.Logs.Trace as trace;
+ghost use Rattle.mm_model.specs.Logs.Trace.{words_of};
 ghost use Rattle.mm_trace.specs.Form.{with_none, with_one, with_two, with_three, model_form};
 
 use crate::form::{Form, OfNone, OfOne, OfThree, OfTwo};

@@ -2,7 +2,7 @@
 ghost use Rattle.std.specs.Prelude.{◌≡◌, if◌then◌else◌, bytes_eq, codes};
 ghost use Rattle.mm_trace.specs.Form.{with_none, with_one, with_two, with_three, model_form};
 ghost use Rattle.std.specs.Option.{option_map};
-ghost use Rattle.mm_model.specs.Trace.{forms, entry_at};
+ghost use Rattle.mm_model.specs.Logs.Trace.{forms, entry_at};
 
 use crate::word::is;
 use mm_model::Command;

@@ -1,6 +1,6 @@
 // The name at the front of a plain line: one where no space stands but one between two words.
 ghost use Rattle.std.specs.Prelude.{◌≡◌, ◌++◌, true, false, Some, IfSome, OnSome};
-ghost use Rattle.mm_model.specs.Trace.{forms, entry_at, is_comment};
+ghost use Rattle.mm_model.specs.Logs.Trace.{forms, entry_at, is_comment};
 ghost use Rattle.mm_trace.specs.Form.{model_form};
 ghost use Rattle.mm_trace.specs.Plain.{is_name, EndsWord, BeginsWithName};
 

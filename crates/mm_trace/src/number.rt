@@ -1,8 +1,8 @@
 // Numbers of a trace.
 ghost use Rattle.std.specs.Prelude.{◌≡◌, ◌≤◌, ◌<◌, ◌+◌, true, take, length, [], ◌∷◌, Ok, IfSome};
 ghost use Rattle.std.specs.List.{list_all};
-ghost use Rattle.mm_model.specs.Trace as trace;
-ghost use Rattle.mm_model.specs.Trace.{digits_value, is_digit};
+ghost use Rattle.mm_model.specs.Logs.Trace as trace;
+ghost use Rattle.mm_model.specs.Logs.Trace.{digits_value, is_digit};
 ghost use Rattle.mm_trace.specs.Plain.{BeginsWithNumber};
 
 use crate::name::{behind_space, behind_word};

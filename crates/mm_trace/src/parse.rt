@@ -1,6 +1,6 @@
 // A line of a trace.
 ghost use Rattle.std.specs.Prelude.{◌≡◌, if◌then◌else◌, Some, Ok, IfSome};
-ghost use Rattle.mm_model.specs.Trace.{line_reading, words_reading, words_of, is_comment};
+ghost use Rattle.mm_model.specs.Logs.Trace.{line_reading, words_reading, words_of, is_comment};
 
 use crate::command::command_of;
 use crate::cutter::LINE_LIMIT;
@@ -10,7 +10,7 @@ use crate::word::next_word;
 use mm_model::{Command, LineFault};
 
 /// What the words of a line say.
-#[tactic(auto, unfolding(mm_model::specs::Trace::words_reading))]
+#[tactic(auto, unfolding(mm_model::specs::Logs::Trace::words_reading))]
 fn read_words(line: &[u8]) -> Result<Option<Command>, LineFault>
     ensures { result ≡ words_reading (words_of line.now) }
 {
@@ -27,7 +27,7 @@ fn read_words(line: &[u8]) -> Result<Option<Command>, LineFault>
 ///
 /// A fault is the first that holds of these: the line is too long, its first word names no command, the command
 /// has another number of words, and then the leftmost word that is no kind or no number where one must stand.
-#[tactic(auto, unfolding(mm_model::specs::Trace::line_reading))]
+#[tactic(auto, unfolding(mm_model::specs::Logs::Trace::line_reading))]
 pub fn parse_line(bytes: &[u8]) -> Result<Option<Command>, LineFault>
     ensures { result ≡ line_reading bytes.now }
 {
@@ -40,7 +40,7 @@ pub fn parse_line(bytes: &[u8]) -> Result<Option<Command>, LineFault>
 /// The command of a line as programs write it: one space between words, and none before or behind them. It is read in
 /// one pass, where `parse_line` goes by words. `None` says nothing of the line.
 #[inline]
-#[tactic(auto, unfolding(mm_model::specs::Trace::line_reading))]
+#[tactic(auto, unfolding(mm_model::specs::Logs::Trace::line_reading))]
 pub fn parse_plain_line(bytes: &[u8]) -> Option<Command>
     ensures { IfSome result (λ command. line_reading bytes.now ≡ Ok (Some command)) }
 {

@@ -1,7 +1,7 @@
 // The commands of plain lines, read in one pass.
 ghost use Rattle.std.specs.Prelude.{◌≡◌, true, false, Some, Ok, IfSome, OnSome};
-ghost use Rattle.mm_model.specs.Trace as trace;
-ghost use Rattle.mm_model.specs.Trace.{words_of, words_reading, is_comment};
+ghost use Rattle.mm_model.specs.Logs.Trace as trace;
+ghost use Rattle.mm_model.specs.Logs.Trace.{words_of, words_reading, is_comment};
 ghost use Rattle.mm_trace.specs.Form.{model_form};
 ghost use Rattle.mm_trace.specs.Plain.{has_no_space, BeginsWithKind};
 
@@ -127,7 +127,7 @@ fn of_form(form: Form, rest: &[u8]) -> Option<Command>
 
 /// The command of a plain line. `None` says nothing of a line that isn't plain.
 #[inline]
-#[tactic(auto, unfolding(mm_model::specs::Trace::words_reading))]
+#[tactic(auto, unfolding(mm_model::specs::Logs::Trace::words_reading))]
 pub(crate) fn plain_command(line: &[u8]) -> Option<Command>
     ensures command { IfSome result (λ command. words_reading (words_of line.now) ≡ Ok (Some command)) }
     ensures plain { OnSome result (is_comment line.now ≡ false) }

@@ -1,8 +1,8 @@
 // What lines are made of, appended to a buffer. What takes a literal is inlined: its bytes become stores.
 ghost use Rattle.std.specs.Prelude.{◌≡◌, ◌+◌, ◌≤◌, [], ◌∷◌, ◌++◌, length, decimal, map, replicate};
 ghost use Rattle.arrayvec.specs.ArrayVec.{array_vec_len};
-ghost use Rattle.mm_model.specs.Spelling as model;
-ghost use Rattle.mm_model.specs.Spelling.{sentence, kind_word};
+ghost use Rattle.mm_model.specs.Logs.Spelling as model;
+ghost use Rattle.mm_model.specs.Logs.Spelling.{sentence, kind_word};
 
 use arrayvec::ArrayVec;
 use itoa::write_digits;

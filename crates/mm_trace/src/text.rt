@@ -1,6 +1,6 @@
 // The texts of faults and refusals.
 ghost use Rattle.std.specs.Prelude.{◌≡◌};
-ghost use Rattle.mm_model.specs.Spelling as spelling;
+ghost use Rattle.mm_model.specs.Logs.Spelling as spelling;
 
 use mm_model::{LineFault, Refusal};
 

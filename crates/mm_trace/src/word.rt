@@ -1,7 +1,7 @@
 // The words of a line: what stands between spaces.
 ghost use Rattle.std.specs.Prelude.{◌≡◌, ◌≢◌, ◌≤◌, ◌==◌, [], ◌∷◌, length, not, bytes_eq, MatchOption, IfOk, IfErr};
 ghost use Rattle.std.specs.List.{prefix_len};
-ghost use Rattle.mm_model.specs.Trace.{words_of};
+ghost use Rattle.mm_model.specs.Logs.Trace.{words_of};
 ghost use Rattle.mm_model.specs.declared.refusal.LineFault.TheVariants.{WordCount};
 
 use mm_model::LineFault;

@@ -1,7 +1,7 @@
 // A line of a log.
 ghost use Rattle.std.specs.Prelude.{◌≡◌, ◌+◌, ◌≤◌, ◌++◌};
 ghost use Rattle.arrayvec.specs.ArrayVec.{array_vec_len};
-ghost use Rattle.mm_model.specs.Spelling as model;
+ghost use Rattle.mm_model.specs.Logs.Spelling as model;
 
 use crate::put::{Lines, put_count, put_kind, put_number, put_sentence, put_text};
 use crate::refusal_text;

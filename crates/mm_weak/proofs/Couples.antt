@@ -5,9 +5,9 @@ use Rattle.std.specs.Prelude.{slice_get, ◌==◌, ◌&&◌, not}
 use Rattle.std.proofs.lemmas.Bool.{eq-eqb}
 use Rattle.mm_model.specs.declared.object.Colour.{Colour}
 use Rattle.mm_model.specs.Object.{is_weak}
-use Rattle.mm_model.specs.ByBase.{Begins, with_entry}
-use Rattle.mm_model.proofs.View.Entries.{begins_same}
-use Rattle.mm_model.specs.GoodView.{ArePaired}
+use Rattle.mm_model.specs.Views.ByBase.{Begins, with_entry}
+use Rattle.mm_model.proofs.View.ByBase.Entries.{begins_same}
+use Rattle.mm_model.specs.Views.GoodView.{ArePaired}
 use Rattle.mm_object.specs.Object.{StoredObject, StoredObjects, views_of}
 use Rattle.mm_object.specs.Heap.{Heap}
 use Rattle.mm_weak.specs.Links.{IsLinked, IsTargetOf, IsParted, partner_of, is_linked_target, with_weak, newly_weak}

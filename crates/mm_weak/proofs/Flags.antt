@@ -8,7 +8,7 @@ use Rattle.bitflags.specs.Sets.{without}
 use Rattle.mm_cells.specs.declared.marks.CellBits.{CellBits}
 use Rattle.mm_cells.specs.Cells as cells
 use Rattle.mm_cells.specs.Cells.{Cells, Taken, IsTaken}
-use Rattle.mm_model.specs.ByBase.{Begins}
+use Rattle.mm_model.specs.Views.ByBase.{Begins}
 use Rattle.mm_object.specs.Object.{StoredObject, flags_with}
 use Rattle.mm_object.specs.Heap.{Heap, cell_of, cells_in}
 

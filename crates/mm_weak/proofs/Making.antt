@@ -2,10 +2,10 @@
 use Rattle.std.proofs.Common.{◌≡◌, ℕ, ◌*◌, ◌/◌, false, Option, Some, None, sym, ap, subst, ◌∙◌, arith}
 use Rattle.std.specs.Prelude.{slice_get, slice_set}
 use Rattle.mm_model.specs.declared.object.Colour.{Colour}
-use Rattle.mm_model.specs.SizeClass.{size_of, extent_of}
+use Rattle.mm_model.specs.Places.SizeClass.{size_of, extent_of}
 use Rattle.mm_model.specs.Effect.{weak_shape}
 use Rattle.mm_model.specs.Object.{is_weak}
-use Rattle.mm_model.specs.ByBase.{Begins, with_entry}
+use Rattle.mm_model.specs.Views.ByBase.{Begins, with_entry}
 use Rattle.mm_pages.specs.Pages.{Pages}
 use Rattle.mm_cells.specs.Placing.{IsPlaceFor}
 use Rattle.mm_object.specs.Object.{StoredObject, newly_stored}

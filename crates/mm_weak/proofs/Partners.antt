@@ -6,9 +6,9 @@ use Rattle.std.specs.Option.{option_map}
 use Rattle.std.proofs.lemmas.Bool.{eq-eqb}
 use Rattle.std.proofs.lemmas.Option.{slice_get-map}
 use Rattle.mm_model.specs.Object.{is_weak}
-use Rattle.mm_model.specs.ObjectView.{ObjectView}
-use Rattle.mm_model.specs.ByBase.{Begins, with_entry}
-use Rattle.mm_model.specs.GoodView.{ArePaired, IsPairedAt}
+use Rattle.mm_model.specs.Views.ObjectView.{ObjectView}
+use Rattle.mm_model.specs.Views.ByBase.{Begins, with_entry}
+use Rattle.mm_model.specs.Views.GoodView.{ArePaired, IsPairedAt}
 use Rattle.mm_object.specs.Object.{StoredObject, StoredObjects, view_of_stored, views_of}
 use Rattle.mm_weak.specs.Links.{partner_of, is_linked_target}
 use Rattle.mm_weak.proofs.Entries.{begins-entry, begins-other_entry, get-other_entry, begins-entry_cases, IsOld}

@@ -1,7 +1,7 @@
 -- Where a weak object lies.
 use Rattle.std.proofs.Common.{◌≡◌, ℕ, ◌+◌, ◌*◌, Option, Some, refl, sym, ap, ◌∙◌, arith}
-use Rattle.mm_model.specs.SizeClass.{class_sizes, size_of, extent_of, extent_of_size}
-use Rattle.mm_model.specs.Lowest.{Of_first, Of_second}
+use Rattle.mm_model.specs.Places.SizeClass.{class_sizes, size_of, extent_of, extent_of_size}
+use Rattle.mm_model.specs.Places.Lowest.{Of_first, Of_second}
 use Rattle.mm_pages.specs.Pages.{Pages}
 use Rattle.mm_cells.specs.Cells.{Cells}
 use Rattle.mm_cells.specs.Placing.{IsPlaceFor, IsFreeCell}

@@ -1,6 +1,6 @@
 -- What writing the links and the flag of a couple does to a heap.
 use Rattle.std.proofs.Common.{◌≡◌, ℕ, Bool, Some, sym, ap, subst, ◌∙◌}
-use Rattle.mm_model.specs.ByBase.{Begins}
+use Rattle.mm_model.specs.Views.ByBase.{Begins}
 use Rattle.mm_object.specs.Object.{StoredObject}
 use Rattle.mm_object.specs.Heap.{Heap, with_object}
 use Rattle.mm_weak.specs.Links.{with_partners}

@@ -6,8 +6,8 @@ use Rattle.mm_model.specs.declared.reply.WeakAnswer.{WeakAnswer}
 use Rattle.mm_model.specs.declared.reply.WeakAnswer.TheVariants.{Made, Kept}
 use Rattle.mm_model.specs.Object.{is_weak}
 use Rattle.mm_model.specs.Effect.{weak_shape}
-use Rattle.mm_model.specs.ByBase.{Begins, with_entry}
-use Rattle.mm_model.specs.GoodView.{ArePaired}
+use Rattle.mm_model.specs.Views.ByBase.{Begins, with_entry}
+use Rattle.mm_model.specs.Views.GoodView.{ArePaired}
 use Rattle.mm_object.specs.Object.{StoredObject, newly_stored, view_of_stored, views_of}
 use Rattle.mm_object.specs.Heap.{Heap, with_object, TakesWords}
 

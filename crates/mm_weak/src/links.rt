@@ -1,7 +1,7 @@
 // Weak objects and their targets, which name each other by their links.
 ghost use Rattle.std.specs.Prelude.{◌≡◌, ◌≢◌, ◌+◌, ◌/◌, ◌≤◌, ℕ, List, IfSome, IfOk, OnErr, Some, None, true, false};
-ghost use Rattle.mm_model.specs.SizeClass.{size_of};
-ghost use Rattle.mm_model.specs.ByBase.{Begins};
+ghost use Rattle.mm_model.specs.Places.SizeClass.{size_of};
+ghost use Rattle.mm_model.specs.Views.ByBase.{Begins};
 ghost use Rattle.mm_pages.specs.Pages.{with_parked, IsSoundHeap};
 ghost use Rattle.mm_pages.specs.Parked.{AreParked, AreAllParked};
 ghost use Rattle.mm_cells.specs.Placing.{IsPlaceFor, found_in};

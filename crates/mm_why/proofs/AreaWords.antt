@@ -1,15 +1,17 @@
 -- The words of scanned areas, by their numbers and cells.
-use Rattle.std.proofs.Common.{◌≡◌, ◌≢◌, ℕ, zero, suc, ◌+◌, ◌-◌, ◌*◌, ◌/◌, ◌<◌, ◌≤◌, inl, inr, Bool, true, false, List, [], ◌∷◌, ◌++◌, length}
+use Rattle.std.proofs.Common.{◌≡◌, ◌≢◌, ℕ, zero, suc, ◌+◌, ◌-◌, ◌*◌, ◌/◌, ◌<◌, ◌≤◌, inl, inr, Bool, true, false, List}
+use Rattle.std.proofs.Common.{[], ◌∷◌, ◌++◌, length}
 use Rattle.std.proofs.Common.{Option, Some, None, refl, sym, ap, ◌∙◌, arith, append_assoc, length-append}
 use Rattle.std.specs.Prelude.{slice_get, slice_index_or, if◌then◌else◌}
 use Rattle.std.proofs.lemmas.Bool.{cases_lt}
-use Rattle.mm_model.specs.ObjectView.{ObjectsByBase}
+use Rattle.mm_model.specs.Views.ObjectView.{ObjectsByBase}
 use Rattle.mm_object.specs.Object.{views_of}
 use Rattle.mm_object.specs.Heap.{Heap}
 use Rattle.mm_roots.specs.declared.area_shape.AreaShape.{AreaShape}
 use Rattle.mm_roots.specs.declared.area_shape.ScannedArea.{ScannedArea}
 use Rattle.mm_roots.specs.Areas.{Areas, IsScanned}
-use Rattle.mm_roots.specs.Views.{words_from, cell_words, area_words, view_of_area, views_from, views_of_areas, scanned_words_from}
+use Rattle.mm_roots.specs.Views.{words_from, cell_words, area_words, view_of_area, views_from, views_of_areas}
+use Rattle.mm_roots.specs.Views.{scanned_words_from}
 use Rattle.mm_why.specs.declared.found.Found.{Found}
 use Rattle.mm_why.specs.Path.{IsAreaWord}
 use Rattle.mm_why.specs.Queue.{IsGrown}
@@ -36,8 +38,11 @@ viewed raw low (None ∷ areas) (suc k) shape e =
     (rest.0, rest.1 ∙ ap (λ (n : ℕ). Some (view_of_area raw n shape)) at)
 viewed raw low (Some own ∷ areas) zero shape e =
     let same : own ≡ shape = cc in
-    let at : low ≡ low + 0 = omega arith in
-    (0, ap (λ (n : ℕ). Some (view_of_area raw n own)) at ∙ ap (λ (s : AreaShape). Some (view_of_area raw (low + 0) s)) same)
+    let at : low ≡ low + 0 = omega arith in (
+      0,
+      ap (λ (n : ℕ). Some (view_of_area raw n own)) at
+          ∙ ap (λ (s : AreaShape). Some (view_of_area raw (low + 0) s)) same,
+    )
 viewed raw low (Some own ∷ areas) (suc k) shape e =
     let rest = viewed raw (low + 1) areas k shape e in
     let at : low + 1 + k ≡ low + suc k = omega arith in
@@ -59,7 +64,8 @@ area-word areas raw area cell word s holds =
       area = view_of_area raw (0 + area.number) s.shape;
       is = at.1;
       numbered = omega arith;
-      holds = ap (λ (ws : List ℕ). slice_get ws cell) (scanned s.shape.scanned (area_words raw s.shape) s.scanned ∙ words)
+      holds = ap (λ (ws : List ℕ). slice_get ws cell)
+          (scanned s.shape.scanned (area_words raw s.shape) s.scanned ∙ words)
           ∙ holds;
     }
 

@@ -8,13 +8,13 @@ use Rattle.std.proofs.lemmas.List.{length-map}
 use Rattle.std.proofs.lemmas.List.Sums.{sum_by-cons, sum_by-append}
 use Rattle.std.proofs.lemmas.Option.{slice_get-get_or}
 use Rattle.std.proofs.lemmas.Map.Keys.{IsDistinct-from_apart}
-use Rattle.mm_model.specs.ByBase.{Begins, Based, based}
-use Rattle.mm_model.specs.ObjectView.{ObjectView, ObjectsByBase, scanned_words_of}
+use Rattle.mm_model.specs.Views.ByBase.{Begins, Based, based}
+use Rattle.mm_model.specs.Views.ObjectView.{ObjectView, ObjectsByBase, scanned_words_of}
 use Rattle.mm_model.proofs.Lists.Counts.{sum_by-split}
 use Rattle.mm_model.proofs.Lists.Growing.{find-only}
 use Rattle.mm_model.proofs.Lists.Keyed.{at, IsKeyed, refuted}
 use Rattle.mm_model.proofs.Lists.KeyedSums.{without, at-without_other, keyed-without, sum-without}
-use Rattle.mm_model.proofs.View.Entries.{based_at, begins_at, begins_same, keyed-based}
+use Rattle.mm_model.proofs.View.ByBase.Entries.{based_at, begins_at, begins_same, keyed-based}
 use Rattle.mm_why.specs.declared.found.Found.{Found}
 use Rattle.mm_why.specs.Path.{scanned_slots_of}
 use Rattle.mm_why.specs.Queue.{Queue, IsSoundQueue}

@@ -5,8 +5,8 @@ use Rattle.std.specs.Prelude.{slice_get}
 use Rattle.std.proofs.lemmas.Bool.{cases_eq}
 use Rattle.std.proofs.lemmas.List.{take-append-le}
 use Rattle.std.proofs.lemmas.Option.{slice_get_within}
-use Rattle.mm_model.specs.ByBase.{Begins}
-use Rattle.mm_model.specs.ObjectView.{ObjectView, ObjectsByBase, scanned_words_of}
+use Rattle.mm_model.specs.Views.ByBase.{Begins}
+use Rattle.mm_model.specs.Views.ObjectView.{ObjectView, ObjectsByBase, scanned_words_of}
 use Rattle.mm_why.specs.declared.found.Found.{Found}
 use Rattle.mm_why.specs.Queue.{Queue, AreShort, IsSoundQueue, IsGrown}
 use Rattle.mm_why.specs.Search.{AreWordsFound, AreFollowed, slots_at, cost_of}
@@ -16,7 +16,8 @@ use Rattle.mm_why.proofs.Costs.{cost-more}
 -- what stands in front of what grew was there before
 grown-was : (before after : List Found) (i : ℕ) (entry : Found) → IsGrown before after → i < length before
     → slice_get after i ≡ Some entry → slice_get before i ≡ Some entry
-grown-was before after i entry grown low h = front before i low (sym (ap (λ (xs : List Found). slice_get xs i) grown.is) ∙ h)
+grown-was before after i entry grown low h =
+    front before i low (sym (ap (λ (xs : List Found). slice_get xs i) grown.is) ∙ h)
   where
     front : (zs : List Found) (k : ℕ) → k < length zs → slice_get (zs ++ grown.more) k ≡ Some entry
         → slice_get zs k ≡ Some entry

@@ -6,8 +6,8 @@ use Rattle.std.proofs.Math.Seq.{take-append_seam}
 use Rattle.std.proofs.lemmas.Bool.{cases_eq}
 use Rattle.std.proofs.lemmas.List.{take-append-le, take_all}
 use Rattle.std.proofs.lemmas.Option.{slice_get_within, slice_get-get_or}
-use Rattle.mm_model.specs.ByBase.{Begins}
-use Rattle.mm_model.specs.ObjectView.{ObjectsByBase}
+use Rattle.mm_model.specs.Views.ByBase.{Begins}
+use Rattle.mm_model.specs.Views.ObjectView.{ObjectsByBase}
 use Rattle.mm_model.proofs.Lists.Growing.{get-front, get-push, get-last}
 use Rattle.mm_model.proofs.Lists.Fronts.{get-take, get-take_within}
 use Rattle.mm_why.specs.declared.found.Lead.{Lead}

@@ -5,10 +5,10 @@ use Rattle.std.specs.Prelude.{slice_get, if◌then◌else◌}
 use Rattle.std.proofs.lemmas.Bool.{cases_eq}
 use Rattle.std.proofs.lemmas.Option.{get_or_from_slice_get}
 use Rattle.mm_model.specs.Object.{is_scanned}
-use Rattle.mm_model.specs.ByBase.{Begins}
-use Rattle.mm_model.specs.ObjectView.{ObjectView, ObjectsByBase, scanned_words_of}
+use Rattle.mm_model.specs.Views.ByBase.{Begins}
+use Rattle.mm_model.specs.Views.ObjectView.{ObjectView, ObjectsByBase, scanned_words_of}
 use Rattle.mm_model.proofs.Places.Falling.{falls_from, falls_within}
-use Rattle.mm_model.proofs.View.MappedEntries.{begins_mapped, mapped_begins}
+use Rattle.mm_model.proofs.View.ByBase.MappedEntries.{begins_mapped, mapped_begins}
 use Rattle.mm_object.specs.Object.{StoredObject, view_of_stored, views_of}
 use Rattle.mm_object.specs.Heap.{Heap, Covers, FallsInNone, IsSound, IsObject}
 use Rattle.mm_why.specs.Path.{FallsIn}
@@ -36,7 +36,8 @@ pub none-falls : (h : Heap) (word : ℕ) → FallsInNone h word → (base : ℕ)
 none-falls h word none base f = let c = falls-covers h word base f in none base c.0 c.1
 
 -- an object that is seen is there
-pub seen-object : (h : Heap) (base : ℕ) (object : ObjectView) → Begins (views_of h.objects) base object → IsObject h base
+pub seen-object : (h : Heap) (base : ℕ) (object : ObjectView) →
+    Begins (views_of h.objects) base object → IsObject h base
 seen-object h base object begins =
     let stored = mapped_begins view_of_stored h.objects base object begins in (stored.value, stored.begins)
 

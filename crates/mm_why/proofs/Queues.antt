@@ -1,6 +1,7 @@
 -- What holds of a queue once one more object is found.
 use Rattle.std.proofs.Common.{◌≡◌, ℕ, ◌+◌, ◌*◌, ◌/◌, ◌^◌, ◌<◌, ◌≤◌, true, false, List, [], ◌∷◌, ◌++◌, map, take, drop}
-use Rattle.std.proofs.Common.{length, Option, Some, None, inl, inr, refl, sym, ap, subst, ◌∙◌, arith, eqb, eqb-true, length-append}
+use Rattle.std.proofs.Common.{length, Option, Some, None, inl, inr, refl, sym, ap, subst, ◌∙◌, arith, eqb, eqb-true}
+use Rattle.std.proofs.Common.{length-append}
 use Rattle.std.proofs.Common.{get_or}
 use Rattle.std.specs.Prelude.{slice_get}
 use Rattle.std.specs.List.{list_any}
@@ -18,7 +19,8 @@ use Rattle.mm_why.specs.declared.hop.Via.{Via}
 use Rattle.mm_why.specs.declared.hop.Via.TheVariants.{Stack, Area, Slot}
 use Rattle.mm_why.specs.declared.found.Lead.{Lead}
 use Rattle.mm_why.specs.declared.found.Found.{Found}
-use Rattle.mm_why.specs.Queue.{Queue, empty, IsFound, IsPlace, IsLengthBy, HasLength, AreShort, IsSoundQueue, KeepsQueue}
+use Rattle.mm_why.specs.Queue.{Queue, empty, IsFound, IsPlace, IsLengthBy, HasLength, AreShort, IsSoundQueue}
+use Rattle.mm_why.specs.Queue.{KeepsQueue}
 
 -- what stands in a list that a function was applied to
 pub mapped : {X Y : Type 0} (f : X → Y) (xs : List X) (i : ℕ) (y : Y) → slice_get (map f xs) i ≡ Some y

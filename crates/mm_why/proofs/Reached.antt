@@ -6,14 +6,14 @@ use Rattle.std.specs.List.{list_any, flat_map}
 use Rattle.mm_model.specs.Object.{Object}
 use Rattle.mm_model.specs.State.{State, Lives}
 use Rattle.mm_model.specs.Words.{falls}
-use Rattle.mm_model.specs.Reached.{IsReached}
+use Rattle.mm_model.specs.Sets.Reached.{IsReached}
 use Rattle.mm_model.specs.Good.{IsGood}
-use Rattle.mm_model.specs.ObjectView.{scanned_words_of}
-use Rattle.mm_model.specs.SetsByBase.{IsReachedAt}
-use Rattle.mm_model.specs.View.{View, AreaView, Shows, view_of}
-use Rattle.mm_model.specs.ViewWords.{scanned_cells_of}
+use Rattle.mm_model.specs.Views.ObjectView.{scanned_words_of}
+use Rattle.mm_model.specs.Views.SetsByBase.{IsReachedAt}
+use Rattle.mm_model.specs.Views.View.{View, AreaView, Shows, view_of}
+use Rattle.mm_model.specs.Views.ViewWords.{scanned_cells_of}
 use Rattle.mm_model.proofs.Lists.Growing.{get-front, any_get, any_from_get}
-use Rattle.mm_model.proofs.View.Sets.{reached_same}
+use Rattle.mm_model.proofs.View.Marking.Sets.{reached_same}
 use Rattle.mm_model.proofs.View.Words.{marking_words-seen}
 use Rattle.mm_why.specs.declared.hop.Via.TheVariants.{Stack, Area, Slot}
 use Rattle.mm_why.specs.declared.hop.Hop.{Hop}

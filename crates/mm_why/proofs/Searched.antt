@@ -5,14 +5,15 @@ use Rattle.std.specs.Prelude.{slice_get, MatchOption, IfSome}
 use Rattle.std.specs.List.{flat_map}
 use Rattle.std.proofs.lemmas.Bool.{cases_lt}
 use Rattle.std.proofs.lemmas.Option.{slice_get_within}
-use Rattle.mm_model.specs.ByBase.{Begins}
-use Rattle.mm_model.specs.View.{AreaView}
-use Rattle.mm_model.specs.ViewWords.{scanned_cells_of}
+use Rattle.mm_model.specs.Views.ByBase.{Begins}
+use Rattle.mm_model.specs.Views.View.{AreaView}
+use Rattle.mm_model.specs.Views.ViewWords.{scanned_cells_of}
 use Rattle.mm_model.proofs.Lists.Growing.{get-front}
 use Rattle.mm_why.specs.declared.hop.Via.TheVariants.{Slot}
 use Rattle.mm_why.specs.declared.hop.Hop.{Hop}
 use Rattle.mm_why.specs.declared.found.Found.{Found}
-use Rattle.mm_why.specs.Path.{Shown, FallsIn, IsAreaWord, IsPath, HasNoPath, IsPathOf, IsLeastLength, hop_by, root_words_of}
+use Rattle.mm_why.specs.Path.{Shown, FallsIn, IsAreaWord, IsPath, HasNoPath, IsPathOf, IsLeastLength, hop_by}
+use Rattle.mm_why.specs.Path.{root_words_of}
 use Rattle.mm_why.specs.Queue.{Queue, IsFound, IsSoundQueue}
 use Rattle.mm_why.specs.Search.{AreWordsFound, IsFoundWithin, HaveReasons, AreFollowed, IsSearched, IsEntry}
 

@@ -4,7 +4,7 @@ use Rattle.std.proofs.Common.{refl, sym, ap, subst, ◌∙◌, arith, append_ass
 use Rattle.std.specs.Prelude.{slice_get}
 use Rattle.std.proofs.lemmas.List.{reverse-append, length-reverse, get_or-reverse}
 use Rattle.std.proofs.lemmas.Option.{slice_get_within, slice_get_read}
-use Rattle.mm_model.specs.ByBase.{Begins}
+use Rattle.mm_model.specs.Views.ByBase.{Begins}
 use Rattle.mm_model.proofs.Lists.Fronts.{get-take, get-take_within}
 use Rattle.mm_why.specs.declared.hop.Hop.{Hop}
 use Rattle.mm_why.specs.declared.hop.Via.{Via}
@@ -25,7 +25,8 @@ pub before-slot : (q : Queue) (i : ℕ) (entry : Found) (slot : ℕ) → IsSound
     → entry.lead.via ≡ Slot slot → IsBefore q.found i entry
 before-slot q i entry slot sound is via =
     let own : IsLonger (take i q.found) entry.lead.from entry.lead.length =
-    subst (λ (v : Via). IsLengthBy (take i q.found) v entry.lead.from entry.lead.length) via (sound.lengths i entry is) in
+    subst (λ (v : Via). IsLengthBy (take i q.found) v entry.lead.from entry.lead.length) via
+    (sound.lengths i entry is) in
     let earlier = get-take_within i entry.lead.from q.found own.by own.is in
     record {
       by = own.by;
@@ -88,7 +89,8 @@ pub leads-root : (shown : Shown) (q : Queue) (i : ℕ) (entry : Found) (path : L
     → IsPath shown (reverse (path ++ hop_by entry.lead.via entry.base ∷ [])) target
 leads-root shown q i entry path target reasons is none on =
     let r = reasons i entry is in
-    let first : IsPath shown (hop_by entry.lead.via entry.base ∷ []) entry.base = split entry.lead.via refl r.word r.lead
+    let first : IsPath shown (hop_by entry.lead.via entry.base ∷ []) entry.base =
+    split entry.lead.via refl r.word r.lead
     r.falls in
     subst (λ (hs : List Hop). IsPath shown hs target) (sym (reversed path (hop_by entry.lead.via entry.base)))
     (on (hop_by entry.lead.via entry.base ∷ []) first)

@@ -2,10 +2,10 @@
 use Rattle.std.specs.Prelude.{◌≡◌, ℕ, ◌+◌, ◌≤◌, IsTrue, List, [], ◌∷◌, ◌++◌, length, Some, slice_get}
 use Rattle.std.specs.List.{flat_map, sum_by}
 use Rattle.mm_model.specs.Words.{falls}
-use Rattle.mm_model.specs.ByBase.{Begins, based}
-use Rattle.mm_model.specs.ObjectView.{ObjectView, ObjectsByBase, scanned_words_of}
-use Rattle.mm_model.specs.View.{View, AreaView}
-use Rattle.mm_model.specs.ViewWords.{scanned_cells_of}
+use Rattle.mm_model.specs.Views.ByBase.{Begins, based}
+use Rattle.mm_model.specs.Views.ObjectView.{ObjectView, ObjectsByBase, scanned_words_of}
+use Rattle.mm_model.specs.Views.View.{View, AreaView}
+use Rattle.mm_model.specs.Views.ViewWords.{scanned_cells_of}
 use Rattle.mm_object.specs.Object.{views_of}
 use Rattle.mm_object.specs.Heap.{Heap}
 use Rattle.mm_roots.specs.Stack.{Cells}

@@ -1,10 +1,11 @@
 -- How far a search has come.
-use Rattle.std.specs.Prelude.{◌≡◌, ℕ, ◌+◌, ◌*◌, ◌/◌, ◌<◌, ◌≤◌, ◌⊎◌, List, [], ◌∷◌, ◌++◌, length, take, Option, Some, None}
+use Rattle.std.specs.Prelude.{◌≡◌, ℕ, ◌+◌, ◌*◌, ◌/◌, ◌<◌, ◌≤◌, ◌⊎◌, List, [], ◌∷◌, ◌++◌, length, take, Option, Some}
+use Rattle.std.specs.Prelude.{None}
 use Rattle.std.specs.Prelude.{slice_get, slice_index_or}
 use Rattle.std.specs.List.{sum_by}
-use Rattle.mm_model.specs.ByBase.{Begins}
-use Rattle.mm_model.specs.ObjectView.{ObjectView, ObjectsByBase, scanned_words_of}
-use Rattle.mm_model.specs.View.{AreaView}
+use Rattle.mm_model.specs.Views.ByBase.{Begins}
+use Rattle.mm_model.specs.Views.ObjectView.{ObjectView, ObjectsByBase, scanned_words_of}
+use Rattle.mm_model.specs.Views.View.{AreaView}
 use Rattle.mm_why.specs.declared.hop.Via.{Via}
 use Rattle.mm_why.specs.declared.hop.Via.TheVariants.{Stack, Area, Slot}
 use Rattle.mm_why.specs.declared.hop.Hop.{Hop}

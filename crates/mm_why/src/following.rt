@@ -1,8 +1,8 @@
 // Following objects: finding those in which the words of their scanned slots fall.
 ghost use Rattle.std.specs.Prelude.{◌≡◌, ℕ, ◌+◌, ◌*◌, ◌<◌, ◌≤◌, ◌⊎◌, List, Some, slice_get, length, MatchBool};
-ghost use Rattle.mm_model.specs.ByBase.{Begins};
-ghost use Rattle.mm_model.specs.ObjectView.{ObjectView, scanned_words_of};
-ghost use Rattle.mm_model.specs.View.{AreaView};
+ghost use Rattle.mm_model.specs.Views.ByBase.{Begins};
+ghost use Rattle.mm_model.specs.Views.ObjectView.{ObjectView, scanned_words_of};
+ghost use Rattle.mm_model.specs.Views.View.{AreaView};
 ghost use Rattle.mm_object.specs.Object.{views_of};
 ghost use Rattle.mm_why.specs.declared.found.Found.{Found as Entry};
 ghost use Rattle.mm_why.specs.Queue.{AreShort, IsGrown, IsPlace, IsFound, IsSoundQueue};

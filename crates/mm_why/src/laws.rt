@@ -2,10 +2,10 @@
 ghost use Rattle.std.specs.Prelude.{◌↔◌, ℕ, List};
 ghost use Rattle.mm_model.specs.Object.{Object};
 ghost use Rattle.mm_model.specs.State.{State, Lives};
-ghost use Rattle.mm_model.specs.Reached.{IsReached};
+ghost use Rattle.mm_model.specs.Sets.Reached.{IsReached};
 ghost use Rattle.mm_model.specs.Good.{IsGood};
-ghost use Rattle.mm_model.specs.SetsByBase.{IsReachedAt};
-ghost use Rattle.mm_model.specs.View.{View, Shows};
+ghost use Rattle.mm_model.specs.Views.SetsByBase.{IsReachedAt};
+ghost use Rattle.mm_model.specs.Views.View.{View, Shows};
 ghost use Rattle.mm_why.specs.declared.hop.Hop.{Hop};
 ghost use Rattle.mm_why.specs.Path.{Shown, shown_in, IsPath, root_words_of};
 

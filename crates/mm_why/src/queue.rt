@@ -1,5 +1,6 @@
 // The objects that a search has found, each of them once.
-ghost use Rattle.std.specs.Prelude.{◌≡◌, ◌+◌, ◌/◌, ◌^◌, ◌<◌, ◌≤◌, ◌∷◌, ◌++◌, [], length, slice_get, Some, IfOk, MatchBool};
+ghost use Rattle.std.specs.Prelude.{◌≡◌, ◌+◌, ◌/◌, ◌^◌, ◌<◌, ◌≤◌, ◌∷◌, ◌++◌, [], length, slice_get, Some, IfOk};
+ghost use Rattle.std.specs.Prelude.{MatchBool};
 ghost use Rattle.mm_why.specs.Queue.{empty, IsFound, IsPlace, HasLength, AreShort, IsSoundQueue, IsAdded};
 
 use crate::bits::{clear_bit, set_bit, test_bit};

@@ -1,8 +1,8 @@
 // The objects in which the words of the stack and of the scanned areas fall.
 ghost use Rattle.std.specs.Prelude.{◌≡◌, ℕ, ◌+◌, ◌*◌, ◌≤◌, List, [], length};
 ghost use Rattle.std.specs.List.{flat_map};
-ghost use Rattle.mm_model.specs.View.{AreaView};
-ghost use Rattle.mm_model.specs.ViewWords.{scanned_cells_of};
+ghost use Rattle.mm_model.specs.Views.View.{AreaView};
+ghost use Rattle.mm_model.specs.Views.ViewWords.{scanned_cells_of};
 ghost use Rattle.mm_object.specs.Object.{views_of};
 ghost use Rattle.mm_roots.specs.Areas.{IsScanned, IsBeside};
 ghost use Rattle.mm_roots.specs.Views.{cell_words, views_of_areas};

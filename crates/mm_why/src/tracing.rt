@@ -1,5 +1,6 @@
 // The path to an object that was found, from its end to its beginning.
-ghost use Rattle.std.specs.Prelude.{◌≡◌, ◌≤◌, ◌<◌, ◌+◌, [], length, reverse, MatchOption, IfSome, None, Some, slice_get, vec_capacity};
+ghost use Rattle.std.specs.Prelude.{◌≡◌, ◌≤◌, ◌<◌, ◌+◌, [], length, reverse, MatchOption, IfSome, None, Some};
+ghost use Rattle.std.specs.Prelude.{slice_get, vec_capacity};
 ghost use Rattle.mm_why.specs.declared.found.Found.{Found as Entry};
 ghost use Rattle.mm_why.specs.Path.{Shown, IsPathOf};
 ghost use Rattle.mm_why.specs.Queue.{IsFound, IsSoundQueue};

@@ -1,5 +1,6 @@
 // Searches for what keeps an object.
-ghost use Rattle.std.specs.Prelude.{◌≡◌, ◌+◌, ◌*◌, ◌<◌, ◌≤◌, [], length, IfOk, IfSome, MatchOption, None, Some, slice_get};
+ghost use Rattle.std.specs.Prelude.{◌≡◌, ◌+◌, ◌*◌, ◌<◌, ◌≤◌, [], length, IfOk, IfSome, MatchOption, None, Some};
+ghost use Rattle.std.specs.Prelude.{slice_get};
 ghost use Rattle.mm_object.specs.Heap.{IsObject};
 ghost use Rattle.mm_roots.specs.Areas.{IsBeside};
 ghost use Rattle.mm_why.specs.Path.{shown_by, HasNoPath, IsPathOf, IsLeastLength, extent_of_search};

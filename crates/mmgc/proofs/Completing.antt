@@ -3,7 +3,7 @@ use Rattle.std.proofs.Common.{◌≡◌, ◌≢◌, ℕ, ◌≤◌, Bool, true, 
 use Rattle.std.proofs.Common.{length-append, Option, Some, None, IsSome, refl, sym, ap, ◌∙◌, subst, append-nil, inl}
 use Rattle.std.proofs.Common.{inr, arith}
 use Rattle.std.specs.Prelude.{IfSome, ◌⊎◌}
-use Rattle.mm_model.specs.Trace.{lines_of, FaultAt}
+use Rattle.mm_model.specs.Logs.Trace.{lines_of, FaultAt}
 use Rattle.mm_gc.specs.Gc.{Gc}
 use Rattle.mm_model.specs.declared.settings.Settings.{Settings}
 use Rattle.mm_io.specs.Faults.{Rose}

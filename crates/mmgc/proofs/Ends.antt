@@ -7,9 +7,9 @@ use Rattle.mm_model.specs.declared.line.Line.{Line}
 use Rattle.mm_model.specs.declared.line.Line.TheVariants as lines
 use Rattle.mm_model.specs.declared.line.Totals.{Totals}
 use Rattle.mm_model.specs.State.{State}
-use Rattle.mm_model.specs.Journal.{Writes}
-use Rattle.mm_model.specs.Spelling.{spelling, spelling_of}
-use Rattle.mm_model.specs.Trace.{lines_of, complete_lines, FaultAt}
+use Rattle.mm_model.specs.Logs.Journal.{Writes}
+use Rattle.mm_model.specs.Logs.Spelling.{spelling, spelling_of}
+use Rattle.mm_model.specs.Logs.Trace.{lines_of, complete_lines, FaultAt}
 use Rattle.mm_model.proofs.Text.Journals.{writes-append}
 use Rattle.mm_io.specs.Faults.{Rose}
 use Rattle.mm_io.specs.Told.{Appends, Gives}
@@ -18,7 +18,8 @@ use Rattle.mm_gc.specs.Gc.{Gc, totals_in}
 use Rattle.mm_gc.specs.Rows.{Kept}
 use Rattle.mmgc.specs.Writing.{kept_bytes, Grows}
 use Rattle.mmgc.specs.Replaying.{reading_of, most_bytes, Grew, GrewSince, Start, Moment, Stopped, Progress}
-use Rattle.mmgc.specs.Run.{Input, Output, Reach, lines_in, NothingLeft, HasCause, IsFaultOf, IsLogOf, IsPassedOn, IsWritten}
+use Rattle.mmgc.specs.Run.{Input, Output, Reach, lines_in, NothingLeft, HasCause, IsFaultOf, IsLogOf, IsPassedOn}
+use Rattle.mmgc.specs.Run.{IsWritten}
 use Rattle.mmgc.specs.Run.{IsWithinTrace, Replayed, Ended, Logged}
 use Rattle.mmgc.specs.Generating.{EndsWritten}
 use Rattle.mmgc.specs.declared.replay.End.{End}
@@ -71,7 +72,8 @@ module _ {start : Start} {bytes : List ℕ} {input : Input} {now : Moment} (fits
 -- A piece of an input has a line with a fault, or is too much.
 module _ {start : Start} {bytes : List ℕ} {input : Input} {now : Moment} (piece : List ℕ)
     (given : Gives input.left input.left_after piece) (clean : input.faults_after ≡ input.faults) where
-  pub ended-fault : length (bytes ++ piece) ≤ most_bytes → (fault : FaultAt) → Stopped start (complete_lines (bytes ++ piece)) (Some fault) now.heap now.kept →
+  pub ended-fault : length (bytes ++ piece) ≤ most_bytes → (fault : FaultAt) →
+      Stopped start (complete_lines (bytes ++ piece)) (Some fault) now.heap now.kept →
       Ended (Fault fault.line fault.fault) start bytes input now
   ended-fault fits fault s =
       record {

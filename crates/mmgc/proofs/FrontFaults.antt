@@ -6,7 +6,7 @@ use Rattle.std.proofs.lemmas.Bool.Decides.{nat_tests}
 use Rattle.mm_model.specs.declared.command.Command.{Command}
 use Rattle.mm_model.specs.declared.refusal.LineFault.{LineFault}
 use Rattle.mm_model.specs.declared.refusal.LineFault.TheVariants.{LineTooLong}
-use Rattle.mm_model.specs.Trace.{line_reading, complete_lines, lines_of, line_if, FaultAt, Reading, reading_from}
+use Rattle.mm_model.specs.Logs.Trace.{line_reading, complete_lines, lines_of, line_if, FaultAt, Reading, reading_from}
 use Rattle.mm_model.proofs.Text.Traces.{Cuts, Cuts-none, Cuts-byte, Cuts-newline, complete_lines-cuts, lines_of-more}
 use Rattle.mm_model.proofs.Text.Traces.{line_reading-too_long, lines_of-too_long, reading_from-fault}
 use Rattle.mm_model.proofs.Text.Traces.{reading_from-stops}

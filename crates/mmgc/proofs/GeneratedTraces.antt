@@ -5,7 +5,7 @@ use Rattle.mm_model.specs.declared.line.Line.TheVariants as lines
 use Rattle.mm_model.specs.declared.line.Totals.{Totals}
 use Rattle.mm_model.specs.declared.settings.Settings.{Settings}
 use Rattle.mm_model.specs.State.{empty_state}
-use Rattle.mm_model.specs.Spelling.{spelling}
+use Rattle.mm_model.specs.Logs.Spelling.{spelling}
 use Rattle.mm_model.proofs.Good.Starting.{empty_is_good}
 use Rattle.mm_gc.specs.Gc.{Gc, totals_in}
 use Rattle.mmgc.specs.declared.generator.GeneratedTrace.{GeneratedTrace}

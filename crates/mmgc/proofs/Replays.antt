@@ -17,13 +17,13 @@ use Rattle.mm_model.specs.declared.line.Line.TheVariants as lines
 use Rattle.mm_model.specs.declared.line.Totals.{Totals}
 use Rattle.mm_model.specs.State.{State, empty_state}
 use Rattle.mm_model.specs.Good.{IsGood}
-use Rattle.mm_model.specs.Log.{Steps, IsRun}
-use Rattle.mm_model.specs.View.{Shows}
+use Rattle.mm_model.specs.Logs.Log.{Steps, IsRun}
+use Rattle.mm_model.specs.Views.View.{Shows}
 use Rattle.mm_model.specs.Step.{IsStep}
 use Rattle.mm_model.specs.After.{after}
-use Rattle.mm_model.specs.Spelling.{spelling, spelling_of}
-use Rattle.mm_model.specs.Trace.{line_reading, complete_lines, lines_of, line_if}
-use Rattle.mm_model.specs.Trace.{Reading, FaultAt}
+use Rattle.mm_model.specs.Logs.Spelling.{spelling, spelling_of}
+use Rattle.mm_model.specs.Logs.Trace.{line_reading, complete_lines, lines_of, line_if}
+use Rattle.mm_model.specs.Logs.Trace.{Reading, FaultAt}
 use Rattle.mm_model.proofs.Good.Starting.{empty_is_good}
 use Rattle.mm_model.proofs.Text.Journals.{writes-none, writes-append}
 use Rattle.mm_model.proofs.Text.Traces.{Cuts, Cuts-none, Cuts-newline, with_newline, complete_lines-cuts}

@@ -9,14 +9,14 @@ use Rattle.mm_model.specs.declared.object.Shape.{Shape}
 use Rattle.mm_model.specs.declared.refusal.Refusal.{Refusal}
 use Rattle.mm_model.specs.declared.line.Line.{Line}
 use Rattle.mm_model.specs.Object.{Object, newborn}
-use Rattle.mm_model.specs.Place.{Family, Objects, Areas}
-use Rattle.mm_model.specs.SizeClass.{object_bytes, area_bytes}
+use Rattle.mm_model.specs.Places.Place.{Family, Objects, Areas}
+use Rattle.mm_model.specs.Places.SizeClass.{object_bytes, area_bytes}
 use Rattle.mm_model.specs.State.{State, one_more_command}
 use Rattle.mm_model.specs.Store.{with_object}
 use Rattle.mm_model.specs.Phase.{after_release, reaped, collected}
-use Rattle.mm_model.specs.Marking.{part_done}
-use Rattle.mm_model.specs.Scan.{AreScanned}
-use Rattle.mm_model.specs.Search.{Searches, At_once, After_reap, After_collection}
+use Rattle.mm_model.specs.Sets.Marking.{part_done}
+use Rattle.mm_model.specs.Sets.Scan.{AreScanned}
+use Rattle.mm_model.specs.Places.Search.{Searches, At_once, After_reap, After_collection}
 use Rattle.mm_model.specs.Effect.{Effect, with_some, weak_shape, weak_made, weak_effect, new_effect, area_effect}
 use Rattle.mm_model.specs.Effect.{plain_effect}
 use Rattle.mm_model.specs.Refusing.{refusal}

@@ -6,7 +6,7 @@ use Rattle.std.proofs.lemmas.List.{append_cancel_left, take-append-drop}
 use Rattle.std.proofs.Math.Seq.{take-append_seam}
 use Rattle.mm_io.specs.Faults.{Counts}
 use Rattle.mm_io.specs.Told.{Appends, AppendsFront}
-use Rattle.mm_model.specs.Journal.{Writes}
+use Rattle.mm_model.specs.Logs.Journal.{Writes}
 use Rattle.mmgc.specs.Writing.{kept_bytes, Grows, Keeps}
 
 -- what was pending has gone to the sink

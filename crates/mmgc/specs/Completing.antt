@@ -1,6 +1,6 @@
 -- When a run must carry out the whole of its input.
 use Rattle.std.specs.Prelude.{◌≡◌, ℕ, ◌≤◌, ◌⊎◌, List, length, Option, None, Some, IsSome, IfSome}
-use Rattle.mm_model.specs.Trace.{lines_of}
+use Rattle.mm_model.specs.Logs.Trace.{lines_of}
 use Rattle.mm_io.specs.Faults.{Rose}
 use Rattle.mmgc.specs.Replaying.{reading_of, most_bytes}
 use Rattle.mmgc.specs.Program.{Traffic, IsInput}

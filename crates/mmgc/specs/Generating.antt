@@ -7,9 +7,9 @@ use Rattle.mm_model.specs.declared.settings.Settings.{Settings}
 use Rattle.mm_model.specs.State.{State, totals_of}
 use Rattle.mm_model.specs.Step.{IsStep}
 use Rattle.mm_model.specs.Good.{IsGood}
-use Rattle.mm_model.specs.Log.{IsWhole}
-use Rattle.mm_model.specs.View.{Shows}
-use Rattle.mm_model.specs.Spelling.{spelling}
+use Rattle.mm_model.specs.Logs.Log.{IsWhole}
+use Rattle.mm_model.specs.Views.View.{Shows}
+use Rattle.mm_model.specs.Logs.Spelling.{spelling}
 use Rattle.mm_gc.specs.Gc.{Gc, view_of_gc, totals_in}
 use Rattle.mm_gc.specs.Rows.{IsStepOf}
 use Rattle.mmgc.specs.declared.generator.GeneratedTrace.{GeneratedTrace}

@@ -1,6 +1,6 @@
 -- What a run promises of each of its ends.
 use Rattle.std.specs.Prelude.{◌≡◌, ℕ, ◌⊎◌, List, Option, None, Some, IsSome, codes}
-use Rattle.mm_model.specs.Faithful.{IsFaithful}
+use Rattle.mm_model.specs.Logs.Faithful.{IsFaithful}
 use Rattle.mm_io.specs.Faults.{Rose}
 use Rattle.mm_io.specs.Told.{NamedFile, Chooses}
 use Rattle.mm_gc.specs.Gc.{Gc}

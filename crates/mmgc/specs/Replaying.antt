@@ -2,19 +2,19 @@
 use Rattle.std.specs.Prelude.{◌≡◌, ℕ, ◌+◌, ◌-◌, ◌^◌, ◌≤◌, false, List, ◌++◌, ◌∷◌, [], length, flat_map, Option, Some}
 use Rattle.std.specs.Prelude.{None, Result, Ok, Err}
 use Rattle.std.specs.List.{All}
-use Rattle.mm_model.specs.Limits.{IsWithinLimits}
+use Rattle.mm_model.specs.Places.Limits.{IsWithinLimits}
 use Rattle.mm_model.specs.declared.command.Command.{Command}
 use Rattle.mm_model.specs.declared.refusal.LineFault.{LineFault}
 use Rattle.mm_model.specs.declared.line.Line.{Line}
 use Rattle.mm_model.specs.declared.settings.Settings.{Settings}
 use Rattle.mm_model.specs.State.{State, empty_state}
 use Rattle.mm_model.specs.Good.{IsGood}
-use Rattle.mm_model.specs.Log.{IsLegal}
+use Rattle.mm_model.specs.Logs.Log.{IsLegal}
 use Rattle.mm_model.specs.Step.{IsStep}
-use Rattle.mm_model.specs.View.{Shows}
-use Rattle.mm_model.specs.Journal.{Writes}
-use Rattle.mm_model.specs.Spelling.{spelling_of}
-use Rattle.mm_model.specs.Trace.{line_reading, reading_from, Reading, FaultAt}
+use Rattle.mm_model.specs.Views.View.{Shows}
+use Rattle.mm_model.specs.Logs.Journal.{Writes}
+use Rattle.mm_model.specs.Logs.Spelling.{spelling_of}
+use Rattle.mm_model.specs.Logs.Trace.{line_reading, reading_from, Reading, FaultAt}
 use Rattle.mm_trace.specs.Lines.{IsWithinLine}
 use Rattle.mm_gc.specs.Gc.{Gc, view_of_gc}
 use Rattle.mm_gc.specs.Rows.{IsStepOf, Kept}

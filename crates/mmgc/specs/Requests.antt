@@ -1,6 +1,6 @@
 -- Values and requests as contracts see them.
 use Rattle.std.specs.Prelude.{◌≤◌, IfSome, option_map}
-use Rattle.mm_model.specs.Limits.{IsWithinLimits}
+use Rattle.mm_model.specs.Places.Limits.{IsWithinLimits}
 use Rattle.mmgc.specs.declared.words.Request.{Request}
 use Rattle.mmgc.specs.declared.words.Given.{Given}
 use Rattle.mmgc.specs.Generator.{most_generated}

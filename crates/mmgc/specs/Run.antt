@@ -7,11 +7,11 @@ use Rattle.mm_model.specs.declared.line.Line.TheVariants as lines
 use Rattle.mm_model.specs.declared.settings.Settings.{Settings}
 use Rattle.mm_model.specs.State.{State, totals_of}
 use Rattle.mm_model.specs.Good.{IsGood}
-use Rattle.mm_model.specs.Log.{IsLegal}
+use Rattle.mm_model.specs.Logs.Log.{IsLegal}
 use Rattle.mm_model.specs.Step.{IsStep}
-use Rattle.mm_model.specs.View.{Shows}
-use Rattle.mm_model.specs.Spelling.{spelling_of}
-use Rattle.mm_model.specs.Trace.{lines_of, complete_lines, FaultAt}
+use Rattle.mm_model.specs.Views.View.{Shows}
+use Rattle.mm_model.specs.Logs.Spelling.{spelling_of}
+use Rattle.mm_model.specs.Logs.Trace.{lines_of, complete_lines, FaultAt}
 use Rattle.mm_io.specs.Faults.{Rose}
 use Rattle.mm_io.specs.Told.{Appends, AppendsFront, Gives}
 use Rattle.mm_gc.specs.Gc.{Gc, view_of_gc}

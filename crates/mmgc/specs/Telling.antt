@@ -4,7 +4,7 @@ use Rattle.mm_io.specs.Faults.{Rose, Counts}
 use Rattle.mm_io.specs.Told.{Appends, AppendsFront}
 use Rattle.mm_io.specs.declared.fault.Failed.{Failed}
 use Rattle.mm_model.specs.declared.refusal.LineFault.{LineFault}
-use Rattle.mm_model.specs.Spelling.{fault_text}
+use Rattle.mm_model.specs.Logs.Spelling.{fault_text}
 use Rattle.mmgc.specs.declared.replay.End.{End}
 use Rattle.mmgc.specs.declared.replay.End.TheVariants.{Whole, Fault, ReadFailed, WriteFailed, TooLong}
 

@@ -7,7 +7,7 @@ use Rattle.clap.specs.Words.{App, Row, Rule, Text, first_of, matches_of, new_app
 use Rattle.clap.specs.Simple.{on_top}
 use Rattle.mm_model.specs.declared.refusal.LineFault.{LineFault}
 use Rattle.mm_model.specs.declared.settings.Settings.{Settings}
-use Rattle.mm_model.specs.Trace.{number_of}
+use Rattle.mm_model.specs.Logs.Trace.{number_of}
 use Rattle.mmgc.specs.declared.generator.GeneratedTrace.{GeneratedTrace}
 use Rattle.mmgc.specs.Generator.{most_generated}
 

@@ -3,7 +3,7 @@ ghost use Rattle.std.specs.Prelude.{◌≡◌, ◌≢◌, ◌<◌, ◌≤◌, �
 ghost use Rattle.mm_gc.specs.Gc.{totals_in, view_of_gc};
 ghost use Rattle.mm_model.specs.declared.line.Line.TheVariants as lines;
 ghost use Rattle.mm_model.specs.declared.settings.Settings.{Settings};
-ghost use Rattle.mm_model.specs.Spelling.{spelling};
+ghost use Rattle.mm_model.specs.Logs.Spelling.{spelling};
 ghost use Rattle.mmgc.specs.Generator.{commands_of, generated_command, most_generated, next_state};
 ghost use Rattle.mmgc.specs.Generating.{CarriesOutQuietly, EndsWritten, Generated, HasCarriedOut};
 ghost use Rattle.mmgc.specs.Replaying.{IsNew};

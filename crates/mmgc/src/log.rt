@@ -1,7 +1,7 @@
 // The journal that writes the log.
 ghost use Rattle.std.specs.Prelude.{◌≡◌, ◌↔◌, ◌+◌, ◌≤◌, ◌%◌, ◌^◌, [], false, not, sum, IsTrue, OnOk, IsErr};
 ghost use Rattle.arrayvec.specs.ArrayVec.{array_vec_len};
-ghost use Rattle.mm_model.specs.Spelling.{spelling};
+ghost use Rattle.mm_model.specs.Logs.Spelling.{spelling};
 ghost use Rattle.mmgc.specs.Writing.{kept_bytes, Keeps};
 ghost use Rattle.mmgc.specs.Replaying.{Grew};
 ghost use Rattle.mmgc.specs.Logging.{kept_by, KeepsOn};

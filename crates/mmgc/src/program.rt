@@ -2,7 +2,7 @@
 ghost use Rattle.std.specs.Prelude.{◌≡◌, ◌≢◌, ◌≤◌, ◌++◌, ◌∷◌, List, ℕ, Option, None, Some, OnOk, OnErr, IsSome, codes};
 ghost use Rattle.std.specs.Prelude.{map, option_map, string_bytes};
 ghost use Rattle.mm_io.specs.Faults.{CountsChoice};
-ghost use Rattle.mm_model.specs.Limits.{IsWithinLimits};
+ghost use Rattle.mm_model.specs.Places.Limits.{IsWithinLimits};
 ghost use Rattle.mmgc.specs.Completing.{IsComplete};
 ghost use Rattle.mm_io.specs.Told.{NamedFile};
 ghost use Rattle.mmgc.specs.Generator.{most_generated};

@@ -7,7 +7,7 @@ ghost use Rattle.mm_io.specs.Told.{Gives};
 ghost use Rattle.mm_trace.specs.Lines.{IsWithinLine};
 ghost use Rattle.mm_model.specs.declared.refusal.LineFault.TheVariants.{LineTooLong};
 ghost use Rattle.mm_model.specs.declared.settings.Settings.{Settings};
-ghost use Rattle.mm_model.specs.Trace.{complete_lines, line_reading, lines_of, FaultAt};
+ghost use Rattle.mm_model.specs.Logs.Trace.{complete_lines, line_reading, lines_of, FaultAt};
 ghost use Rattle.mmgc.specs.Logging.{kept_by, moment_of, KeepsOn};
 ghost use Rattle.mmgc.specs.Replaying.{CarriesOut, DoesLine, GoesOn, Grew, IsNew, IsUnderWay, Progress, Start, Stopped};
 ghost use Rattle.mmgc.specs.Replaying.{most_bytes};

@@ -2,7 +2,7 @@
 ghost use Rattle.std.specs.Prelude.{◌≡◌, ◌≤◌, ◌∷◌, List, ℕ, false, None, Some, codes, map, option_map, string_bytes};
 ghost use Rattle.std.specs.Prelude.{IfOk, IfSome, IsErrOf};
 ghost use Rattle.clap.specs.Words.{app_of, found_of, kind_of, matches_of, rows_of, rule_of, takes};
-ghost use Rattle.mm_model.specs.Limits.{IsWithinLimits};
+ghost use Rattle.mm_model.specs.Places.Limits.{IsWithinLimits};
 ghost use Rattle.mmgc.specs.Words.{choice_from, choice_in, choice_taken, choice_with, file_of, generating, trace_of};
 ghost use Rattle.mmgc.specs.Words.{limits, mmgc_app, option_rule, setting_of, settings_app, settings_of, values_in};
 ghost use Rattle.mmgc.specs.Words.{with_option};

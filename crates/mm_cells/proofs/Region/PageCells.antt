@@ -5,8 +5,8 @@ use Rattle.std.specs.Prelude.{Some, None, nat_eq}
 use Rattle.std.proofs.lemmas.Bool.{cases_lt, cases_order, agree_below_at, eqb-true}
 use Rattle.std.proofs.lemmas.Nat.{le-div}
 use Rattle.std.proofs.Math.Nat.{mul-le-mul_right, suc-mul}
-use Rattle.mm_model.specs.SizeClass.{class_sizes, class_index}
-use Rattle.mm_model.specs.Lowest.{IsNowhere, IsLowest}
+use Rattle.mm_model.specs.Places.SizeClass.{class_sizes, class_index}
+use Rattle.mm_model.specs.Places.Lowest.{IsNowhere, IsLowest}
 use Rattle.mm_pages.specs.Pages.{Covers}
 use Rattle.mm_cells.specs.declared.page_use.PageUse.{PageUse}
 use Rattle.mm_cells.specs.declared.page_use.PageUse.TheVariants.{Unused, Class, First, Later}

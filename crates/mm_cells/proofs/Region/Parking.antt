@@ -4,7 +4,7 @@ use Rattle.std.proofs.Common.{sym, ◌∙◌, ap, subst}
 use Rattle.std.specs.Prelude.{None}
 use Rattle.std.proofs.lemmas.Bool.{cases_eq, cases_lt}
 use Rattle.std.proofs.lemmas.List.{ext_get_or, length-set, get_or-set_same, get_or-set_other, get_or_past}
-use Rattle.mm_model.specs.Lowest.{IsLowest, IsNowhere}
+use Rattle.mm_model.specs.Places.Lowest.{IsLowest, IsNowhere}
 use Rattle.mm_pages.specs.Pages.{Pages, Covers, with_parked, IsFreeRun, IsLowestRun}
 use Rattle.mm_pages.specs.Parked.{AreParked}
 use Rattle.mm_cells.specs.declared.page_use.PageUse.{PageUse}

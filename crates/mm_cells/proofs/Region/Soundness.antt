@@ -7,8 +7,8 @@ use Rattle.std.proofs.lemmas.List.Elements.{Contains-get_or}
 use Rattle.std.proofs.lemmas.List.FromFn.{length-map-range_with_len}
 use Rattle.std.specs.Prelude.{IsTrue, slice_index}
 use Rattle.std.specs.List.{Contains}
-use Rattle.mm_model.specs.SizeClass.{class_sizes}
-use Rattle.mm_model.specs.Place.{overlaps}
+use Rattle.mm_model.specs.Places.SizeClass.{class_sizes}
+use Rattle.mm_model.specs.Places.Place.{overlaps}
 use Rattle.mm_model.specs.Good.{IsCell, IsPages}
 use Rattle.mm_cells.specs.declared.page_use.PageUse.{PageUse}
 use Rattle.mm_cells.specs.declared.page_use.PageUse.TheVariants.{Unused, Class, First, Later}

@@ -4,7 +4,7 @@ use Rattle.std.proofs.lemmas.Bool.{agree_below_at}
 use Rattle.std.proofs.lemmas.Bool.Decides.{nat_tests}
 use Rattle.std.specs.List.{position_or_len}
 use Rattle.std.specs.Prelude.{nat_eq, nat_le}
-use Rattle.mm_model.specs.SizeClass.{class_sizes, class_index}
+use Rattle.mm_model.specs.Places.SizeClass.{class_sizes, class_index}
 use Rattle.mm_cells.specs.declared.class.TheConstants.{CLASS_BY_UNITS, CELLS_BY_CLASS}
 
 -- so many bytes fit into 16 * m as they do once they are rounded up

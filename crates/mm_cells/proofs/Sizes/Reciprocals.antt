@@ -5,7 +5,7 @@ use Rattle.std.proofs.lemmas.Bool.{agree_below_at}
 use Rattle.std.proofs.lemmas.Bool.Decides.{nat_tests}
 use Rattle.std.proofs.lemmas.Nat.{div-add-mod', div-mul-add, le-div, mod_below}
 use Rattle.std.specs.Prelude.{nat_le}
-use Rattle.mm_model.specs.SizeClass.{class_sizes}
+use Rattle.mm_model.specs.Places.SizeClass.{class_sizes}
 use Rattle.mm_cells.specs.declared.class.TheConstants.{RECIPROCALS}
 use Rattle.mm_cells.specs.Kept.{class_size}
 use Rattle.mm_cells.proofs.Sizes.ClassSizes.{class_size-least}

@@ -7,9 +7,10 @@ use Rattle.std.specs.List.{Contains}
 use Rattle.std.specs.Option.{option_map}
 use Rattle.mm_model.specs.declared.object.Size.{Size}
 use Rattle.mm_model.specs.declared.object.Size.TheVariants.{Small, Pages}
-use Rattle.mm_model.specs.SizeClass.{class_index, size_of, extent_of_size}
-use Rattle.mm_model.specs.Place.{Family, Piece, first_from, is_vacant, is_page_of, free_cell, has_room, cell_place}
-use Rattle.mm_model.specs.Place.{place_among}
+use Rattle.mm_model.specs.Places.SizeClass.{class_index, size_of, extent_of_size}
+use Rattle.mm_model.specs.Places.Place.{Family, Piece, first_from, is_vacant, is_page_of, free_cell, has_room}
+use Rattle.mm_model.specs.Places.Place.{cell_place}
+use Rattle.mm_model.specs.Places.Place.{place_among}
 use Rattle.mm_model.proofs.Lists.Tests.{IsFirst, first_from-Some, first_from-None}
 use Rattle.mm_model.proofs.Lists.Truth.{no_other}
 use Rattle.mm_model.proofs.Places.Choosing.{size_of-small, size_of-large}

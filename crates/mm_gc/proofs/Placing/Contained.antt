@@ -7,9 +7,9 @@ use Rattle.std.proofs.lemmas.List.Folds.{Any-from_list_any, list_any-from_Any}
 use Rattle.std.proofs.lemmas.List.Elements.{All-contains, All-from_recursion}
 use Rattle.std.specs.Prelude.{nat_lt}
 use Rattle.std.specs.List.{list_any, AllByRecursion, Contains}
-use Rattle.mm_model.specs.Place.{Piece, overlaps, is_vacant}
+use Rattle.mm_model.specs.Places.Place.{Piece, overlaps, is_vacant}
 use Rattle.mm_model.specs.Good.{IsInside, AreApart, AreAllApart, IsPlaced}
-use Rattle.mm_model.proofs.Good.AreaBirths.{apart-sym}
+use Rattle.mm_model.proofs.Good.Making.AreaBirths.{apart-sym}
 use Rattle.mm_model.proofs.Good.Living.{some_extent}
 
 -- an element that passes

@@ -1,6 +1,6 @@
 -- A region in which nothing lies yet.
 use Rattle.std.proofs.Common.{◌≡◌, ℕ, zero, suc, ◌<◌, ◌≤◌, [], slice_index, refl, arith}
-use Rattle.mm_model.specs.Place.{Family}
+use Rattle.mm_model.specs.Places.Place.{Family}
 use Rattle.mm_pages.specs.Pages.{Pages, IsSoundHeap, HasNoRun}
 use Rattle.mm_pages.specs.Parked.{AreParked}
 use Rattle.mm_cells.specs.Cells.{Cells, IsSoundCells, HasNoCell}

@@ -4,7 +4,7 @@ use Rattle.std.proofs.Common.{sym, ◌∙◌, arith}
 use Rattle.std.proofs.lemmas.Bool.{cases_lt, or_cases, or_left, or_right, ltb-true, lt-ltb}
 use Rattle.std.proofs.lemmas.Bool.Decides.{nat_tests}
 use Rattle.std.specs.List.{list_any, fold, Contains}
-use Rattle.mm_model.specs.Place.{Family, Objects, Piece, page_end}
+use Rattle.mm_model.specs.Places.Place.{Family, Objects, Piece, page_end}
 use Rattle.mm_model.proofs.Places.Ends.{ends, fold-ends}
 use Rattle.mm_pages.specs.Pages.{Pages, IsHighestUsed, EndsBy}
 use Rattle.mm_cells.specs.Cells.{Taken, Cells, Begins}

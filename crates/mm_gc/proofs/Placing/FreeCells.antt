@@ -6,10 +6,10 @@ use Rattle.std.proofs.Math.Nat.{mul-le-mul_right, suc-mul}
 use Rattle.std.proofs.lemmas.Nat.{div-add-mod'}
 use Rattle.std.specs.Prelude.{IsTrue, nat_lt, ◌==◌, ◌&&◌}
 use Rattle.std.specs.List.{Contains}
-use Rattle.mm_model.specs.SizeClass.{class_sizes}
-use Rattle.mm_model.specs.Place.{Family, Objects, Areas, same_family, Piece, overlaps, is_page_of}
+use Rattle.mm_model.specs.Places.SizeClass.{class_sizes}
+use Rattle.mm_model.specs.Places.Place.{Family, Objects, Areas, same_family, Piece, overlaps, is_page_of}
 use Rattle.mm_model.specs.Good.{IsPlaced}
-use Rattle.mm_model.specs.Lowest as lowest
+use Rattle.mm_model.specs.Places.Lowest as lowest
 use Rattle.mm_model.proofs.Places.SizeClasses.{class_bounds}
 use Rattle.mm_pages.specs.Pages.{Pages, IsSoundHeap}
 use Rattle.mm_pages.specs.Parked.{AreParked}

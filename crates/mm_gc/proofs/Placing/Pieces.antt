@@ -5,13 +5,13 @@ use Rattle.std.specs.Option.{option_map}
 use Rattle.std.specs.List.{Contains}
 use Rattle.std.proofs.lemmas.List.Elements.{Contains-append_left, Contains-append_right, Contains-append_cases}
 use Rattle.std.proofs.lemmas.Option.{slice_get-map, slice_get-get_or, slice_get_within}
-use Rattle.mm_model.specs.Place.{Objects, Areas, Piece}
-use Rattle.mm_model.specs.ByBase as entries
-use Rattle.mm_model.specs.ByBase.{Based, based}
-use Rattle.mm_model.specs.ObjectView.{ObjectView, ObjectsByBase, piece_of_object, pieces_of_objects}
-use Rattle.mm_model.specs.View.{AreaView}
-use Rattle.mm_model.specs.ViewWords.{piece_of_area}
-use Rattle.mm_model.proofs.View.Entries.{based_at, begins_at}
+use Rattle.mm_model.specs.Places.Place.{Objects, Areas, Piece}
+use Rattle.mm_model.specs.Views.ByBase as entries
+use Rattle.mm_model.specs.Views.ByBase.{Based, based}
+use Rattle.mm_model.specs.Views.ObjectView.{ObjectView, ObjectsByBase, piece_of_object, pieces_of_objects}
+use Rattle.mm_model.specs.Views.View.{AreaView}
+use Rattle.mm_model.specs.Views.ViewWords.{piece_of_area}
+use Rattle.mm_model.proofs.View.ByBase.Entries.{based_at, begins_at}
 use Rattle.mm_cells.specs.Cells.{Taken, Begins}
 use Rattle.mm_object.specs.Object.{StoredObject, view_of_stored, views_of}
 use Rattle.mm_object.specs.Heap.{Heap, cell_of, cells_in}

@@ -4,14 +4,14 @@ use Rattle.std.proofs.Common.{nat_lt, refl, sym, ap, ◌∙◌, subst, arith}
 use Rattle.std.proofs.lemmas.Bool.{cases_lt, cases_eq, and_parts, ltb-true}
 use Rattle.std.specs.Prelude.{◌&&◌, IsTrue, slice_index, ⊤}
 use Rattle.std.specs.List.{AllByRecursion, Contains}
-use Rattle.mm_model.specs.Place.{Family, Objects, Areas, Piece, overlaps}
+use Rattle.mm_model.specs.Places.Place.{Family, Objects, Areas, Piece, overlaps}
 use Rattle.mm_model.specs.Good.{IsInside, AreApart, AreAllApart, IsPlaced}
 use Rattle.mm_model.specs.Phase.{IsAscending}
-use Rattle.mm_model.specs.ByBase.{Based, based}
-use Rattle.mm_model.specs.ObjectView.{ObjectView, ObjectsByBase, piece_of_object, pieces_of_objects}
-use Rattle.mm_model.proofs.Good.AreaBirths.{apart-sym}
+use Rattle.mm_model.specs.Views.ByBase.{Based, based}
+use Rattle.mm_model.specs.Views.ObjectView.{ObjectView, ObjectsByBase, piece_of_object, pieces_of_objects}
+use Rattle.mm_model.proofs.Good.Making.AreaBirths.{apart-sym}
 use Rattle.mm_model.proofs.Good.Living.{each_append}
-use Rattle.mm_model.proofs.View.Entries.{ascending-based}
+use Rattle.mm_model.proofs.View.ByBase.Entries.{ascending-based}
 use Rattle.mm_pages.specs.Pages.{Pages, IsSoundHeap, run_at}
 use Rattle.mm_pages.specs.Parked.{AreParked, AreAllParked}
 use Rattle.mm_cells.specs.Cells as cells

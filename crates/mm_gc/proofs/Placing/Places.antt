@@ -3,10 +3,10 @@ use Rattle.std.proofs.Common.{◌≡◌, ℕ, ◌+◌, ◌-◌, ◌*◌, ◌/◌
 use Rattle.std.proofs.Common.{sym, subst, arith}
 use Rattle.std.proofs.lemmas.Bool.{cases_lt}
 use Rattle.mm_model.specs.declared.object.Size.{Size}
-use Rattle.mm_model.specs.SizeClass.{class_sizes, class_index, size_of}
-use Rattle.mm_model.specs.Place.{Family, Objects, Areas, Piece, is_vacant, place_among}
-use Rattle.mm_model.specs.Lowest.{IsRun}
-use Rattle.mm_model.specs.Lowest as lowest
+use Rattle.mm_model.specs.Places.SizeClass.{class_sizes, class_index, size_of}
+use Rattle.mm_model.specs.Places.Place.{Family, Objects, Areas, Piece, is_vacant, place_among}
+use Rattle.mm_model.specs.Places.Lowest.{IsRun}
+use Rattle.mm_model.specs.Places.Lowest as lowest
 use Rattle.mm_model.proofs.Places.Choosing.{size_of-small, size_of-large}
 use Rattle.mm_model.proofs.Places.SizeClasses.{class_of_small}
 use Rattle.mm_pages.specs.Pages.{Pages}

@@ -5,12 +5,13 @@ use Rattle.std.proofs.lemmas.List.Folds.{list_any-append}
 use Rattle.std.specs.Prelude.{slice_index}
 use Rattle.std.specs.List.{list_any}
 use Rattle.mm_model.specs.declared.object.Kind.TheVariants.{Leaf}
-use Rattle.mm_model.specs.SizeClass.{class_sizes, class_index, size_of, extent_of_size, extent_of}
+use Rattle.mm_model.specs.Places.SizeClass.{class_sizes, class_index, size_of, extent_of_size, extent_of}
 use Rattle.mm_model.specs.Object.{Object, live_objects}
 use Rattle.mm_model.specs.State.{State, Area, empty_state}
-use Rattle.mm_model.specs.Place.{Family, Objects, Areas, Piece, object_piece, area_piece, live_pieces}
-use Rattle.mm_model.specs.Place.{place_among}
-use Rattle.mm_model.specs.Lowest.{IsRun, IsFreeCell, IsNowhere, IsLowest, IsLowestOf, IsPreferred, Of_first, Of_second}
+use Rattle.mm_model.specs.Places.Place.{Family, Objects, Areas, Piece, object_piece, area_piece, live_pieces}
+use Rattle.mm_model.specs.Places.Place.{place_among}
+use Rattle.mm_model.specs.Places.Lowest.{IsRun, IsFreeCell, IsNowhere, IsLowest, IsLowestOf, IsPreferred, Of_first}
+use Rattle.mm_model.specs.Places.Lowest.{Of_second}
 use Rattle.mm_model.proofs.Places.Choosing.{size_of-small, size_of-large, cells_go_lowest, pages_go_lowest}
 use Rattle.mm_model.proofs.Places.SeenAlike.{AreSeenAlike, is_vacant-alike, place_among-alike}
 

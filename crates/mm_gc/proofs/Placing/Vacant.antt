@@ -2,7 +2,7 @@
 use Rattle.std.proofs.Common.{◌≡◌, ℕ, ◌+◌, ◌*◌, ◌/◌, ◌<◌, ◌≤◌, inl, inr, true, List, slice_index, refl, arith}
 use Rattle.std.proofs.lemmas.Bool.{cases_lt, cases_eq}
 use Rattle.std.specs.Prelude.{◌↔◌}
-use Rattle.mm_model.specs.Place.{Family, Objects, Areas, Piece, is_vacant}
+use Rattle.mm_model.specs.Places.Place.{Family, Objects, Areas, Piece, is_vacant}
 use Rattle.mm_pages.specs.Pages as heaps
 use Rattle.mm_pages.specs.Pages.{Pages, IsFreePage, IsFreeRun, TellsFreePages}
 use Rattle.mm_pages.specs.Parked.{AreParked}

@@ -2,9 +2,9 @@
 use Rattle.std.proofs.Common.{◌≡◌, ◌≢◌, ℕ, zero, suc, ◌+◌, inl, inr, List, [], ◌∷◌, map, Option, Some, None, get_or}
 use Rattle.std.proofs.Common.{refl, sym, ap, ◌∙◌, subst, arith}
 use Rattle.std.specs.List.{Contains}
-use Rattle.mm_model.specs.Place.{Areas, Piece}
-use Rattle.mm_model.specs.ByBase.{Begins}
-use Rattle.mm_model.specs.ViewWords.{piece_of_area}
+use Rattle.mm_model.specs.Places.Place.{Areas, Piece}
+use Rattle.mm_model.specs.Views.ByBase.{Begins}
+use Rattle.mm_model.specs.Views.ViewWords.{piece_of_area}
 use Rattle.mm_fixed.specs.Fixed.{Block, block_parked, piece_at}
 use Rattle.mm_roots.specs.declared.area_shape.AreaShape.{AreaShape}
 use Rattle.mm_roots.specs.Areas as areas

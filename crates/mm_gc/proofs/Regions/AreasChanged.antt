@@ -5,9 +5,9 @@ use Rattle.std.specs.Prelude.{Err, not, ◌==◌, ◌/◌, unwrap_or, slice_set}
 use Rattle.std.specs.List.{filter}
 use Rattle.std.proofs.lemmas.List.{set-get_or}
 use Rattle.mm_model.specs.Areas.{most_areas}
-use Rattle.mm_model.specs.SizeClass.{size_of, area_bytes}
-use Rattle.mm_model.specs.View.{View, AreaView}
-use Rattle.mm_model.specs.ViewEffect.{view_free_number}
+use Rattle.mm_model.specs.Places.SizeClass.{size_of, area_bytes}
+use Rattle.mm_model.specs.Views.View.{View, AreaView}
+use Rattle.mm_model.specs.Views.ViewEffect.{view_free_number}
 use Rattle.mm_pages.specs.Pages.{Pages, IsSoundHeap, with_parked}
 use Rattle.mm_pages.specs.Parked.{AreParked, AreAllParked}
 use Rattle.mm_cells.specs.Cells.{Cells}

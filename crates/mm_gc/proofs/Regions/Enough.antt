@@ -3,8 +3,8 @@ use Rattle.std.proofs.Common.{◌≡◌, ℕ, ◌+◌, ◌*◌, ◌≤◌, ◌�
 use Rattle.std.proofs.Math.Nat.{min_comm, min-eq_left}
 use Rattle.std.proofs.lemmas.Bool.{cases_lt}
 use Rattle.std.specs.Int.{div_ceil}
-use Rattle.mm_model.specs.SizeClass.{size_of}
-use Rattle.mm_model.specs.Place.{Family, Piece, place_among}
+use Rattle.mm_model.specs.Places.SizeClass.{size_of}
+use Rattle.mm_model.specs.Places.Place.{Family, Piece, place_among}
 use Rattle.mm_cells.proofs.Sizes.Grains.{div_ceil-reaches}
 use Rattle.mm_gc.specs.Gc.{Region, pieces_in, pages_needed}
 use Rattle.mm_gc.specs.Kept.{IsSettled}

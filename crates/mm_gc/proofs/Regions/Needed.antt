@@ -1,10 +1,10 @@
 -- How many pages a region needs, and that it has no more than it may have.
 use Rattle.std.proofs.Common.{◌≡◌, ℕ, ◌-◌, ◌<◌, ◌≤◌, max, List, ◌++◌, map, sym, ap, ◌∙◌, arith}
 use Rattle.std.specs.List.{fold}
-use Rattle.mm_model.specs.Place.{page_end}
-use Rattle.mm_model.specs.ObjectView.{pieces_of_objects}
-use Rattle.mm_model.specs.View.{AreaView}
-use Rattle.mm_model.specs.ViewWords.{piece_of_area}
+use Rattle.mm_model.specs.Places.Place.{page_end}
+use Rattle.mm_model.specs.Views.ObjectView.{pieces_of_objects}
+use Rattle.mm_model.specs.Views.View.{AreaView}
+use Rattle.mm_model.specs.Views.ViewWords.{piece_of_area}
 use Rattle.mm_pages.specs.Pages.{IsHighestUsed, EndsBy}
 use Rattle.mm_object.specs.Object.{StoredObjects, views_of}
 use Rattle.mm_object.specs.Heap as objects

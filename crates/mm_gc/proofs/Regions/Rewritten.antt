@@ -2,9 +2,9 @@
 use Rattle.std.proofs.Common.{◌≡◌, ℕ, ◌+◌, List, [], ◌∷◌, ◌++◌, map, Option, Some, None, slice_index}
 use Rattle.std.proofs.Common.{refl, sym, ap, ◌∙◌, subst, arith}
 use Rattle.std.specs.List.{fold}
-use Rattle.mm_model.specs.Place.{Areas, Piece, page_end}
-use Rattle.mm_model.specs.ObjectView.{pieces_of_objects}
-use Rattle.mm_model.specs.ViewWords.{piece_of_area}
+use Rattle.mm_model.specs.Places.Place.{Areas, Piece, page_end}
+use Rattle.mm_model.specs.Views.ObjectView.{pieces_of_objects}
+use Rattle.mm_model.specs.Views.ViewWords.{piece_of_area}
 use Rattle.mm_pages.specs.Parked.{AreParked}
 use Rattle.mm_object.specs.Object.{views_of}
 use Rattle.mm_object.specs.Heap.{Heap, IsSound}

@@ -1,7 +1,7 @@
 -- What is said of objects alone holds of every heap that has them.
 use Rattle.std.proofs.Common.{◌≡◌, ℕ, sym, subst, arith}
-use Rattle.mm_model.specs.ByBase.{Begins}
-use Rattle.mm_model.specs.GoodView.{ArePaired}
+use Rattle.mm_model.specs.Views.ByBase.{Begins}
+use Rattle.mm_model.specs.Views.GoodView.{ArePaired}
 use Rattle.mm_object.specs.Object.{StoredObject, StoredObjects, views_of}
 use Rattle.mm_object.specs.Heap.{Heap}
 use Rattle.mm_weak.specs.Links.{IsLinked}

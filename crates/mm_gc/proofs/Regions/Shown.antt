@@ -3,9 +3,9 @@ use Rattle.std.proofs.Common.{◌≡◌, ◌<◌, List, map, inl, inr, refl, sym
 use Rattle.std.specs.Option.{option_map}
 use Rattle.std.proofs.lemmas.List.{length-map}
 use Rattle.std.specs.List.{Contains}
-use Rattle.mm_model.specs.Place.{Objects, Areas, Piece}
-use Rattle.mm_model.specs.ObjectView.{pieces_of_objects}
-use Rattle.mm_model.specs.ViewWords.{piece_of_area}
+use Rattle.mm_model.specs.Places.Place.{Objects, Areas, Piece}
+use Rattle.mm_model.specs.Views.ObjectView.{pieces_of_objects}
+use Rattle.mm_model.specs.Views.ViewWords.{piece_of_area}
 use Rattle.mm_model.specs.Good.{IsInside}
 use Rattle.mm_model.proofs.Places.SizeClasses.{class_bounds}
 use Rattle.mm_cells.specs.Cells as cells

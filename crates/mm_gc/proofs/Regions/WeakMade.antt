@@ -6,7 +6,7 @@ use Rattle.std.proofs.lemmas.Bool.{cases_eq}
 use Rattle.std.proofs.lemmas.List.{get_or-set_same, get_or-set_other}
 use Rattle.std.proofs.lemmas.Option.{slice_get_within}
 use Rattle.mm_model.specs.declared.object.Colour.{Colour}
-use Rattle.mm_model.specs.SizeClass.{size_of}
+use Rattle.mm_model.specs.Places.SizeClass.{size_of}
 use Rattle.mm_pages.specs.Pages.{Pages, IsSoundHeap, with_parked}
 use Rattle.mm_pages.specs.Parked.{AreParked, AreAllParked}
 use Rattle.mm_cells.specs.Placing.{IsPlaceFor}

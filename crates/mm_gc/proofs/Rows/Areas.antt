@@ -6,11 +6,12 @@ use Rattle.std.specs.Option.{option_map_or}
 use Rattle.mm_model.specs.declared.command.Command.TheVariants as commands
 use Rattle.mm_model.specs.declared.refusal.Refusal.TheVariants as refusals
 use Rattle.mm_model.specs.declared.reply.Reply.TheVariants as replies
-use Rattle.mm_model.specs.View.{View, AreaView}
-use Rattle.mm_model.specs.ViewWords.{area_in, cell_kind_of, view_refuses_word}
-use Rattle.mm_model.specs.ViewTests.{view_word}
-use Rattle.mm_model.specs.ViewEffect.{with_found, view_pushed, view_pushes, view_without_area, view_area_put_effect}
-use Rattle.mm_model.specs.ViewStep.{IsViewRow}
+use Rattle.mm_model.specs.Views.View.{View, AreaView}
+use Rattle.mm_model.specs.Views.ViewWords.{area_in, cell_kind_of, view_refuses_word}
+use Rattle.mm_model.specs.Views.ViewTests.{view_word}
+use Rattle.mm_model.specs.Views.ViewEffect.{with_found, view_pushed, view_pushes, view_without_area}
+use Rattle.mm_model.specs.Views.ViewEffect.{view_area_put_effect}
+use Rattle.mm_model.specs.Views.ViewStep.{IsViewRow}
 use Rattle.mm_gc.proofs.Refusals.{RefusesIn, row-carried}
 use Rattle.mm_gc.proofs.Refusals.Refuses.{Here, Later, Allowed}
 use Rattle.mm_gc.proofs.Rows.Cells.{le-true, le-false, HasRoomOnStack, IsFull, is_cell}

@@ -7,9 +7,9 @@ use Rattle.std.specs.Prelude.{◌==◌, nat_lt, nat_le, slice_get}
 use Rattle.mm_model.specs.declared.command.Command.TheVariants as commands
 use Rattle.mm_model.specs.declared.refusal.Refusal.TheVariants as refusals
 use Rattle.mm_model.specs.declared.reply.Reply.TheVariants as replies
-use Rattle.mm_model.specs.View.{View}
-use Rattle.mm_model.specs.ViewEffect.{with_found, view_pushed, view_done}
-use Rattle.mm_model.specs.ViewStep.{IsViewRow}
+use Rattle.mm_model.specs.Views.View.{View}
+use Rattle.mm_model.specs.Views.ViewEffect.{with_found, view_pushed, view_done}
+use Rattle.mm_model.specs.Views.ViewStep.{IsViewRow}
 use Rattle.mm_gc.proofs.Refusals.{RefusesIn, row-carried}
 use Rattle.mm_gc.proofs.Refusals.Refuses.{Here, Later, Allowed}
 

@@ -9,19 +9,20 @@ use Rattle.mm_model.specs.declared.refusal.Refusal.TheVariants as refusals
 use Rattle.mm_model.specs.declared.reply.Reply.TheVariants as replies
 use Rattle.mm_model.specs.declared.line.Line.{Line}
 use Rattle.mm_model.specs.declared.line.Phase.TheVariants.{Reap, Collect}
-use Rattle.mm_model.specs.SizeClass.{object_bytes, area_bytes}
-use Rattle.mm_model.specs.Place.{Family, Objects, Areas}
+use Rattle.mm_model.specs.Places.SizeClass.{object_bytes, area_bytes}
+use Rattle.mm_model.specs.Places.Place.{Family, Objects, Areas}
 use Rattle.mm_model.specs.Areas.{most_areas}
 use Rattle.mm_model.specs.Object.{is_weak}
 use Rattle.mm_model.specs.Refusing.{is_bad_shape, is_bad_area}
-use Rattle.mm_model.specs.ByBase.{Based}
-use Rattle.mm_model.specs.ObjectView.{ObjectView}
-use Rattle.mm_model.specs.View.{View}
-use Rattle.mm_model.specs.ViewWords.{view_meant}
-use Rattle.mm_model.specs.ViewEffect.{ViewEffect, view_pushed, view_pushes, view_new_effect, view_weak_effect}
-use Rattle.mm_model.specs.ViewEffect.{view_area_effect}
-use Rattle.mm_model.specs.ViewPhase.{view_phase_lines, view_reaped, view_collected, ViewReaps, ViewCollects}
-use Rattle.mm_model.specs.ViewStep.{IsViewRow, ViewMakes, ViewMakesWeak, ViewSearches, view_place_now, view_place_grown}
+use Rattle.mm_model.specs.Views.ByBase.{Based}
+use Rattle.mm_model.specs.Views.ObjectView.{ObjectView}
+use Rattle.mm_model.specs.Views.View.{View}
+use Rattle.mm_model.specs.Views.ViewWords.{view_meant}
+use Rattle.mm_model.specs.Views.ViewEffect.{ViewEffect, view_pushed, view_pushes, view_new_effect, view_weak_effect}
+use Rattle.mm_model.specs.Views.ViewEffect.{view_area_effect}
+use Rattle.mm_model.specs.Views.ViewPhase.{view_phase_lines, view_reaped, view_collected, ViewReaps, ViewCollects}
+use Rattle.mm_model.specs.Views.ViewStep.{IsViewRow, ViewMakes, ViewMakesWeak, ViewSearches, view_place_now}
+use Rattle.mm_model.specs.Views.ViewStep.{view_place_grown}
 use Rattle.mm_gc.proofs.Refusals.{RefusesIn, row-carried}
 use Rattle.mm_gc.proofs.Refusals.Refuses.{Here, Later, Allowed}
 use Rattle.mm_gc.proofs.Rows.Cells.{le-true, HasRoomOnStack, IsFull, is_cell}

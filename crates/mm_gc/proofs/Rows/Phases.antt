@@ -6,11 +6,11 @@ use Rattle.mm_model.specs.declared.refusal.Refusal.TheVariants as refusals
 use Rattle.mm_model.specs.declared.reply.Reply.TheVariants as replies
 use Rattle.mm_model.specs.declared.line.Line.{Line}
 use Rattle.mm_model.specs.declared.line.Phase.TheVariants.{Reap, Collect}
-use Rattle.mm_model.specs.View.{View}
-use Rattle.mm_model.specs.ViewEffect.{view_begun}
-use Rattle.mm_model.specs.ViewPhase.{view_phase_lines, view_reaped, view_collected, ViewReaps, ViewCollects}
-use Rattle.mm_model.specs.ViewPhase.{ViewFinishes}
-use Rattle.mm_model.specs.ViewStep.{IsViewRow, ViewScans}
+use Rattle.mm_model.specs.Views.View.{View}
+use Rattle.mm_model.specs.Views.ViewEffect.{view_begun}
+use Rattle.mm_model.specs.Views.ViewPhase.{view_phase_lines, view_reaped, view_collected, ViewReaps, ViewCollects}
+use Rattle.mm_model.specs.Views.ViewPhase.{ViewFinishes}
+use Rattle.mm_model.specs.Views.ViewStep.{IsViewRow, ViewScans}
 use Rattle.mm_gc.proofs.Refusals.{RefusesIn, row-carried}
 use Rattle.mm_gc.proofs.Refusals.Refuses.{Here, Later, Allowed}
 

@@ -9,13 +9,14 @@ use Rattle.mm_model.specs.declared.refusal.Refusal.TheVariants as refusals
 use Rattle.mm_model.specs.declared.reply.Reply.TheVariants as replies
 use Rattle.mm_model.specs.Object.{is_weak}
 use Rattle.mm_model.specs.Words.{falls}
-use Rattle.mm_model.specs.ByBase.{Based}
-use Rattle.mm_model.specs.ObjectView.{ObjectView}
-use Rattle.mm_model.specs.View.{View}
-use Rattle.mm_model.specs.ViewWords.{view_meant}
-use Rattle.mm_model.specs.ViewTests.{view_word}
-use Rattle.mm_model.specs.ViewEffect.{with_found, view_pushed, view_pushes, view_look_effect, view_map_reply, view_stat}
-use Rattle.mm_model.specs.ViewStep.{IsViewRow}
+use Rattle.mm_model.specs.Views.ByBase.{Based}
+use Rattle.mm_model.specs.Views.ObjectView.{ObjectView}
+use Rattle.mm_model.specs.Views.View.{View}
+use Rattle.mm_model.specs.Views.ViewWords.{view_meant}
+use Rattle.mm_model.specs.Views.ViewTests.{view_word}
+use Rattle.mm_model.specs.Views.ViewEffect.{with_found, view_pushed, view_pushes, view_look_effect, view_map_reply}
+use Rattle.mm_model.specs.Views.ViewEffect.{view_stat}
+use Rattle.mm_model.specs.Views.ViewStep.{IsViewRow}
 use Rattle.mm_gc.proofs.Refusals.{RefusesIn, row-carried}
 use Rattle.mm_gc.proofs.Refusals.Refuses.{Here, Later, Allowed}
 use Rattle.mm_gc.proofs.Rows.Cells.{le-true, le-false, HasRoomOnStack, IsFull, is_cell}

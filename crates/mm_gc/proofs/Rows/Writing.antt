@@ -4,13 +4,13 @@ use Rattle.std.specs.Prelude.{nat_le, slice_get}
 use Rattle.std.specs.Option.{option_map_or}
 use Rattle.mm_model.specs.declared.command.Command.TheVariants as commands
 use Rattle.mm_model.specs.declared.refusal.Refusal.TheVariants as refusals
-use Rattle.mm_model.specs.ByBase.{Based}
-use Rattle.mm_model.specs.ObjectView.{ObjectView, slot_kind_of}
-use Rattle.mm_model.specs.View.{View}
-use Rattle.mm_model.specs.ViewWords.{view_meant, view_refuses_word}
-use Rattle.mm_model.specs.ViewTests.{view_word}
-use Rattle.mm_model.specs.ViewEffect.{with_found, view_put_effect}
-use Rattle.mm_model.specs.ViewStep.{IsViewRow}
+use Rattle.mm_model.specs.Views.ByBase.{Based}
+use Rattle.mm_model.specs.Views.ObjectView.{ObjectView, slot_kind_of}
+use Rattle.mm_model.specs.Views.View.{View}
+use Rattle.mm_model.specs.Views.ViewWords.{view_meant, view_refuses_word}
+use Rattle.mm_model.specs.Views.ViewTests.{view_word}
+use Rattle.mm_model.specs.Views.ViewEffect.{with_found, view_put_effect}
+use Rattle.mm_model.specs.Views.ViewStep.{IsViewRow}
 use Rattle.mm_gc.proofs.Refusals.{RefusesIn, row-carried}
 use Rattle.mm_gc.proofs.Refusals.Refuses.{Here, Later, Allowed}
 use Rattle.mm_gc.proofs.Rows.Cells.{le-true, le-false, is_cell}

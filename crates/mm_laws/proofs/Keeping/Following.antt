@@ -12,7 +12,7 @@ use Rattle.mm_model.specs.Phase.{is_freed, is_freed_birth, unless_freed, after_r
 use Rattle.mm_model.specs.Effect.{weak_made}
 use Rattle.mm_model.proofs.Lists.Growing.{get-front}
 use Rattle.mm_model.proofs.Lists.Replaced.{get-set_same, get-set_other}
-use Rattle.mm_model.specs.Course.{IsGone}
+use Rattle.mm_model.specs.Logs.Course.{IsGone}
 use Rattle.mm_model.proofs.Lists.Truth.{no_other}
 use Rattle.mm_model.specs.WeakReferences.{IsTarget, Partner, Freed, IsMadeFor}
 

@@ -13,17 +13,17 @@ use Rattle.mm_model.specs.declared.reply.Reply.TheVariants as replies
 use Rattle.mm_model.specs.declared.line.Line.{Line}
 use Rattle.mm_model.specs.Object.{Object, newborn, is_weak}
 use Rattle.mm_model.specs.State.{State, one_more_command}
-use Rattle.mm_model.specs.Place.{Family, Objects}
-use Rattle.mm_model.specs.SizeClass.{object_bytes}
+use Rattle.mm_model.specs.Places.Place.{Family, Objects}
+use Rattle.mm_model.specs.Places.SizeClass.{object_bytes}
 use Rattle.mm_model.specs.Meaning.{meant_at, object_meant}
-use Rattle.mm_model.specs.Marking.{part_done}
+use Rattle.mm_model.specs.Sets.Marking.{part_done}
 use Rattle.mm_model.specs.Phase.{reaped, collected}
-use Rattle.mm_model.specs.Search.{Searches, At_once, After_reap, After_collection}
-use Rattle.mm_model.specs.Scan.{AreScanned}
+use Rattle.mm_model.specs.Places.Search.{Searches, At_once, After_reap, After_collection}
+use Rattle.mm_model.specs.Sets.Scan.{AreScanned}
 use Rattle.mm_model.specs.Effect.{Effect, with_some, new_effect, weak_effect, area_effect, weak_made, pushes_object}
 use Rattle.mm_model.specs.Effect.{plain_effect}
 use Rattle.mm_model.specs.Refusing.{refusal, no_cell, means_nothing, means_weak, is_stack_full}
-use Rattle.mm_model.specs.Log.{IsRun}
+use Rattle.mm_model.specs.Logs.Log.{IsRun}
 use Rattle.mm_model.specs.Step.{IsPlain, Makes, MakesWeak, Reaps, Carries, Ends, Refused_as_full, Below_threshold}
 use Rattle.mm_model.specs.Step.{At_threshold, IsStepUnless, IsStep}
 use Rattle.mm_model.proofs.Good.Allowed.{all_allowed}

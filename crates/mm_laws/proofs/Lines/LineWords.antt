@@ -13,7 +13,7 @@ use Rattle.mm_model.specs.declared.line.Line.{Line}
 use Rattle.mm_model.specs.declared.line.Line.TheVariants as lines
 use Rattle.mm_model.specs.declared.line.Phase.{Phase}
 use Rattle.mm_model.specs.declared.line.Phase.TheVariants as phases
-use Rattle.mm_model.specs.Spelling.{refusal_text, kind_word, phase_word, spelling}
+use Rattle.mm_model.specs.Logs.Spelling.{refusal_text, kind_word, phase_word, spelling}
 use Rattle.mm_model.proofs.Text.Traces.{NoNewline}
 use Rattle.mm_laws.proofs.Lines.Words.{AreWords, are_words, IsWord-from_test, decimal-word, sentence-joined}
 use Rattle.mm_laws.proofs.Lines.Words.{joined_words-no_newline, is_space}

@@ -14,8 +14,8 @@ use Rattle.mm_model.specs.declared.reply.Reply.TheVariants as replies
 use Rattle.mm_model.specs.declared.line.Line.{Line}
 use Rattle.mm_model.specs.declared.line.Line.TheVariants as lines
 use Rattle.mm_model.specs.declared.line.Phase.TheVariants as phases
-use Rattle.mm_model.specs.Spelling.{kind_word}
-use Rattle.mm_model.specs.Trace.{entry_at}
+use Rattle.mm_model.specs.Logs.Spelling.{kind_word}
+use Rattle.mm_model.specs.Logs.Trace.{entry_at}
 use Rattle.mm_laws.specs.Lines.{reply_numbers, numbers_of, IsSpelledInFull, AreNothing, answered_nothing}
 use Rattle.mm_laws.specs.Lines.{refused_nothing}
 use Rattle.mm_laws.proofs.Lines.LineWords.{line_words}

@@ -4,8 +4,8 @@ use Rattle.std.proofs.Common.{arith, length-append}
 use Rattle.std.specs.List.{All, slice_split}
 use Rattle.std.proofs.lemmas.List.Elements.{All-head, All-tail}
 use Rattle.mm_model.specs.declared.line.Line.{Line}
-use Rattle.mm_model.specs.Spelling.{spelling, spelling_of}
-use Rattle.mm_model.specs.Trace.{pieces_of}
+use Rattle.mm_model.specs.Logs.Spelling.{spelling, spelling_of}
+use Rattle.mm_model.specs.Logs.Trace.{pieces_of}
 use Rattle.mm_laws.specs.Lines.{IsSpelledInFull, AreNothing, AreAlike}
 use Rattle.mm_laws.proofs.Lines.Words.{is_space, slice_split-joined_words, pieces_of-newline, pieces_of-injective}
 use Rattle.mm_laws.proofs.Lines.LineWords.{body, line_words, line_words-clean, line_words-some, spelling-body}

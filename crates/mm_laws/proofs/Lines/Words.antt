@@ -9,8 +9,8 @@ use Rattle.std.proofs.lemmas.Bool.Decides.{nat_tests}
 use Rattle.std.proofs.lemmas.List.Elements.{All-nil, All-cons, All-append, All-weaker}
 use Rattle.std.proofs.lemmas.List.Splits.{slice_split_at, slice_split_none, join_with_byte-slice_split}
 use Rattle.std.proofs.lemmas.List.Sums.{AllPass-from_list_all}
-use Rattle.mm_model.specs.Spelling.{sentence}
-use Rattle.mm_model.specs.Trace.{pieces_of}
+use Rattle.mm_model.specs.Logs.Spelling.{sentence}
+use Rattle.mm_model.specs.Logs.Trace.{pieces_of}
 use Rattle.mm_model.proofs.Text.Traces.{NoNewline}
 
 -- each byte stands above the space, and so above the newline too

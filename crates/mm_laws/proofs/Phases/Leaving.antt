@@ -5,7 +5,7 @@ use Rattle.std.specs.Prelude.{◌↔◌, if◌then◌else◌, slice_get}
 use Rattle.std.specs.Option.{option_map}
 use Rattle.mm_model.specs.Object.{Object}
 use Rattle.mm_model.specs.State.{State, Lives}
-use Rattle.mm_model.specs.Reached.{IsUnreached}
+use Rattle.mm_model.specs.Sets.Reached.{IsUnreached}
 use Rattle.mm_model.specs.Phase.{lists, is_freed, unless_freed, after_release, collected, AreCollected}
 use Rattle.mm_model.specs.Good.{IsGood}
 use Rattle.mm_model.proofs.Good.Closing.{dead_listed}

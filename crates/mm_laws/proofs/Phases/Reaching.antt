@@ -8,9 +8,9 @@ use Rattle.mm_model.specs.Words.{stack_words, area_words, root_words, counted_ce
 use Rattle.mm_model.specs.Words.{counted_slots, word_slots, scanned_slots, counted_words, falls, names, holds}
 use Rattle.mm_model.specs.Good.{IsGood}
 use Rattle.mm_model.specs.Count.{is_zero_count}
-use Rattle.mm_model.specs.Reapable.{IsReapable, Reapable, only_slots_hold}
-use Rattle.mm_model.specs.Protected.{IsProtected, By_stack, By_area, By_counted_cell, By_slot, By_counted_slot}
-use Rattle.mm_model.specs.Reached.{IsReached, By_root, By_slot as Reached_by_slot}
+use Rattle.mm_model.specs.Sets.Reapable.{IsReapable, Reapable, only_slots_hold}
+use Rattle.mm_model.specs.Sets.Protected.{IsProtected, By_stack, By_area, By_counted_cell, By_slot, By_counted_slot}
+use Rattle.mm_model.specs.Sets.Reached.{IsReached, By_root, By_slot as Reached_by_slot}
 use Rattle.mm_model.proofs.Lists.Keyed.{refuted}
 use Rattle.mm_model.proofs.Places.Placing.{both}
 use Rattle.mm_model.proofs.Lists.Truth.{together, not_true, not-false, no_other}

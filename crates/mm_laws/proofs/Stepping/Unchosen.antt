@@ -12,14 +12,14 @@ use Rattle.mm_model.specs.declared.refusal.Refusal.{Refusal}
 use Rattle.mm_model.specs.declared.line.Line.{Line}
 use Rattle.mm_model.specs.declared.line.Line.TheVariants as lines
 use Rattle.mm_model.specs.declared.line.Phase.TheVariants.{Reap, Collect}
-use Rattle.mm_model.specs.SizeClass.{object_bytes, area_bytes}
-use Rattle.mm_model.specs.Place.{Family, Objects, Areas, live_pieces}
+use Rattle.mm_model.specs.Places.SizeClass.{object_bytes, area_bytes}
+use Rattle.mm_model.specs.Places.Place.{Family, Objects, Areas, live_pieces}
 use Rattle.mm_model.specs.Good.{IsGood, IsPlaced}
-use Rattle.mm_model.specs.Marking.{IsFreedAtFinish}
-use Rattle.mm_model.specs.Reapable.{IsReapable}
-use Rattle.mm_model.specs.Reached.{IsUnreached}
+use Rattle.mm_model.specs.Sets.Marking.{IsFreedAtFinish}
+use Rattle.mm_model.specs.Sets.Reapable.{IsReapable}
+use Rattle.mm_model.specs.Sets.Reached.{IsUnreached}
 use Rattle.mm_model.specs.Phase.{lists, IsAscending, AreBasesOf, AreReaped, AreCollected, phase_lines, reaped}
-use Rattle.mm_model.specs.Search.{place_grown, Searches, At_once, After_reap, After_collection}
+use Rattle.mm_model.specs.Places.Search.{place_grown, Searches, At_once, After_reap, After_collection}
 use Rattle.mm_model.specs.Effect.{Effect, new_effect, weak_effect, area_effect, pushes_object, plain_effect}
 use Rattle.mm_model.specs.Refusing.{refusal}
 use Rattle.mm_model.specs.Step.{Makes, IsPlain, MakesWeak, MakesWeakOf, Reaps, Carries, is_full, Ends, Refused_as_full}

@@ -14,7 +14,7 @@ use Rattle.mm_model.specs.State.{State, Lives}
 use Rattle.mm_model.specs.Meaning.{meant, meant_at, object_meant}
 use Rattle.mm_model.specs.Effect.{Effect, with_some, look_effect, plain_effect}
 use Rattle.mm_model.specs.Refusing.{first_refusal, refusal, no_cell, means_nothing, means_weak, is_stack_full}
-use Rattle.mm_model.specs.Course.{IsGone}
+use Rattle.mm_model.specs.Logs.Course.{IsGone}
 use Rattle.mm_model.specs.Good.{IsGood}
 use Rattle.mm_model.specs.Step.{IsStepUnless, IsCarriedOut, IsStep}
 use Rattle.mm_model.proofs.Cycle.Courses.{gone_lives_not}

@@ -20,7 +20,7 @@ use Rattle.mm_model.specs.Step.{MakesWeak, Ends, Refused_as_full, Below_threshol
 use Rattle.mm_model.proofs.Lists.Growing.{get-last}
 use Rattle.mm_model.proofs.Good.Living.{lives_from_page_1}
 use Rattle.mm_model.proofs.Good.Steps.{step_is_good}
-use Rattle.mm_model.specs.Course.{IsGone}
+use Rattle.mm_model.specs.Logs.Course.{IsGone}
 use Rattle.mm_model.proofs.Cycle.Courses.{gone_lives_not}
 use Rattle.mm_model.specs.WeakReferences.{IsTarget, Partner, Freed, IsMadeFor}
 use Rattle.mm_laws.proofs.Keeping.Following.{Keeps, made_for-kept, keeps-then}

@@ -6,7 +6,8 @@ use Rattle.std.proofs.lemmas.Bool.{cases_eq}
 use Rattle.std.proofs.lemmas.List.{append-nil}
 use Rattle.mm_model.specs.declared.command.Command.{Command}
 use Rattle.mm_model.specs.declared.refusal.LineFault.{LineFault}
-use Rattle.mm_model.specs.Trace.{lines_of, FaultAt, Reading, reading_before, reading_from, line_reading, trace_reading}
+use Rattle.mm_model.specs.Logs.Trace.{lines_of, FaultAt, Reading, reading_before, reading_from, line_reading}
+use Rattle.mm_model.specs.Logs.Trace.{trace_reading}
 use Rattle.mm_model.proofs.Text.Traces.{Cuts, Cuts-none, Cuts-byte, Cuts-newline, lines_of-cuts, reading_from-clean}
 use Rattle.mm_model.proofs.Text.Traces.{reading_from-fault}
 use Rattle.mm_model.proofs.Text.Faults.{lines_of-after}

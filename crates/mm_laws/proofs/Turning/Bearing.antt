@@ -10,7 +10,7 @@ use Rattle.mm_model.specs.declared.refusal.Refusal.TheVariants as refusals
 use Rattle.mm_model.specs.declared.reply.Reply.{Reply}
 use Rattle.mm_model.specs.declared.reply.Reply.TheVariants as replies
 use Rattle.mm_model.specs.declared.line.Line.{Line}
-use Rattle.mm_model.specs.Place.{Family}
+use Rattle.mm_model.specs.Places.Place.{Family}
 use Rattle.mm_model.specs.Value.{Value}
 use Rattle.mm_model.specs.Object.{Object, newborn}
 use Rattle.mm_model.specs.State.{State}
@@ -18,12 +18,12 @@ use Rattle.mm_model.specs.Count.{made_sticky}
 use Rattle.mm_model.specs.Meaning.{meant_at}
 use Rattle.mm_model.specs.Phase.{after_release, reaped, collected}
 use Rattle.mm_model.specs.Store.{with_slot}
-use Rattle.mm_model.specs.Search.{Searches, At_once, After_reap, After_collection}
+use Rattle.mm_model.specs.Places.Search.{Searches, At_once, After_reap, After_collection}
 use Rattle.mm_model.specs.Effect.{Effect, with_some, weak_shape, weak_made, new_effect, weak_effect, area_effect}
 use Rattle.mm_model.specs.Effect.{pushes, pushes_object, plain_effect}
 use Rattle.mm_model.specs.Refusing.{refusal}
 use Rattle.mm_model.specs.Step.{Makes, MakesWeak, Carries, Ends, Refused_as_full, Below_threshold, At_threshold}
-use Rattle.mm_model.specs.Turns.{Born, born_at, births_if}
+use Rattle.mm_model.specs.Logs.Turns.{Born, born_at, births_if}
 use Rattle.mm_model.proofs.Lists.Replaced.{map-set_alike, map-map_alike}
 use Rattle.mm_laws.proofs.Keeping.Following.{Keeps}
 use Rattle.mm_laws.proofs.Keeping.FollowingSteps.{keeps-searched, strong-allowed, scanned-objects}
@@ -145,7 +145,8 @@ module _ {P : Type 0} (view : Object → P) (as_born : Born → P) (views : View
         ap (λ (s : State). map view s.objects) same
     same-searched a family bytes log b found (After_reap base dead none reapable place lines same is) =
         ap (λ (s : State). map view s.objects) same ∙ same-released a (reaped dead a) dead refl
-    same-searched a family bytes log b found (After_collection dead lost none reapable no_place unreached lines same is) =
+    same-searched a family bytes log b found (After_collection dead lost none reapable no_place unreached lines same
+        is) =
         ap (λ (s : State). map view s.objects) same
         ∙ same-released (reaped dead a) (collected lost (reaped dead a)) lost refl
         ∙ same-released a (reaped dead a) dead refl
@@ -228,7 +229,8 @@ module _ {P : Type 0} (view : Object → P) (as_born : Born → P) (views : View
       bears-carried (commands.Get i s) allowed kept m = bears-effect (commands.Get i s) m.effect_is kept (λ _. refl)
       bears-carried (commands.Put i s j) allowed kept m = bears-effect (commands.Put i s j) m.effect_is kept (λ _. refl)
       bears-carried (commands.Look i) allowed kept m = bears-effect (commands.Look i) m.effect_is kept (λ _. refl)
-      bears-carried (commands.DropArea n) allowed kept m = bears-effect (commands.DropArea n) m.effect_is kept (λ _. refl)
+      bears-carried (commands.DropArea n) allowed kept m =
+          bears-effect (commands.DropArea n) m.effect_is kept (λ _. refl)
       bears-carried (commands.AreaGet n s) allowed kept m =
           bears-effect (commands.AreaGet n s) m.effect_is kept (λ _. refl)
       bears-carried (commands.AreaPut n s j) allowed kept m =

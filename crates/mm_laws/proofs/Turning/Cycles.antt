@@ -11,7 +11,7 @@ use Rattle.mm_model.specs.declared.object.Shape.{Shape}
 use Rattle.mm_model.specs.declared.refusal.Refusal.{Refusal}
 use Rattle.mm_model.specs.declared.reply.Reply.TheVariants as replies
 use Rattle.mm_model.specs.declared.line.Line.{Line}
-use Rattle.mm_model.specs.Place.{Family}
+use Rattle.mm_model.specs.Places.Place.{Family}
 use Rattle.mm_model.specs.Value.{Value, words_of}
 use Rattle.mm_model.specs.Object.{Object, newborn}
 use Rattle.mm_model.specs.State.{State, Area, with_black_birth, one_more_command}
@@ -19,18 +19,18 @@ use Rattle.mm_model.specs.Words.{SlotKind, slot_kind, cell_kind}
 use Rattle.mm_model.specs.Count.{refs, begins_counted, made_sticky, with_sticky}
 use Rattle.mm_model.specs.Meaning.{meant_at, object_meant}
 use Rattle.mm_model.specs.Areas.{area_at, with_changed_area}
-use Rattle.mm_model.specs.Marking.{grayed_cycle, with_grayed, is_raw, is_passed, barrier, part_done}
+use Rattle.mm_model.specs.Sets.Marking.{grayed_cycle, with_grayed, is_raw, is_passed, barrier, part_done}
 use Rattle.mm_model.specs.Phase.{cycle_left, is_freed, unless_freed, after_release, reaped, collected}
 use Rattle.mm_model.specs.Store.{is_counted_slot, recounted, with_object, with_slot, with_cell, put_in_slot}
 use Rattle.mm_model.specs.Store.{put_in_cell}
-use Rattle.mm_model.specs.Search.{Searches, At_once, After_reap, After_collection}
-use Rattle.mm_model.specs.Scan.{AreScanned}
+use Rattle.mm_model.specs.Places.Search.{Searches, At_once, After_reap, After_collection}
+use Rattle.mm_model.specs.Sets.Scan.{AreScanned}
 use Rattle.mm_model.specs.Effect.{Effect, with_some, weak_shape, new_effect, weak_effect, weak_made, area_effect}
 use Rattle.mm_model.specs.Effect.{look_effect, pushes_object, plain_effect}
 use Rattle.mm_model.specs.Refusing.{refusal}
 use Rattle.mm_model.specs.Step.{Makes, MakesWeak, Carries, Ends, Refused_as_full, Below_threshold, At_threshold}
 use Rattle.mm_model.specs.Step.{IsStepUnless, IsStep}
-use Rattle.mm_model.specs.Turns.{is_begin}
+use Rattle.mm_model.specs.Logs.Turns.{is_begin}
 use Rattle.mm_model.proofs.Lists.Growing.{get-front}
 use Rattle.mm_model.proofs.Lists.Replaced.{get-set_same, get-set_other}
 

@@ -8,9 +8,9 @@ use Rattle.mm_model.specs.declared.line.Line.{Line}
 use Rattle.mm_model.specs.declared.settings.Settings.{Settings}
 use Rattle.mm_model.specs.State.{State, empty_state}
 use Rattle.mm_model.specs.Step.{IsStep}
-use Rattle.mm_model.specs.Log.{IsRun, IsLegal}
-use Rattle.mm_model.specs.Turns.{Turn, AreJoined, ComesAfter, is_group, AreSteps}
-use Rattle.mm_model.specs.Faithful.{IsFaithfulTurn, IsFaithful}
+use Rattle.mm_model.specs.Logs.Log.{IsRun, IsLegal}
+use Rattle.mm_model.specs.Logs.Turns.{Turn, AreJoined, ComesAfter, is_group, AreSteps}
+use Rattle.mm_model.specs.Logs.Faithful.{IsFaithfulTurn, IsFaithful}
 use Rattle.mm_model.specs.Good.{IsGood}
 use Rattle.mm_model.proofs.Good.Steps.{step_is_good}
 use Rattle.mm_model.proofs.Steps.Determining.{lines_determine_the_state}

@@ -17,7 +17,7 @@ use Rattle.mm_model.specs.declared.refusal.Refusal.{Refusal}
 use Rattle.mm_model.specs.declared.refusal.Refusal.TheVariants as refusals
 use Rattle.mm_model.specs.declared.reply.Reply.TheVariants as replies
 use Rattle.mm_model.specs.declared.line.Line.{Line}
-use Rattle.mm_model.specs.SizeClass.{extent_of, object_bytes}
+use Rattle.mm_model.specs.Places.SizeClass.{extent_of, object_bytes}
 use Rattle.mm_model.specs.Value.{Value, integer, words_of}
 use Rattle.mm_model.specs.Object.{Object}
 use Rattle.mm_model.specs.State.{State}
@@ -28,8 +28,8 @@ use Rattle.mm_model.specs.Phase.{is_freed, unless_freed}
 use Rattle.mm_model.specs.Effect.{Effect, with_some, put_effect}
 use Rattle.mm_model.specs.Refusing.{refusal, word_at, no_cell, means_nothing, has_no_slot, refuses_in_slot}
 use Rattle.mm_model.specs.Step.{IsCarriedOut, IsStepUnless, IsStep}
-use Rattle.mm_model.specs.Turns.{Turn, Born, births_if, births_of, births_in, write_in, write_of, word_after}
-use Rattle.mm_model.specs.Turns.{last_written, was_refused, is_refusal, reply_in}
+use Rattle.mm_model.specs.Logs.Turns.{Turn, Born, births_if, births_of, births_in, write_in, write_of, word_after}
+use Rattle.mm_model.specs.Logs.Turns.{last_written, was_refused, is_refusal, reply_in}
 use Rattle.mm_model.proofs.Lists.Replaced.{map-set}
 use Rattle.mm_model.proofs.Lists.Truth.{together, no_other}
 use Rattle.mm_model.proofs.Good.Allowed.{all_allowed, found_some, word_at-value}

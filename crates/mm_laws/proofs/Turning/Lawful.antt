@@ -5,13 +5,13 @@ use Rattle.mm_model.specs.declared.command.Command.TheVariants as commands
 use Rattle.mm_model.specs.declared.refusal.Refusal.{Refusal}
 use Rattle.mm_model.specs.declared.line.Line.{Line}
 use Rattle.mm_model.specs.State.{State}
-use Rattle.mm_model.specs.Reached.{IsReached}
-use Rattle.mm_model.specs.Marking.{IsMarked}
+use Rattle.mm_model.specs.Sets.Reached.{IsReached}
+use Rattle.mm_model.specs.Sets.Marking.{IsMarked}
 use Rattle.mm_model.specs.Good.{IsGood}
 use Rattle.mm_model.specs.Refusing.{refusal}
 use Rattle.mm_model.specs.Step.{IsStepUnless, IsStep}
-use Rattle.mm_model.specs.Turns.{begins, reply_in}
-use Rattle.mm_model.specs.Faithful.{IsLawful}
+use Rattle.mm_model.specs.Logs.Turns.{begins, reply_in}
+use Rattle.mm_model.specs.Logs.Faithful.{IsLawful}
 use Rattle.mm_model.proofs.Cycle.ContinuedSteps.{step_continues}
 use Rattle.mm_model.proofs.Cycle.Courses.{begin_marks_reached}
 use Rattle.mm_model.proofs.Good.Steps.{step_is_good}

@@ -12,13 +12,13 @@ use Rattle.mm_model.specs.declared.settings.Settings.{Settings}
 use Rattle.mm_model.specs.Object.{Object}
 use Rattle.mm_model.specs.State.{State, Lives}
 use Rattle.mm_model.specs.Meaning.{meant_at}
-use Rattle.mm_model.specs.Course.{IsGone}
+use Rattle.mm_model.specs.Logs.Course.{IsGone}
 use Rattle.mm_model.specs.Effect.{Effect, look_effect}
 use Rattle.mm_model.specs.Refusing.{is_stack_full}
 use Rattle.mm_model.specs.Good.{IsGood}
 use Rattle.mm_model.specs.Step.{IsStepUnless, IsStep}
-use Rattle.mm_model.specs.Turns.{Turn, Born, reply_in}
-use Rattle.mm_model.specs.Faithful.{LooksAt, AnswersLook, FollowsTargets}
+use Rattle.mm_model.specs.Logs.Turns.{Turn, Born, reply_in}
+use Rattle.mm_model.specs.Logs.Faithful.{LooksAt, AnswersLook, FollowsTargets}
 use Rattle.mm_model.proofs.Good.Meanings.{is_meant}
 use Rattle.mm_model.proofs.Lists.Truth.{no_other}
 use Rattle.mm_model.specs.WeakReferences.{IsMadeFor}

@@ -25,8 +25,8 @@ use Rattle.mm_model.specs.Effect.{new_effect, area_effect, pushes_object, plain_
 use Rattle.mm_model.specs.Refusing.{tests_of, first_refusal, refusal_row, refusal, no_cell, means_nothing, has_no_slot}
 use Rattle.mm_model.specs.Refusing.{is_outside, means_weak, is_stack_full}
 use Rattle.mm_model.specs.Step.{MakesWeak, Carries, IsCarriedOut, IsStepUnless, IsStep}
-use Rattle.mm_model.specs.Log.{IsRun}
-use Rattle.mm_model.specs.Turns.{is_group, reply_in}
+use Rattle.mm_model.specs.Logs.Log.{IsRun}
+use Rattle.mm_model.specs.Logs.Turns.{is_group, reply_in}
 use Rattle.mm_model.proofs.Good.Meanings.{is_meant}
 use Rattle.mm_model.proofs.Good.Allowed.{all_allowed, found_some}
 use Rattle.mm_model.proofs.Good.Steps.{step_is_good}

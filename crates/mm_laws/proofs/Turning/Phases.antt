@@ -16,28 +16,29 @@ use Rattle.mm_model.specs.declared.line.Line.{Line}
 use Rattle.mm_model.specs.declared.line.Line.TheVariants as lines
 use Rattle.mm_model.specs.declared.line.Phase.{Phase}
 use Rattle.mm_model.specs.declared.line.Phase.TheVariants.{Reap, Collect}
-use Rattle.mm_model.specs.SizeClass.{object_bytes, area_bytes}
-use Rattle.mm_model.specs.Place.{Family, Objects, Areas}
+use Rattle.mm_model.specs.Places.SizeClass.{object_bytes, area_bytes}
+use Rattle.mm_model.specs.Places.Place.{Family, Objects, Areas}
 use Rattle.mm_model.specs.Object.{Object}
 use Rattle.mm_model.specs.State.{State}
 use Rattle.mm_model.specs.Count.{zero_count}
 use Rattle.mm_model.specs.Good.{IsGood}
-use Rattle.mm_model.specs.Course.{IsGone}
-use Rattle.mm_model.specs.Reapable.{IsReapable}
-use Rattle.mm_model.specs.Reached.{IsUnreached}
-use Rattle.mm_model.specs.Marking.{IsFreedAtFinish, part_done}
+use Rattle.mm_model.specs.Logs.Course.{IsGone}
+use Rattle.mm_model.specs.Sets.Reapable.{IsReapable}
+use Rattle.mm_model.specs.Sets.Reached.{IsUnreached}
+use Rattle.mm_model.specs.Sets.Marking.{IsFreedAtFinish, part_done}
 use Rattle.mm_model.specs.Phase.{AreBasesOf, lists, is_freed, unless_freed, after_release, phase_lines, reaped}
 use Rattle.mm_model.specs.Phase.{collected}
-use Rattle.mm_model.specs.Search.{Searches, At_once, After_reap, After_collection}
-use Rattle.mm_model.specs.Scan.{AreScanned}
+use Rattle.mm_model.specs.Places.Search.{Searches, At_once, After_reap, After_collection}
+use Rattle.mm_model.specs.Sets.Scan.{AreScanned}
 use Rattle.mm_model.specs.Effect.{Effect, new_effect, weak_effect, area_effect, plain_effect}
 use Rattle.mm_model.specs.Refusing.{refusal}
 use Rattle.mm_model.specs.Step.{Makes, MakesWeak, Carries, is_full, Ends, Refused_as_full, Below_threshold}
 use Rattle.mm_model.specs.Step.{At_threshold, IsStepUnless, IsStep}
 use Rattle.mm_model.specs.After.{freed_bases, phases_in, Row, row_after}
-use Rattle.mm_model.specs.Turns.{Born, Way, Reaping, Collecting, Finishing, PhaseOf, first_of, collection_unless}
-use Rattle.mm_model.specs.Turns.{reap_unless, search_phases, weak_phases, row_phases, end_phases, phases_unless, Frees}
-use Rattle.mm_model.specs.Faithful.{IsFreedIn}
+use Rattle.mm_model.specs.Logs.Turns.{Born, Way, Reaping, Collecting, Finishing, PhaseOf, first_of, collection_unless}
+use Rattle.mm_model.specs.Logs.Turns.{reap_unless, search_phases, weak_phases, row_phases, end_phases, phases_unless}
+use Rattle.mm_model.specs.Logs.Turns.{Frees}
+use Rattle.mm_model.specs.Logs.Faithful.{IsFreedIn}
 use Rattle.mm_model.proofs.Good.Allowed.{first_refusal-None}
 use Rattle.mm_model.proofs.Good.Living.{each_append}
 use Rattle.mm_model.proofs.Good.Phases.{reaped_is_good}

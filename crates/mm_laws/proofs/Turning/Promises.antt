@@ -6,17 +6,18 @@ use Rattle.mm_model.specs.declared.line.Line.{Line}
 use Rattle.mm_model.specs.declared.settings.Settings.{Settings}
 use Rattle.mm_model.specs.Object.{Object}
 use Rattle.mm_model.specs.State.{State, Lives}
-use Rattle.mm_model.specs.Protected.{IsProtected}
-use Rattle.mm_model.specs.Reached.{IsReached, By_root, By_slot}
-use Rattle.mm_model.specs.Marking.{IsMarked}
+use Rattle.mm_model.specs.Sets.Protected.{IsProtected}
+use Rattle.mm_model.specs.Sets.Reached.{IsReached, By_root, By_slot}
+use Rattle.mm_model.specs.Sets.Marking.{IsMarked}
 use Rattle.mm_model.specs.Phase.{AreBasesOf}
-use Rattle.mm_model.specs.Throughout.{IsUnreachable, IsThroughout}
-use Rattle.mm_model.specs.Course.{latest}
+use Rattle.mm_model.specs.Logs.Throughout.{IsUnreachable, IsThroughout}
+use Rattle.mm_model.specs.Logs.Course.{latest}
 use Rattle.mm_model.specs.Good.{IsGood}
 use Rattle.mm_model.specs.Step.{IsStep}
-use Rattle.mm_model.specs.Turns.{Turn, Way, Reaping, Collecting, Finishing, PhaseOf, phases_of, EachPhase, Frees}
-use Rattle.mm_model.specs.Faithful.{TellsLiveObjects, SparesProtected, IsLeft, LeavesReached, FreesUnmarked, EndsCycle}
-use Rattle.mm_model.specs.Faithful.{EndsCycles}
+use Rattle.mm_model.specs.Logs.Turns.{Turn, Way, Reaping, Collecting, Finishing, PhaseOf, phases_of, EachPhase, Frees}
+use Rattle.mm_model.specs.Logs.Faithful.{TellsLiveObjects, SparesProtected, IsLeft, LeavesReached, FreesUnmarked}
+use Rattle.mm_model.specs.Logs.Faithful.{EndsCycle}
+use Rattle.mm_model.specs.Logs.Faithful.{EndsCycles}
 use Rattle.mm_model.proofs.Cycle.Courses.{course_is_good, throughout_is_unmarked}
 use Rattle.mm_model.proofs.Cycle.Marked.{unmarked_iff_neither, unmarked_is_not_reached}
 use Rattle.mm_model.proofs.Decided.Sets.{reached_unless_unreached}

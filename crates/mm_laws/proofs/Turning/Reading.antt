@@ -14,15 +14,15 @@ use Rattle.mm_model.specs.declared.reply.Reply.{Reply}
 use Rattle.mm_model.specs.declared.reply.Reply.TheVariants as replies
 use Rattle.mm_model.specs.declared.line.Line.{Line}
 use Rattle.mm_model.specs.declared.settings.Settings.{Settings}
-use Rattle.mm_model.specs.SizeClass.{extent_of, object_bytes}
+use Rattle.mm_model.specs.Places.SizeClass.{extent_of, object_bytes}
 use Rattle.mm_model.specs.Value.{Value, reference}
 use Rattle.mm_model.specs.Object.{Object, is_scanned, is_weak}
 use Rattle.mm_model.specs.State.{State, Lives, one_more_command}
 use Rattle.mm_model.specs.Words.{slot_kind_at, slot_kind, falls}
 use Rattle.mm_model.specs.Meaning.{resolved, meant, meant_at, object_meant}
-use Rattle.mm_model.specs.Place.{Family, Objects}
+use Rattle.mm_model.specs.Places.Place.{Family, Objects}
 use Rattle.mm_model.specs.Store.{refuses_word, store_reply}
-use Rattle.mm_model.specs.Search.{place_grown, Searches, At_once, After_reap, After_collection}
+use Rattle.mm_model.specs.Places.Search.{place_grown, Searches, At_once, After_reap, After_collection}
 use Rattle.mm_model.specs.Good.{IsPaired, IsGood}
 use Rattle.mm_model.specs.Effect.{Effect, with_some, map_reply, pushes, put_effect, weak_effect, weak_made}
 use Rattle.mm_model.specs.Effect.{pushes_object, plain_effect}
@@ -30,10 +30,12 @@ use Rattle.mm_model.specs.Refusing.{first_refusal, refusal, no_cell, means_nothi
 use Rattle.mm_model.specs.Refusing.{refuses_in_slot, is_stack_full, word_at}
 use Rattle.mm_model.specs.Step.{Makes, MakesWeak, Carries, is_full, Ends, Refused_as_full, Below_threshold}
 use Rattle.mm_model.specs.Step.{At_threshold, IsCarriedOut, IsStepUnless, IsStep}
-use Rattle.mm_model.specs.Turns.{Turn, Born, born_at, births_if, births_of, births_in, made_for, last_written, reply_in}
-use Rattle.mm_model.specs.Faithful.{unless_full, inner_answer, get_answer, map_answer, born_slot_kind, stored_answer}
-use Rattle.mm_model.specs.Faithful.{put_answer, HoldsReference, FindsNoPlace, HasWeak, AnswersWeak, ActsOnOrigin}
-use Rattle.mm_model.specs.Faithful.{ReadsThroughReferences}
+use Rattle.mm_model.specs.Logs.Turns.{Turn, Born, born_at, births_if, births_of, births_in, made_for, last_written}
+use Rattle.mm_model.specs.Logs.Turns.{reply_in}
+use Rattle.mm_model.specs.Logs.Faithful.{unless_full, inner_answer, get_answer, map_answer, born_slot_kind}
+use Rattle.mm_model.specs.Logs.Faithful.{stored_answer}
+use Rattle.mm_model.specs.Logs.Faithful.{put_answer, HoldsReference, FindsNoPlace, HasWeak, AnswersWeak, ActsOnOrigin}
+use Rattle.mm_model.specs.Logs.Faithful.{ReadsThroughReferences}
 use Rattle.mm_model.proofs.Good.Allowed.{word_at-value}
 use Rattle.mm_model.proofs.Good.Living.{each_get, each_append}
 use Rattle.mm_model.specs.WeakReferences.{IsTarget, Partner, Freed, IsMadeFor}
@@ -328,7 +330,8 @@ module _ (settings : Settings) (turns : List Turn) (a : State) (known : Knows se
   made_for-partner : (weak : ℕ) → object.partner ≡ Some weak → is_weak object.kind ≡ false
       → made_for turns weak ≡ Some birth
   made_for-partner weak is strong =
-      let pair = subst (λ p. IfSome p (IsPaired a birth object)) is (known.good.paired birth object referred.1) in
+      let pair = subst (λ p. IfSome p (IsPaired a birth object)) is
+      (known.good.paired birth object referred.1) in
       let old = born_of weak pair.partner pair.lives.is in
       let kind : is_weak old.0.shape.kind ≡ true =
       other_kind (is_weak old.0.shape.kind)
@@ -447,7 +450,8 @@ module _ (settings : Settings) (turns : List Turn) (a : State) (known : Knows se
               → (log : List Line) (effect : Effect) → MakesWeak a target partner log effect
               → effect.reply ≡ replies.Word base → HasWeak turns a birth base
           by_partner (Some weak) is strong target log effect m replied =
-              let pair = subst (λ p. IfSome p (IsPaired a birth object)) is (known.good.paired birth object referred.1) in
+              let pair = subst (λ p. IfSome p (IsPaired a birth object)) is
+              (known.good.paired birth object referred.1) in
               let first : (pushes_object a weak).reply ≡ replies.Word base =
               ap (λ (x : Effect). x.reply) (sym m.effect_is) ∙ replied in
               let told : replies.Word pair.partner.base ≡ replies.Word base =
@@ -483,7 +487,8 @@ module _ (settings : Settings) (turns : List Turn) (a : State) (known : Knows se
               let object_is = m.carries.object_is in
               let meant_is = meant_object in
               let same : m.carries.object ≡ object = cc in
-              let strong = strong-allowed a i m.carries.target m.carries.object r m.carries.target_is m.carries.object_is
+              let strong = strong-allowed a i m.carries.target m.carries.object r m.carries.target_is
+              m.carries.object_is
               in
               let first = sym (reply-carried a (commands.Weak i) group b m) ∙ e in
               let replied : m.effect.reply ≡ replies.Word base = cc in
@@ -508,7 +513,8 @@ module _ (settings : Settings) (turns : List Turn) (a : State) (known : Knows se
 
     this-weak : (weak : ℕ) → object.partner ≡ Some weak → (base : ℕ) × HasWeak turns a birth base
     this-weak weak is =
-        let pair = subst (λ p. IfSome p (IsPaired a birth object)) is (known.good.paired birth object referred.1) in (
+        let pair = subst (λ p. IfSome p (IsPaired a birth object)) is
+        (known.good.paired birth object referred.1) in (
           pair.partner.base,
           record {
             weak = weak;
@@ -524,7 +530,8 @@ module _ (settings : Settings) (turns : List Turn) (a : State) (known : Knows se
     refused-full full none =
         record {
           refused = replied-is ∙ ap (λ (r : Reply). Some r) full;
-          none = ap (λ s. place_grown s Objects (object_bytes 0)) (carried.state_is ∙ ap one_more_command end_is) ∙ none;
+          none = ap (λ s. place_grown s Objects (object_bytes 0)) (carried.state_is ∙ ap one_more_command end_is)
+              ∙ none;
         }
       where
         end_is : carried.end ≡ carried.effect.state

@@ -20,11 +20,11 @@ use Rattle.mm_model.specs.State.{State, Cycle, empty_state}
 use Rattle.mm_model.specs.Meaning.{meant_at}
 use Rattle.mm_model.specs.Good.{IsGood}
 use Rattle.mm_model.specs.Effect.{Effect}
-use Rattle.mm_model.specs.Course.{IsCourse, latest}
+use Rattle.mm_model.specs.Logs.Course.{IsCourse, latest}
 use Rattle.mm_model.specs.Refusing.{refusal, is_bad_shape}
 use Rattle.mm_model.specs.Step.{IsCarriedOut, IsStepUnless, IsStep}
-use Rattle.mm_model.specs.Turns.{Turn, Born, born_at, births_if, births_in, reply_in, was_refused, is_refusal}
-use Rattle.mm_model.specs.Turns.{CycleStates, is_begin, begins, and_then, cycle_after, latest_cycle, AreSteps}
+use Rattle.mm_model.specs.Logs.Turns.{Turn, Born, born_at, births_if, births_in, reply_in, was_refused, is_refusal}
+use Rattle.mm_model.specs.Logs.Turns.{CycleStates, is_begin, begins, and_then, cycle_after, latest_cycle, AreSteps}
 use Rattle.mm_model.proofs.Good.Allowed.{first_refusal-None}
 use Rattle.mm_model.proofs.Good.Starting.{empty_is_good}
 use Rattle.mm_model.proofs.Good.Steps.{shape_allowed, step_is_good}

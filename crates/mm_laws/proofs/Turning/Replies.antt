@@ -8,17 +8,17 @@ use Rattle.mm_model.specs.declared.line.Line.{Line}
 use Rattle.mm_model.specs.declared.line.Line.TheVariants as lines
 use Rattle.mm_model.specs.declared.line.Phase.{Phase}
 use Rattle.mm_model.specs.declared.line.Phase.TheVariants.{Reap, Collect}
-use Rattle.mm_model.specs.Place.{Family}
+use Rattle.mm_model.specs.Places.Place.{Family}
 use Rattle.mm_model.specs.State.{State}
-use Rattle.mm_model.specs.Marking.{part_done}
+use Rattle.mm_model.specs.Sets.Marking.{part_done}
 use Rattle.mm_model.specs.Phase.{phase_lines, reaped}
-use Rattle.mm_model.specs.Search.{Searches, At_once, After_reap, After_collection}
-use Rattle.mm_model.specs.Scan.{AreScanned}
+use Rattle.mm_model.specs.Places.Search.{Searches, At_once, After_reap, After_collection}
+use Rattle.mm_model.specs.Sets.Scan.{AreScanned}
 use Rattle.mm_model.specs.Effect.{Effect}
 use Rattle.mm_model.specs.Refusing.{refusal}
 use Rattle.mm_model.specs.Step.{MakesWeak, Carries, Ends, Refused_as_full, Below_threshold, At_threshold, IsCarriedOut}
 use Rattle.mm_model.specs.Step.{IsStepUnless, IsStep}
-use Rattle.mm_model.specs.Turns.{is_group, reply_in}
+use Rattle.mm_model.specs.Logs.Turns.{is_group, reply_in}
 use Rattle.mm_model.proofs.Steps.Groups.{over-phase}
 
 -- no line is a reply

@@ -15,7 +15,7 @@ use Rattle.mm_model.specs.declared.reply.Reply.TheVariants as replies
 use Rattle.mm_model.specs.declared.line.Line.{Line}
 use Rattle.mm_model.specs.declared.line.Line.TheVariants as lines
 use Rattle.mm_model.specs.declared.settings.Settings.{Settings}
-use Rattle.mm_model.specs.Place.{live_pieces}
+use Rattle.mm_model.specs.Places.Place.{live_pieces}
 use Rattle.mm_model.specs.Value.{reference}
 use Rattle.mm_model.specs.Object.{Object}
 use Rattle.mm_model.specs.State.{State, Area}
@@ -28,8 +28,8 @@ use Rattle.mm_model.specs.Effect.{weak_shape}
 use Rattle.mm_model.specs.Refusing.{refusal}
 use Rattle.mm_model.specs.Step.{MakesWeak, Ends, Refused_as_full, Below_threshold, At_threshold, IsCarriedOut}
 use Rattle.mm_model.specs.Step.{IsStepUnless, IsStep}
-use Rattle.mm_model.specs.Turns.{Turn, Born, births_if, births_of, reply_in}
-use Rattle.mm_model.specs.Faithful.{HasArea, IsThere, KeepsApart}
+use Rattle.mm_model.specs.Logs.Turns.{Turn, Born, births_if, births_of, reply_in}
+use Rattle.mm_model.specs.Logs.Faithful.{HasArea, IsThere, KeepsApart}
 use Rattle.mm_model.proofs.Good.Living.{each_get}
 use Rattle.mm_model.proofs.Good.Steps.{step_is_good}
 use Rattle.mm_model.proofs.Lists.Growing.{get-last}

@@ -10,19 +10,19 @@ use Rattle.mm_model.specs.declared.object.Shape.{Shape}
 use Rattle.mm_model.specs.declared.refusal.Refusal.{Refusal}
 use Rattle.mm_model.specs.declared.refusal.Refusal.TheVariants as refusals
 use Rattle.mm_model.specs.declared.reply.Reply.TheVariants as replies
-use Rattle.mm_model.specs.SizeClass.{object_bytes, area_bytes}
+use Rattle.mm_model.specs.Places.SizeClass.{object_bytes, area_bytes}
 use Rattle.mm_model.specs.Value.{Value, words_of}
 use Rattle.mm_model.specs.Object.{Object, newborn}
 use Rattle.mm_model.specs.State.{State, Area, Lives, one_more_command, with_black_birth}
 use Rattle.mm_model.specs.Words.{slot_kind, cell_kind, area_words, root_words, names, falls}
-use Rattle.mm_model.specs.Reached.{IsReached}
+use Rattle.mm_model.specs.Sets.Reached.{IsReached}
 use Rattle.mm_model.specs.Count.{with_sticky}
 use Rattle.mm_model.specs.Meaning.{meant_at, object_meant}
-use Rattle.mm_model.specs.Marking.{is_raw, is_passed, with_grayed, IsMarked}
-use Rattle.mm_model.specs.Place.{Family, Objects, Areas}
+use Rattle.mm_model.specs.Sets.Marking.{is_raw, is_passed, with_grayed, IsMarked}
+use Rattle.mm_model.specs.Places.Place.{Family, Objects, Areas}
 use Rattle.mm_model.specs.Areas.{area_at, with_changed_area}
 use Rattle.mm_model.specs.Phase.{cycle_left, reaped}
-use Rattle.mm_model.specs.Search.{Searches, At_once, After_reap, After_collection}
+use Rattle.mm_model.specs.Places.Search.{Searches, At_once, After_reap, After_collection}
 use Rattle.mm_model.specs.Store.{is_counted_slot, recounted, with_object, with_slot, with_cell, put_in_slot}
 use Rattle.mm_model.specs.Store.{put_in_cell}
 use Rattle.mm_model.specs.Effect.{Effect, with_some, made_at, weak_shape, weak_made, new_effect, weak_effect}
@@ -31,13 +31,13 @@ use Rattle.mm_model.specs.Refusing.{first_refusal, refusal, is_bad_shape}
 use Rattle.mm_model.specs.Step.{Makes, IsPlain, MakesWeak, Carries, is_full, Ends, Refused_as_full, Below_threshold}
 use Rattle.mm_model.specs.Step.{At_threshold, IsCarriedOut, IsStepUnless, IsStep}
 use Rattle.mm_model.specs.Good.{IsShaped, IsGood}
-use Rattle.mm_model.proofs.Good.Births.{made_is_good}
+use Rattle.mm_model.proofs.Good.Making.Births.{made_is_good}
 use Rattle.mm_model.proofs.Cycle.Continuing.{Continues, marked_before, continues-self, Thins, thins-then}
 use Rattle.mm_model.proofs.Cycle.Continuing.{continues-then, thins-same, thins-reaped, thins-recounted, thins-weak}
 use Rattle.mm_model.proofs.Cycle.Continuing.{good-each_colour, continues-put, continues-born, continues-scanned}
 use Rattle.mm_model.proofs.Cycle.Marked.{stack_named}
-use Rattle.mm_model.proofs.Good.Searching.{searched_is_found}
-use Rattle.mm_model.proofs.Good.Shapes.{shaped-newborn, shaped-weak}
+use Rattle.mm_model.proofs.Good.Making.Searching.{searched_is_found}
+use Rattle.mm_model.proofs.Good.Making.Shapes.{shaped-newborn, shaped-weak}
 use Rattle.mm_model.proofs.Good.Steps.{shape_allowed}
 
 -- the second state goes on from the first, by words that are its roots

@@ -13,17 +13,17 @@ use Rattle.mm_model.specs.Value.{Value, words_of}
 use Rattle.mm_model.specs.Object.{Object, newborn, is_live, is_scanned}
 use Rattle.mm_model.specs.State.{State, Cycle, Lives, with_black_birth}
 use Rattle.mm_model.specs.Words.{SlotKind, slot_kind, root_words, scanned_slots, names, falls}
-use Rattle.mm_model.specs.Reached.{IsReached}
+use Rattle.mm_model.specs.Sets.Reached.{IsReached}
 use Rattle.mm_model.specs.Count.{made_sticky, with_sticky}
 use Rattle.mm_model.specs.Meaning.{stored}
-use Rattle.mm_model.specs.Marking.{is_white, is_raw, is_passed, colour_in, grayed_cycle, with_grayed, part_done}
-use Rattle.mm_model.specs.Marking.{IsMarked}
+use Rattle.mm_model.specs.Sets.Marking.{is_white, is_raw, is_passed, colour_in, grayed_cycle, with_grayed, part_done}
+use Rattle.mm_model.specs.Sets.Marking.{IsMarked}
 use Rattle.mm_model.specs.Phase.{is_freed, unless_freed, after_release, cycle_left, released, reaped}
-use Rattle.mm_model.specs.Scan.{AreScanned}
+use Rattle.mm_model.specs.Sets.Scan.{AreScanned}
 use Rattle.mm_model.specs.Store.{is_counted_slot, recounted, with_object, with_slot, put_in_slot}
 use Rattle.mm_model.specs.Effect.{made_at, weak_shape, weak_made}
 use Rattle.mm_model.specs.Good.{IsColoured, IsGood}
-use Rattle.mm_model.proofs.Good.Births.{IsZero, scanned_zeros}
+use Rattle.mm_model.proofs.Good.Making.Births.{IsZero, scanned_zeros}
 use Rattle.mm_model.proofs.Cycle.Marked.{mark_reached-part}
 use Rattle.mm_model.proofs.Places.Falling.{falls_from, named_word}
 use Rattle.mm_model.proofs.Good.Graying.{not_white-before}
@@ -31,7 +31,7 @@ use Rattle.mm_model.proofs.Lists.Growing.{get-front, get-push, get-last}
 use Rattle.mm_model.proofs.Good.Living.{lives_same, lives_from_page_1}
 use Rattle.mm_model.proofs.Good.Scanning.{part_is_good}
 use Rattle.mm_model.proofs.Lists.Replaced.{get-set_cases}
-use Rattle.mm_model.proofs.Good.Stores.{named-set}
+use Rattle.mm_model.proofs.Good.Writing.Stores.{named-set}
 
 -- two objects that words name alike
 pub record IsAlike (before object : Object) : Type 0 where

@@ -12,13 +12,13 @@ use Rattle.mm_model.specs.declared.refusal.Refusal.TheVariants as refusals
 use Rattle.mm_model.specs.Object.{Object}
 use Rattle.mm_model.specs.State.{State, Lives, one_more_command}
 use Rattle.mm_model.specs.Words.{root_words, names}
-use Rattle.mm_model.specs.Reached.{IsReached}
-use Rattle.mm_model.specs.Throughout.{IsUnreachable, IsThroughout}
-use Rattle.mm_model.specs.Marking.{is_white, begun as begun_state, IsMarked, IsFreedAtFinish}
+use Rattle.mm_model.specs.Sets.Reached.{IsReached}
+use Rattle.mm_model.specs.Logs.Throughout.{IsUnreachable, IsThroughout}
+use Rattle.mm_model.specs.Sets.Marking.{is_white, begun as begun_state, IsMarked, IsFreedAtFinish}
 use Rattle.mm_model.specs.Phase.{lists, is_freed, unless_freed, after_release, collected}
 use Rattle.mm_model.specs.Refusing.{first_refusal, refusal}
 use Rattle.mm_model.specs.Step.{is_full, IsCarriedOut, IsStepUnless, IsStep}
-use Rattle.mm_model.specs.Course.{latest, IsCourse, AreGood, IsGone}
+use Rattle.mm_model.specs.Logs.Course.{latest, IsCourse, AreGood, IsGone}
 use Rattle.mm_model.specs.Good.{IsGood}
 use Rattle.mm_model.proofs.Cycle.Continuing.{names-alike, Thins}
 use Rattle.mm_model.proofs.Cycle.ContinuedSteps.{IsEnd, ends_is_end, step_continues}

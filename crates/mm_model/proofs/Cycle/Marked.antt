@@ -16,9 +16,10 @@ use Rattle.mm_model.specs.Value.{Value, words_of}
 use Rattle.mm_model.specs.Object.{Object}
 use Rattle.mm_model.specs.State.{State, Cycle, Lives, gone_count}
 use Rattle.mm_model.specs.Words.{root_words, scanned_slots, falls, names}
-use Rattle.mm_model.specs.Reached.{IsReached}
-use Rattle.mm_model.specs.Marking.{is_white, colour_of, colour_in, done_of, grayed_cycle, with_grayed, begun, advanced}
-use Rattle.mm_model.specs.Marking.{part_slots, part_done, MayScan, IsKeptAtFinish, IsFreedAtFinish, IsMarked}
+use Rattle.mm_model.specs.Sets.Reached.{IsReached}
+use Rattle.mm_model.specs.Sets.Marking.{is_white, colour_of, colour_in, done_of, grayed_cycle, with_grayed, begun}
+use Rattle.mm_model.specs.Sets.Marking.{advanced}
+use Rattle.mm_model.specs.Sets.Marking.{part_slots, part_done, MayScan, IsKeptAtFinish, IsFreedAtFinish, IsMarked}
 use Rattle.mm_model.specs.Good.{IsColoured, IsGood}
 use Rattle.mm_model.proofs.Lists.Truth.{or_true}
 use Rattle.mm_model.proofs.Good.Graying.{not_white-before, white-before, black-before, names_no_white-grayed}

@@ -8,13 +8,13 @@ use Rattle.mm_model.specs.Object.{Object, is_counted}
 use Rattle.mm_model.specs.State.{State, Lives}
 use Rattle.mm_model.specs.Words.{stack_words, area_words, root_words, counted_cell_words, scanned_slots, word_slots}
 use Rattle.mm_model.specs.Words.{counted_slots, names, holds}
-use Rattle.mm_model.specs.Reached.{IsReached}
-use Rattle.mm_model.specs.Reached as reached
-use Rattle.mm_model.specs.Reapable.{IsReapable, Reapable, only_slots_hold}
-use Rattle.mm_model.specs.Protected.{IsProtected}
-use Rattle.mm_model.specs.Protected as protected
-use Rattle.mm_model.specs.Marking.{IsKeptAtFinish, IsMarked, is_white, is_gray, colour_in}
-use Rattle.mm_model.specs.Marking as marking
+use Rattle.mm_model.specs.Sets.Reached.{IsReached}
+use Rattle.mm_model.specs.Sets.Reached as reached
+use Rattle.mm_model.specs.Sets.Reapable.{IsReapable, Reapable, only_slots_hold}
+use Rattle.mm_model.specs.Sets.Protected.{IsProtected}
+use Rattle.mm_model.specs.Sets.Protected as protected
+use Rattle.mm_model.specs.Sets.Marking.{IsKeptAtFinish, IsMarked, is_white, is_gray, colour_in}
+use Rattle.mm_model.specs.Sets.Marking as marking
 use Rattle.mm_model.proofs.Decided.Members.{Numbered, numbered, living, has_birth, IsMember, each_implied, from_any}
 use Rattle.mm_model.proofs.Decided.Members.{each_from_all, all_from_each, at_live, each_living, in_from_has_birth}
 use Rattle.mm_model.proofs.Decided.Growth.{Joining, joined, is_closed, joined_each, has_birth_if_closed, any_with_birth}

@@ -4,10 +4,10 @@ use Rattle.mm_model.specs.declared.object.Colour.{Colour}
 use Rattle.mm_model.specs.declared.object.Colour.TheVariants.{White, Gray, Black}
 use Rattle.mm_model.specs.State.{State}
 use Rattle.mm_model.specs.Words.{root_words}
-use Rattle.mm_model.specs.Protected.{IsProtected}
-use Rattle.mm_model.specs.Reached.{IsReached, IsUnreached}
-use Rattle.mm_model.specs.Reapable.{IsReapable}
-use Rattle.mm_model.specs.Marking.{colour_in, with_grayed, IsKeptAtFinish, IsFreedAtFinish, IsMarked}
+use Rattle.mm_model.specs.Sets.Protected.{IsProtected}
+use Rattle.mm_model.specs.Sets.Reached.{IsReached, IsUnreached}
+use Rattle.mm_model.specs.Sets.Reapable.{IsReapable}
+use Rattle.mm_model.specs.Sets.Marking.{colour_in, with_grayed, IsKeptAtFinish, IsFreedAtFinish, IsMarked}
 use Rattle.mm_model.proofs.Decided.Members.{Numbered, has_birth}
 use Rattle.mm_model.proofs.Decided.Growth.{joined_is_closed}
 use Rattle.mm_model.proofs.Decided.Closures.{joins_reached, joins_kept, joins_marked, joins_protected, joins_reapable}

@@ -8,7 +8,7 @@ use Rattle.mm_model.specs.declared.line.Line.TheVariants as lines
 use Rattle.mm_model.specs.declared.settings.Settings.{Settings}
 use Rattle.mm_model.specs.State.{State, empty_state}
 use Rattle.mm_model.specs.After.{after}
-use Rattle.mm_model.specs.Turns.{Turn, is_group, AreJoined, AreTurns}
+use Rattle.mm_model.specs.Logs.Turns.{Turn, is_group, AreJoined, AreTurns}
 
 -- two groups in front of the same lines are one
 pub group-same : (group other rest more : List Line) → is_group group ≡ true → is_group other ≡ true

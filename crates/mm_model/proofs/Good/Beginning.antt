@@ -6,10 +6,10 @@ use Rattle.mm_model.specs.declared.object.Colour.{Colour}
 use Rattle.mm_model.specs.declared.object.Colour.TheVariants.{White, Black}
 use Rattle.mm_model.specs.State.{State, Cycle, gone_count}
 use Rattle.mm_model.specs.Words.{root_words}
-use Rattle.mm_model.specs.Marking.{grayed, begun}
+use Rattle.mm_model.specs.Sets.Marking.{grayed, begun}
 use Rattle.mm_model.specs.Good.{IsColoured, IsGood}
 use Rattle.mm_model.proofs.Good.Around.{good-around}
-use Rattle.mm_model.proofs.Good.Shading.{length-grayed, colour-grayed, shade-black}
+use Rattle.mm_model.proofs.Good.Writing.Shading.{length-grayed, colour-grayed, shade-black}
 
 pub all_white : (count birth : ℕ) → slice_index_or (replicate count White) birth White ≡ White
 all_white zero birth = refl

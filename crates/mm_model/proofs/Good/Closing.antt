@@ -16,7 +16,7 @@ use Rattle.mm_model.specs.Words.{if_scanned, counted_slots, counted_cells, scann
 use Rattle.mm_model.specs.Words.{area_words, counted_cell_words, names, holds, falls}
 use Rattle.mm_model.specs.Meaning.{keeps, kept_origin, stored}
 use Rattle.mm_model.specs.Count.{begins_counted, names_counted}
-use Rattle.mm_model.specs.Place.{live_pieces}
+use Rattle.mm_model.specs.Places.Place.{live_pieces}
 use Rattle.mm_model.specs.Phase.{lists, AreBasesOf}
 use Rattle.mm_model.specs.Good.{IsPlaced, IsReferring, is_tight, IsGood}
 use Rattle.mm_model.proofs.Places.Falling.{falls_from, falls_at_base}

@@ -6,11 +6,12 @@ use Rattle.mm_model.specs.declared.object.Colour.TheVariants.{White, Gray, Black
 use Rattle.mm_model.specs.Object.{Object, is_live}
 use Rattle.mm_model.specs.State.{State, Cycle, Lives}
 use Rattle.mm_model.specs.Words.{scanned_slots, names}
-use Rattle.mm_model.specs.Marking.{is_white, colour_of, grayed_cycle}
+use Rattle.mm_model.specs.Sets.Marking.{is_white, colour_of, grayed_cycle}
 use Rattle.mm_model.specs.Good.{NamesNoWhite, IsPartlyScanned, IsColoured}
 use Rattle.mm_model.proofs.Good.Around.{if_some-weaker}
-use Rattle.mm_model.proofs.Good.Shading.{length-grayed, shade, colour-grayed, shade-white, shade-black, shade-gray}
-use Rattle.mm_model.proofs.Good.Shading.{shade-named}
+use Rattle.mm_model.proofs.Good.Writing.Shading.{length-grayed, shade, colour-grayed, shade-white, shade-black}
+use Rattle.mm_model.proofs.Good.Writing.Shading.{shade-gray}
+use Rattle.mm_model.proofs.Good.Writing.Shading.{shade-named}
 
 -- what isn't white then wasn't white before, or a word names it
 pub shade-not_white : (words : List ℕ) (o : Object) (c : Colour) → not (is_white (shade words o c)) ≡ true

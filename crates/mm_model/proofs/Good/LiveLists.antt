@@ -8,7 +8,7 @@ use Rattle.std.specs.List.{list_any, find, count_by, AllByRecursion, IsDistinct}
 use Rattle.mm_model.specs.Object.{Object, is_live, live_objects}
 use Rattle.mm_model.specs.State.{State, Lives, lives_at}
 use Rattle.mm_model.specs.After.{birth_at}
-use Rattle.mm_model.specs.Place.{Piece, object_piece, area_piece, live_pieces}
+use Rattle.mm_model.specs.Places.Place.{Piece, object_piece, area_piece, live_pieces}
 use Rattle.mm_model.specs.Good.{IsInside, AreApart, AreAllApart, IsPlaced}
 use Rattle.mm_model.proofs.Lists.Growing.{find-only, position_from-get}
 use Rattle.mm_model.proofs.Lists.Keyed.{IsKeyed, refuted}

@@ -5,7 +5,7 @@ use Rattle.std.specs.Prelude.{slice_get, ◌&&◌}
 use Rattle.std.specs.List.{AllByRecursion}
 use Rattle.mm_model.specs.Object.{Object, is_live, live_objects}
 use Rattle.mm_model.specs.State.{State, Lives}
-use Rattle.mm_model.specs.Place.{Piece, object_piece, area_piece, live_pieces}
+use Rattle.mm_model.specs.Places.Place.{Piece, object_piece, area_piece, live_pieces}
 use Rattle.mm_model.specs.Good.{IsCell, IsPages, IsInside, AreApart, AreAllApart, IsPlaced}
 use Rattle.mm_model.proofs.Places.Placing.{both}
 use Rattle.mm_model.proofs.Places.SizeClasses.{class_bounds}

@@ -7,7 +7,7 @@ use Rattle.mm_model.specs.Object.{Object}
 use Rattle.mm_model.specs.State.{State, Lives}
 use Rattle.mm_model.specs.Words.{falls}
 use Rattle.mm_model.specs.Meaning.{falls_in, resolved, meant, meant_at, object_meant}
-use Rattle.mm_model.specs.Place.{live_pieces}
+use Rattle.mm_model.specs.Places.Place.{live_pieces}
 use Rattle.mm_model.specs.Good.{IsPlaced, IsReferring, IsGood}
 use Rattle.mm_model.proofs.Lists.Growing.{position_from-get, position_from-Some}
 use Rattle.mm_model.proofs.Lists.Truth.{together}

@@ -12,7 +12,7 @@ use Rattle.mm_model.specs.Object.{Object, newborn}
 use Rattle.mm_model.specs.State.{State, Area}
 use Rattle.mm_model.specs.Words.{SlotKind, slot_kind, cell_kind}
 use Rattle.mm_model.specs.Count.{made_sticky, with_sticky}
-use Rattle.mm_model.specs.Marking.{is_raw, is_passed, with_grayed, barrier}
+use Rattle.mm_model.specs.Sets.Marking.{is_raw, is_passed, with_grayed, barrier}
 use Rattle.mm_model.specs.Store.{is_counted_slot, recounted, with_object, with_slot, with_cell, put_in_slot}
 use Rattle.mm_model.specs.Store.{put_in_cell}
 use Rattle.mm_model.specs.Meaning.{meant_at, object_meant}

@@ -11,15 +11,15 @@ use Rattle.mm_model.specs.Words.{slot_kind, cell_kind, scanned_slots, counted_ce
 use Rattle.mm_model.specs.Count.{refs}
 use Rattle.mm_model.specs.Areas.{most_areas, without_area}
 use Rattle.mm_model.specs.Phase.{IsAscending}
-use Rattle.mm_model.specs.Place.{Piece, object_piece, area_piece, live_pieces}
+use Rattle.mm_model.specs.Places.Place.{Piece, object_piece, area_piece, live_pieces}
 use Rattle.mm_model.specs.Good.{IsInside, AreApart, AreAllApart, IsPlaced, IsStored, is_tight, IsPaired, NamesNoWhite}
 use Rattle.mm_model.specs.Good.{IsPartlyScanned, IsColoured, IsAreaShaped, AreNumbered, IsGood}
 use Rattle.mm_model.proofs.Good.Around.{if_some-weaker}
-use Rattle.mm_model.proofs.Good.CountedWords.{count_in, get-filter, each_counted_slot, each_counted_cell}
-use Rattle.mm_model.proofs.Good.CountedWords.{each_counted_word, refs-sum}
+use Rattle.mm_model.proofs.Good.Writing.CountedWords.{count_in, get-filter, each_counted_slot, each_counted_cell}
+use Rattle.mm_model.proofs.Good.Writing.CountedWords.{each_counted_word, refs-sum}
 use Rattle.mm_model.proofs.Good.Living.{each_before, each_after, each_append}
 use Rattle.mm_model.proofs.Good.References.{Keeps, is_stored-kept, each_referring-kept}
-use Rattle.mm_model.proofs.Good.Sticking.{IsSound, AreFew, sound_is_good}
+use Rattle.mm_model.proofs.Good.Writing.Sticking.{IsSound, AreFew, sound_is_good}
 
 abbrev pub numbers : List Area → List ℕ
 numbers areas = map (λ area. area.number) areas

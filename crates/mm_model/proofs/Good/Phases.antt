@@ -8,10 +8,10 @@ use Rattle.mm_model.specs.Object.{Object, is_counted}
 use Rattle.mm_model.specs.State.{State, Cycle, Lives}
 use Rattle.mm_model.specs.Words.{stack_words, area_words, root_words, counted_cell_words, counted_slots, scanned_slots}
 use Rattle.mm_model.specs.Words.{names, holds}
-use Rattle.mm_model.specs.Reached.{By_root, By_slot, IsUnreached}
-use Rattle.mm_model.specs.Reapable.{IsReapable, Reapable}
-use Rattle.mm_model.specs.Marking.{colour_of, colour_in, grayed_cycle, with_grayed, IsKeptAtFinish, Already}
-use Rattle.mm_model.specs.Marking.{By_slot as Marked_by_slot, IsFreedAtFinish}
+use Rattle.mm_model.specs.Sets.Reached.{By_root, By_slot, IsUnreached}
+use Rattle.mm_model.specs.Sets.Reapable.{IsReapable, Reapable}
+use Rattle.mm_model.specs.Sets.Marking.{colour_of, colour_in, grayed_cycle, with_grayed, IsKeptAtFinish, Already}
+use Rattle.mm_model.specs.Sets.Marking.{By_slot as Marked_by_slot, IsFreedAtFinish}
 use Rattle.mm_model.specs.Phase.{lists, released, reaped, collected, AreBasesOf, AreReaped, AreCollected, AreFinished}
 use Rattle.mm_model.specs.Good.{IsColoured, IsGood}
 use Rattle.mm_model.proofs.Good.Around.{good-around}
@@ -21,7 +21,7 @@ use Rattle.mm_model.proofs.Good.Living.{lives_same}
 use Rattle.mm_model.proofs.Lists.Passing.{any-front, any-back}
 use Rattle.mm_model.proofs.Places.Placing.{both}
 use Rattle.mm_model.proofs.Good.Releases.{released_is_good}
-use Rattle.mm_model.proofs.Good.Shading.{colour-grayed, shade, shade-white, shade-black, shade-named}
+use Rattle.mm_model.proofs.Good.Writing.Shading.{colour-grayed, shade, shade-white, shade-black, shade-named}
 
 -- what isn't in the set isn't listed
 unlisted : (a : State) (good : IsGood a) (Dead : ℕ → Type 0) (bases : List ℕ) → AreBasesOf a Dead bases → (birth : ℕ)

@@ -18,10 +18,10 @@ use Rattle.mm_model.specs.Refusing.{refusal, no_cell, no_area, means_nothing, ha
 use Rattle.mm_model.specs.Refusing.{has_no_area_cell, refuses_in_cell, word_at}
 use Rattle.mm_model.specs.Effect.{Effect, pushes, with_some, look_effect, put_effect, area_put_effect, plain_effect}
 use Rattle.mm_model.specs.Good.{IsReferring, IsPaired, IsGood}
-use Rattle.mm_model.proofs.Good.AreaStores.{area_stands, area_put_is_good}
+use Rattle.mm_model.proofs.Good.Writing.AreaStores.{area_stands, area_put_is_good}
 use Rattle.mm_model.proofs.Good.Around.{good-stack}
 use Rattle.mm_model.proofs.Good.Beginning.{begun_is_good}
-use Rattle.mm_model.proofs.Good.CountedStores.{any_put_is_good}
+use Rattle.mm_model.proofs.Good.Writing.CountedStores.{any_put_is_good}
 use Rattle.mm_model.proofs.Places.Falling.{falls_at_base}
 use Rattle.mm_model.proofs.Good.Living.{lives_extent}
 use Rattle.mm_model.proofs.Good.OtherAreas.{dropped_is_good}

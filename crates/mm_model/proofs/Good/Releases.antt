@@ -15,7 +15,7 @@ use Rattle.mm_model.specs.Words.{SlotKind, slot_kind, cell_kind, counted_slots, 
 use Rattle.mm_model.specs.Words.{counted_words, names, falls}
 use Rattle.mm_model.specs.Meaning.{keeps, kept_origin, stored}
 use Rattle.mm_model.specs.Count.{refs, begins_counted, names_counted}
-use Rattle.mm_model.specs.Place.{object_piece, area_piece, live_pieces}
+use Rattle.mm_model.specs.Places.Place.{object_piece, area_piece, live_pieces}
 use Rattle.mm_model.specs.Phase.{lists, is_freed, is_freed_birth, unless_freed, after_release, partly_scanned_left}
 use Rattle.mm_model.specs.Phase.{cycle_left, released}
 use Rattle.mm_model.specs.Good.{IsPlaced, IsReferring, IsStored, IsReferred, is_tight, IsPaired, NamesNoWhite}
@@ -24,7 +24,7 @@ use Rattle.mm_model.proofs.Lists.Growing.{any_get, any_from_get}
 use Rattle.mm_model.proofs.Good.Living.{each_after, each_before, each_append}
 use Rattle.mm_model.proofs.Lists.Parts.{each-part, all_apart-part, part-behind, each_of-live, each_live-of}
 use Rattle.mm_model.proofs.Lists.Parts.{map_live-part, count_live-part}
-use Rattle.mm_model.proofs.Good.Shapes.{shaped-alike}
+use Rattle.mm_model.proofs.Good.Making.Shapes.{shaped-alike}
 use Rattle.mm_model.proofs.Places.Placing.{both}
 
 -- the object with a birth number is none of those that are freed

@@ -15,9 +15,9 @@ use Rattle.mm_model.specs.declared.object.Colour.TheVariants.{White, Gray, Black
 use Rattle.mm_model.specs.Object.{Object}
 use Rattle.mm_model.specs.State.{State, Cycle, PartlyScanned, Lives}
 use Rattle.mm_model.specs.Words.{scanned_slots, names, falls}
-use Rattle.mm_model.specs.Marking.{MayScan, colour_of, colour_in, done_in, done_of, may_continue, advanced}
-use Rattle.mm_model.specs.Marking.{grayed_cycle, part_done}
-use Rattle.mm_model.specs.Scan.{AreScanned}
+use Rattle.mm_model.specs.Sets.Marking.{MayScan, colour_of, colour_in, done_in, done_of, may_continue, advanced}
+use Rattle.mm_model.specs.Sets.Marking.{grayed_cycle, part_done}
+use Rattle.mm_model.specs.Sets.Scan.{AreScanned}
 use Rattle.mm_model.specs.Good.{NamesNoWhite, IsPartlyScanned, IsColoured, IsGood}
 use Rattle.mm_model.proofs.Good.Around.{good-around}
 use Rattle.mm_model.proofs.Good.Graying.{gray-after, names_no_white-grayed, names_no_white-after, grayed_is_coloured}

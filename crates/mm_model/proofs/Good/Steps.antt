@@ -11,8 +11,8 @@ use Rattle.mm_model.specs.declared.refusal.Refusal.TheVariants as refusals
 use Rattle.mm_model.specs.declared.line.Line.{Line}
 use Rattle.mm_model.specs.declared.reply.Reply.TheVariants as replies
 use Rattle.mm_model.specs.Value.{Value, reference}
-use Rattle.mm_model.specs.SizeClass.{object_bytes, area_bytes}
-use Rattle.mm_model.specs.Place.{Family, Objects, Areas}
+use Rattle.mm_model.specs.Places.SizeClass.{object_bytes, area_bytes}
+use Rattle.mm_model.specs.Places.Place.{Family, Objects, Areas}
 use Rattle.mm_model.specs.Object.{Object, is_weak}
 use Rattle.mm_model.specs.State.{State, Lives, one_more_command}
 use Rattle.mm_model.specs.Words.{stack_words, names, falls}
@@ -23,20 +23,20 @@ use Rattle.mm_model.specs.Effect.{Effect, with_some, new_effect, weak_effect, ar
 use Rattle.mm_model.specs.Effect.{plain_effect}
 use Rattle.mm_model.specs.Step.{IsPlain, Makes, MakesWeak, MakesWeakOf, Reaps, Collects, Finishes, Carries, Ends}
 use Rattle.mm_model.specs.Step.{Refused_as_full, Below_threshold, At_threshold, is_full, IsStepUnless, IsStep}
-use Rattle.mm_model.specs.Log.{IsRun}
+use Rattle.mm_model.specs.Logs.Log.{IsRun}
 use Rattle.mm_model.specs.Good.{IsPaired, IsGood}
 use Rattle.mm_model.proofs.Good.Around.{carried_out_is_good}
-use Rattle.mm_model.proofs.Good.AreaBirths.{area_made_is_good}
-use Rattle.mm_model.proofs.Good.Births.{made_is_good}
+use Rattle.mm_model.proofs.Good.Making.AreaBirths.{area_made_is_good}
+use Rattle.mm_model.proofs.Good.Making.Births.{made_is_good}
 use Rattle.mm_model.proofs.Lists.Growing.{any_from_get}
 use Rattle.mm_model.proofs.Good.Phases.{reaped_is_good, collected_is_good, finished_is_good}
 use Rattle.mm_model.proofs.Good.PlainGood.{plain_is_good}
 use Rattle.mm_model.proofs.Good.Meanings.{IsMeant, is_meant}
 use Rattle.mm_model.proofs.Good.Scanning.{scanned_is_good}
-use Rattle.mm_model.proofs.Good.Shapes.{shaped-newborn, shaped-area}
-use Rattle.mm_model.proofs.Good.Searching.{IsFound, searched_is_found}
+use Rattle.mm_model.proofs.Good.Making.Shapes.{shaped-newborn, shaped-area}
+use Rattle.mm_model.proofs.Good.Making.Searching.{IsFound, searched_is_found}
 use Rattle.mm_model.proofs.Good.Allowed.{first_refusal-None, all_allowed, cycle_runs}
-use Rattle.mm_model.proofs.Good.WeakReferences.{weak_made_is_good, kept_weak_is_good}
+use Rattle.mm_model.proofs.Good.Making.WeakReferences.{weak_made_is_good, kept_weak_is_good}
 
 -- `new` isn't refused
 pub shape_allowed : (a : State) (shape : Shape) → refusal a (commands.New shape) ≡ None → is_bad_shape shape ≡ false

@@ -5,7 +5,7 @@ use Rattle.std.proofs.lemmas.List.Sums.{sum_by-append}
 use Rattle.std.specs.Prelude.{slice_get}
 use Rattle.std.specs.List.{flat_map, count_by, AllByRecursion}
 use Rattle.mm_model.specs.Object.{Object, is_live, live_objects}
-use Rattle.mm_model.specs.Place.{Piece}
+use Rattle.mm_model.specs.Places.Place.{Piece}
 use Rattle.mm_model.specs.Good.{AreApart, AreAllApart}
 use Rattle.mm_model.proofs.Good.Living.{each_before, each_after, each_append}
 

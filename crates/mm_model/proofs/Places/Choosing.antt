@@ -10,16 +10,18 @@ use Rattle.std.specs.List.{list_any, AllByRecursion, Contains}
 use Rattle.std.specs.Option.{option_map}
 use Rattle.mm_model.specs.declared.object.Size.{Size}
 use Rattle.mm_model.specs.declared.object.Size.TheVariants.{Small, Pages}
-use Rattle.mm_model.specs.SizeClass.{class_sizes, class_index, size_of, extent_of_size, extent_of}
+use Rattle.mm_model.specs.Places.SizeClass.{class_sizes, class_index, size_of, extent_of_size, extent_of}
 use Rattle.mm_model.specs.State.{State}
-use Rattle.mm_model.specs.Place.{Family, Piece, overlaps, live_pieces, first_from, is_vacant, is_page_of, free_cell}
-use Rattle.mm_model.specs.Place.{has_room, cell_place, place_among, place_of}
+use Rattle.mm_model.specs.Places.Place.{Family, Piece, overlaps, live_pieces, first_from, is_vacant, is_page_of}
+use Rattle.mm_model.specs.Places.Place.{free_cell}
+use Rattle.mm_model.specs.Places.Place.{has_room, cell_place, place_among, place_of}
 use Rattle.mm_model.specs.Good.{AreApart, IsPlaced}
 use Rattle.mm_model.proofs.Lists.Tests.{first_from-Some, first_from-None}
 use Rattle.mm_model.proofs.Places.SizeClasses.{class_bounds, class_of_small, class_fits}
 use Rattle.mm_model.proofs.Places.Placing.{mapped, both, IsSize, place_goes}
-use Rattle.mm_model.specs.Lowest.{piece_of, IsFreeFor, IsRun, IsFreeCell, IsNowhere, IsLowest, IsLowestOf, IsPreferred}
-use Rattle.mm_model.specs.Lowest.{Of_first, Of_second}
+use Rattle.mm_model.specs.Places.Lowest.{piece_of, IsFreeFor, IsRun, IsFreeCell, IsNowhere, IsLowest, IsLowestOf}
+use Rattle.mm_model.specs.Places.Lowest.{IsPreferred}
+use Rattle.mm_model.specs.Places.Lowest.{Of_first, Of_second}
 use Rattle.mm_model.proofs.Lists.Truth.{together, not-false, no_other}
 
 -- nothing was found through a function

@@ -4,7 +4,7 @@ use Rattle.std.proofs.Common.{arith}
 use Rattle.std.proofs.lemmas.Bool.Decides.{nat_tests}
 use Rattle.std.specs.Prelude.{nat_lt}
 use Rattle.std.specs.List.{list_any, fold}
-use Rattle.mm_model.specs.Place.{Piece, page_end}
+use Rattle.mm_model.specs.Places.Place.{Piece, page_end}
 use Rattle.mm_model.proofs.Lists.Tests.{same_tests}
 use Rattle.mm_model.proofs.Places.SeenAlike.{AreSeenAlike}
 

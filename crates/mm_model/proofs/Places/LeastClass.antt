@@ -5,7 +5,7 @@ use Rattle.std.proofs.lemmas.Bool.Decides.{nat_tests}
 use Rattle.std.proofs.lemmas.List.Elements.{All-from_recursion}
 use Rattle.std.specs.Prelude.{◌&&◌, nat_lt, nat_le}
 use Rattle.std.specs.List.{AllByRecursion, Contains, prefix_len, position_or_len}
-use Rattle.mm_model.specs.SizeClass.{class_sizes, class_index, extent_of, extent_of_size}
+use Rattle.mm_model.specs.Places.SizeClass.{class_sizes, class_index, extent_of, extent_of_size}
 use Rattle.mm_model.proofs.Places.Placing.{both, each_weaker}
 use Rattle.mm_model.proofs.Places.Choosing.{size_of-small, size_of-large}
 

@@ -9,9 +9,9 @@ use Rattle.std.specs.List.{list_any, AllByRecursion, Contains}
 use Rattle.std.specs.Option.{option_map}
 use Rattle.mm_model.specs.declared.object.Size.{Size}
 use Rattle.mm_model.specs.declared.object.Size.TheVariants.{Small, Pages}
-use Rattle.mm_model.specs.SizeClass.{class_sizes, extent_of_size}
-use Rattle.mm_model.specs.Place.{Family, Objects, Areas, same_family, Piece, overlaps, first_from, is_vacant}
-use Rattle.mm_model.specs.Place.{is_page_of, free_cell, has_room, fresh_page, cell_place, place_among}
+use Rattle.mm_model.specs.Places.SizeClass.{class_sizes, extent_of_size}
+use Rattle.mm_model.specs.Places.Place.{Family, Objects, Areas, same_family, Piece, overlaps, first_from, is_vacant}
+use Rattle.mm_model.specs.Places.Place.{is_page_of, free_cell, has_room, fresh_page, cell_place, place_among}
 use Rattle.mm_model.specs.Good.{IsInside, AreApart, AreAllApart}
 use Rattle.mm_model.proofs.Lists.Truth.{no_other}
 use Rattle.mm_model.proofs.Lists.Tests.{first_from-Some, none_passes}

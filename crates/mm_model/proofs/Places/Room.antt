@@ -4,7 +4,7 @@ use Rattle.std.proofs.Common.{length, sym, ◌∙◌, ⊎_elim, arith}
 use Rattle.std.proofs.lemmas.List.{length-map}
 use Rattle.std.proofs.lemmas.Map.Steps.{length-le_from_distinct_below}
 use Rattle.std.specs.List.{list_any, AllByRecursion, IsDistinct}
-use Rattle.mm_model.specs.Place.{Piece}
+use Rattle.mm_model.specs.Places.Place.{Piece}
 use Rattle.mm_model.specs.Good.{IsCell, IsPages, IsInside, AreApart, AreAllApart, IsPlaced}
 use Rattle.mm_model.proofs.Lists.Keyed.{refuted}
 use Rattle.mm_model.proofs.Places.Placing.{some_with}

@@ -6,9 +6,10 @@ use Rattle.std.specs.List.{list_any}
 use Rattle.std.specs.Option.{option_map}
 use Rattle.mm_model.specs.declared.object.Size.{Size}
 use Rattle.mm_model.specs.declared.object.Size.TheVariants.{Small, Pages}
-use Rattle.mm_model.specs.SizeClass.{extent_of_size}
-use Rattle.mm_model.specs.Place.{Family, Piece, first_from, is_vacant, is_page_of, free_cell, has_room, fresh_page}
-use Rattle.mm_model.specs.Place.{cell_place, place_among}
+use Rattle.mm_model.specs.Places.SizeClass.{extent_of_size}
+use Rattle.mm_model.specs.Places.Place.{Family, Piece, first_from, is_vacant, is_page_of, free_cell, has_room}
+use Rattle.mm_model.specs.Places.Place.{fresh_page}
+use Rattle.mm_model.specs.Places.Place.{cell_place, place_among}
 
 abbrev pub AreSeenAlike : List Piece → List Piece → Type 0
 AreSeenAlike ps qs = (test : Piece → Bool) → list_any test ps ≡ list_any test qs

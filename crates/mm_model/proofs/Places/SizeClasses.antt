@@ -6,7 +6,7 @@ use Rattle.std.proofs.lemmas.List.Elements.{All-contains, All-from_recursion, Co
 use Rattle.std.proofs.lemmas.List.Sums.{passes_at_first}
 use Rattle.std.specs.Prelude.{slice_index, nat_le}
 use Rattle.std.specs.List.{Contains, AllByRecursion, prefix_len}
-use Rattle.mm_model.specs.SizeClass.{class_sizes, class_index}
+use Rattle.mm_model.specs.Places.SizeClass.{class_sizes, class_index}
 
 -- what holds of the cells of each class
 pub record IsCellSize (extent : ℕ) : Type 0 where

@@ -12,17 +12,17 @@ use Rattle.mm_model.specs.declared.reply.Reply.TheVariants as replies
 use Rattle.mm_model.specs.declared.line.Line.{Line}
 use Rattle.mm_model.specs.declared.line.Line.TheVariants as lines
 use Rattle.mm_model.specs.declared.line.Phase.TheVariants.{Reap, Collect}
-use Rattle.mm_model.specs.SizeClass.{object_bytes, area_bytes}
-use Rattle.mm_model.specs.Place.{Family, Objects, Areas, live_pieces}
+use Rattle.mm_model.specs.Places.SizeClass.{object_bytes, area_bytes}
+use Rattle.mm_model.specs.Places.Place.{Family, Objects, Areas, live_pieces}
 use Rattle.mm_model.specs.Object.{Object}
 use Rattle.mm_model.specs.State.{State, one_more_command}
 use Rattle.mm_model.specs.Count.{zero_count}
 use Rattle.mm_model.specs.Good.{IsGood, IsPlaced}
 use Rattle.mm_model.specs.Meaning.{object_meant}
-use Rattle.mm_model.specs.Marking.{part_done}
+use Rattle.mm_model.specs.Sets.Marking.{part_done}
 use Rattle.mm_model.specs.Phase.{phase_lines, reaped, collected}
-use Rattle.mm_model.specs.Search.{place_now, place_grown, Searches, At_once, After_reap, After_collection}
-use Rattle.mm_model.specs.Scan.{AreScanned}
+use Rattle.mm_model.specs.Places.Search.{place_now, place_grown, Searches, At_once, After_reap, After_collection}
+use Rattle.mm_model.specs.Sets.Scan.{AreScanned}
 use Rattle.mm_model.specs.Effect.{Effect, done, new_effect, weak_effect, area_effect, pushes_object, plain_effect}
 use Rattle.mm_model.specs.Refusing.{refusal}
 use Rattle.mm_model.specs.Step.{Makes, IsPlain, MakesWeak, Carries, is_full, Ends, Refused_as_full, Below_threshold}

@@ -11,15 +11,15 @@ use Rattle.mm_model.specs.declared.reply.Reply.TheVariants as replies
 use Rattle.mm_model.specs.declared.line.Line.{Line}
 use Rattle.mm_model.specs.declared.line.Line.TheVariants as lines
 use Rattle.mm_model.specs.declared.line.Phase.TheVariants.{Reap, Collect}
-use Rattle.mm_model.specs.SizeClass.{object_bytes, area_bytes}
-use Rattle.mm_model.specs.Place.{Family, Objects, Areas}
+use Rattle.mm_model.specs.Places.SizeClass.{object_bytes, area_bytes}
+use Rattle.mm_model.specs.Places.Place.{Family, Objects, Areas}
 use Rattle.mm_model.specs.State.{State, one_more_command}
 use Rattle.mm_model.specs.Count.{zero_count}
-use Rattle.mm_model.specs.Reached.{IsReached, IsUnreached}
-use Rattle.mm_model.specs.Reapable.{IsReapable}
-use Rattle.mm_model.specs.Marking.{IsFreedAtFinish}
+use Rattle.mm_model.specs.Sets.Reached.{IsReached, IsUnreached}
+use Rattle.mm_model.specs.Sets.Reapable.{IsReapable}
+use Rattle.mm_model.specs.Sets.Marking.{IsFreedAtFinish}
 use Rattle.mm_model.specs.Phase.{phase_lines, reaped, collected, AreReaped, AreCollected}
-use Rattle.mm_model.specs.Search.{place_now, place_grown, Searches, At_once, After_reap, After_collection}
+use Rattle.mm_model.specs.Places.Search.{place_now, place_grown, Searches, At_once, After_reap, After_collection}
 use Rattle.mm_model.specs.Effect.{Effect, new_effect, weak_effect, area_effect, pushes_object, plain_effect, done}
 use Rattle.mm_model.specs.Refusing.{refusal, no_cell, means_nothing, means_weak, is_stack_full}
 use Rattle.mm_model.specs.Step.{IsPlain, Makes, MakesWeak, Reaps, Collects, Finishes, Carries, Ends, Refused_as_full}

@@ -11,9 +11,10 @@ use Rattle.mm_model.specs.declared.object.Colour.{Colour}
 use Rattle.mm_model.specs.declared.object.Colour.TheVariants.{White, Gray, Black}
 use Rattle.mm_model.specs.Object.{Object}
 use Rattle.mm_model.specs.State.{State, Cycle, PartlyScanned, Lives}
-use Rattle.mm_model.specs.Marking.{MayScan, is_gray, colour_in, may_continue, part_slots, part_done}
-use Rattle.mm_model.specs.Scan.{AreScanned, IsNothingGray, IsEnough, Nothing_asked, Cost_reached, Nothing_left, cost}
-use Rattle.mm_model.specs.Scan.{costs}
+use Rattle.mm_model.specs.Sets.Marking.{MayScan, is_gray, colour_in, may_continue, part_slots, part_done}
+use Rattle.mm_model.specs.Sets.Scan.{AreScanned, IsNothingGray, IsEnough, Nothing_asked, Cost_reached, Nothing_left}
+use Rattle.mm_model.specs.Sets.Scan.{cost}
+use Rattle.mm_model.specs.Sets.Scan.{costs}
 use Rattle.mm_model.specs.Step.{Scans}
 use Rattle.mm_model.specs.Good.{IsPartlyScanned, IsColoured, IsGood}
 use Rattle.mm_model.proofs.Lists.Growing.{find-Some, find-None}

@@ -9,8 +9,8 @@ use Rattle.std.proofs.lemmas.List.Elements.{All-head, All-tail, All-weaker}
 use Rattle.std.proofs.lemmas.List.Splits.{slice_split_at, length-slice_split}
 use Rattle.mm_model.specs.declared.command.Command.{Command}
 use Rattle.mm_model.specs.declared.refusal.LineFault.{LineFault}
-use Rattle.mm_model.specs.Trace.{pieces_of, ended_lines, last_piece, lines_of, complete_lines, line_if, Reading}
-use Rattle.mm_model.specs.Trace.{reading_before, reading_from}
+use Rattle.mm_model.specs.Logs.Trace.{pieces_of, ended_lines, last_piece, lines_of, complete_lines, line_if, Reading}
+use Rattle.mm_model.specs.Logs.Trace.{reading_before, reading_from}
 use Rattle.mm_model.proofs.Text.Traces.{NoNewline, with_newline, Cuts, lines_of-cuts, complete_lines-cuts}
 use Rattle.mm_model.proofs.Text.Traces.{reading_from-clean}
 

@@ -1,6 +1,6 @@
 -- What a journal holds after calls, one after another.
 use Rattle.std.proofs.Common.{ℕ, Bool, List, [], ◌++◌, Option, sym, append-nil, append_assoc, subst}
-use Rattle.mm_model.specs.Journal.{Holds, Writes}
+use Rattle.mm_model.specs.Logs.Journal.{Holds, Writes}
 
 -- nothing was written
 pub writes-none : (kept : Option (List ℕ)) (broken : Bool) → Writes kept broken kept broken []

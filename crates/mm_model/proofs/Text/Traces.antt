@@ -11,8 +11,8 @@ use Rattle.std.proofs.lemmas.List.Splits.{slice_split_at, slice_split-cons_no, l
 use Rattle.mm_model.specs.declared.command.Command.{Command}
 use Rattle.mm_model.specs.declared.refusal.LineFault.{LineFault}
 use Rattle.mm_model.specs.declared.refusal.LineFault.TheVariants.{LineTooLong}
-use Rattle.mm_model.specs.Trace.{line_reading, pieces_of, ended_lines, last_piece, lines_of, complete_lines}
-use Rattle.mm_model.specs.Trace.{line_if, FaultAt, Reading, reading_before, reading_from}
+use Rattle.mm_model.specs.Logs.Trace.{line_reading, pieces_of, ended_lines, last_piece, lines_of, complete_lines}
+use Rattle.mm_model.specs.Logs.Trace.{line_if, FaultAt, Reading, reading_before, reading_from}
 
 -- no byte is a newline
 abbrev pub NoNewline : List ℕ → Type 0

@@ -8,7 +8,7 @@ use Rattle.std.specs.List.{position_from}
 use Rattle.std.specs.Option.{option_map, option_and_then}
 use Rattle.mm_model.specs.Object.{Object, is_live, live_objects}
 use Rattle.mm_model.specs.State.{State, Cycle, totals_of, live_count}
-use Rattle.mm_model.specs.View.{base_of, seen_cycle}
+use Rattle.mm_model.specs.Views.View.{base_of, seen_cycle}
 
 module _ (a b : State) where
   pub partner-alike : base_of b ≡ base_of a → (partner : Option ℕ)

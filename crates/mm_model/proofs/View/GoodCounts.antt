@@ -7,14 +7,14 @@ use Rattle.std.specs.List.{sum_by, count_by}
 use Rattle.mm_model.specs.Object.{Object, is_live, is_counted, live_objects}
 use Rattle.mm_model.specs.State.{State}
 use Rattle.mm_model.specs.Good.{IsGood}
-use Rattle.mm_model.specs.ByBase.{Begins, based}
-use Rattle.mm_model.specs.ObjectView.{ObjectView, ObjectsByBase}
-use Rattle.mm_model.specs.SetsByBase.{count_at, is_zero_count_at, zero_count_of}
-use Rattle.mm_model.specs.View.{View, Shows, seen_objects, view_of}
-use Rattle.mm_model.specs.ViewWords.{outside_references}
-use Rattle.mm_model.specs.GoodView.{AreCounts, IsGoodView}
-use Rattle.mm_model.proofs.View.Entries.{begins_at}
-use Rattle.mm_model.proofs.View.Seen.{sum-seen}
+use Rattle.mm_model.specs.Views.ByBase.{Begins, based}
+use Rattle.mm_model.specs.Views.ObjectView.{ObjectView, ObjectsByBase}
+use Rattle.mm_model.specs.Views.SetsByBase.{count_at, is_zero_count_at, zero_count_of}
+use Rattle.mm_model.specs.Views.View.{View, Shows, seen_objects, view_of}
+use Rattle.mm_model.specs.Views.ViewWords.{outside_references}
+use Rattle.mm_model.specs.Views.GoodView.{AreCounts, IsGoodView}
+use Rattle.mm_model.proofs.View.ByBase.Entries.{begins_at}
+use Rattle.mm_model.proofs.View.ByBase.Seen.{sum-seen}
 use Rattle.mm_model.proofs.View.Shown.{shown-is}
 
 -- tests that agree on each element count alike

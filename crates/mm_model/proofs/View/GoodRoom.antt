@@ -7,17 +7,17 @@ use Rattle.std.proofs.lemmas.Option.{slice_get-map}
 use Rattle.std.specs.Prelude.{slice_get, ◌==◌}
 use Rattle.std.specs.Option.{option_map}
 use Rattle.mm_model.specs.Words.{falls}
-use Rattle.mm_model.specs.Place.{Piece}
+use Rattle.mm_model.specs.Places.Place.{Piece}
 use Rattle.mm_model.specs.Good.{IsInside, AreApart, AreAllApart, IsPlaced}
-use Rattle.mm_model.specs.ByBase.{Begins, Based, based}
-use Rattle.mm_model.specs.ObjectView.{ObjectView, piece_of_object, pieces_of_objects}
-use Rattle.mm_model.specs.View.{View}
-use Rattle.mm_model.specs.ViewWords.{resolved_in, object_at, piece_of_area, view_pieces}
+use Rattle.mm_model.specs.Views.ByBase.{Begins, Based, based}
+use Rattle.mm_model.specs.Views.ObjectView.{ObjectView, piece_of_object, pieces_of_objects}
+use Rattle.mm_model.specs.Views.View.{View}
+use Rattle.mm_model.specs.Views.ViewWords.{resolved_in, object_at, piece_of_area, view_pieces}
 use Rattle.mm_model.proofs.Good.Living.{each_after, each_get, all_apart-after, some_extent}
 use Rattle.mm_model.proofs.Lists.Growing.{find-Some, find-only}
 use Rattle.mm_model.proofs.Places.Falling.{falls_from, falls_at_base}
 use Rattle.mm_model.proofs.Places.Room.{room_for_pieces}
-use Rattle.mm_model.proofs.View.Entries.{based_at, begins_at, begins_same}
+use Rattle.mm_model.proofs.View.ByBase.Entries.{based_at, begins_at, begins_same}
 
 apart-get : (ps : List Piece) (i j : ℕ) (p q : Piece) → AreAllApart ps → slice_get ps i ≡ Some p
     → slice_get ps j ≡ Some q → i < j → AreApart p q

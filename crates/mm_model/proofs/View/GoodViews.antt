@@ -8,30 +8,31 @@ use Rattle.std.specs.List.{AllByRecursion}
 use Rattle.std.specs.Option.{option_map, option_and_then}
 use Rattle.mm_model.specs.declared.object.Colour.TheVariants.{Black}
 use Rattle.mm_model.specs.Value.{Value, words_of}
-use Rattle.mm_model.specs.SizeClass.{extent_of, object_bytes, area_bytes}
+use Rattle.mm_model.specs.Places.SizeClass.{extent_of, object_bytes, area_bytes}
 use Rattle.mm_model.specs.Refusing.{most_slots}
 use Rattle.mm_model.specs.Count.{refs}
 use Rattle.mm_model.specs.Object.{Object, is_counted}
 use Rattle.mm_model.specs.State.{State, Area, Cycle, PartlyScanned, Lives}
 use Rattle.mm_model.specs.Words.{counted_slots, counted_cells, scanned_slots}
-use Rattle.mm_model.specs.Marking.{colour_in, colour_of}
+use Rattle.mm_model.specs.Sets.Marking.{colour_in, colour_of}
 use Rattle.mm_model.specs.Areas.{most_areas}
 use Rattle.mm_model.specs.Phase.{IsAscending}
 use Rattle.mm_model.specs.Good.{IsShaped, IsAreaShaped, AreNumbered, is_tight, IsPaired, NamesNoWhite, IsPartlyScanned}
 use Rattle.mm_model.specs.Good.{IsColoured, IsGood}
-use Rattle.mm_model.specs.ByBase.{Begins}
-use Rattle.mm_model.specs.ObjectView.{ObjectView, counted_words_of, scanned_words_of, names_at}
-use Rattle.mm_model.specs.SetsByBase.{count_at}
-use Rattle.mm_model.specs.View.{View, AreaView, seen, seen_objects, seen_area, seen_partly, seen_cycle, base_of, Shows}
-use Rattle.mm_model.specs.View.{view_of}
-use Rattle.mm_model.specs.ViewWords.{begins_counted_in, counted_cells_of, outside_references}
-use Rattle.mm_model.specs.GoodView.{IsShapedView, IsAreaShapedView, AreTight, IsPairedAt, NamesNoWhiteAt}
-use Rattle.mm_model.specs.GoodView.{IsPartlyScannedAt, IsColouredAt, IsColouredView, AreNumberedViews, IsGoodView}
-use Rattle.mm_model.proofs.Good.CountedWords.{each_counted_slot, each_counted_cell}
+use Rattle.mm_model.specs.Views.ByBase.{Begins}
+use Rattle.mm_model.specs.Views.ObjectView.{ObjectView, counted_words_of, scanned_words_of, names_at}
+use Rattle.mm_model.specs.Views.SetsByBase.{count_at}
+use Rattle.mm_model.specs.Views.View.{View, AreaView, seen, seen_objects, seen_area, seen_partly, seen_cycle, base_of}
+use Rattle.mm_model.specs.Views.View.{Shows}
+use Rattle.mm_model.specs.Views.View.{view_of}
+use Rattle.mm_model.specs.Views.ViewWords.{begins_counted_in, counted_cells_of, outside_references}
+use Rattle.mm_model.specs.Views.GoodView.{IsShapedView, IsAreaShapedView, AreTight, IsPairedAt, NamesNoWhiteAt}
+use Rattle.mm_model.specs.Views.GoodView.{IsPartlyScannedAt, IsColouredAt, IsColouredView, AreNumberedViews, IsGoodView}
+use Rattle.mm_model.proofs.Good.Writing.CountedWords.{each_counted_slot, each_counted_cell}
 use Rattle.mm_model.proofs.Places.Placing.{each_weaker}
 use Rattle.mm_model.proofs.View.Placed.{placed-seen}
-use Rattle.mm_model.proofs.View.Scanning.{base_of-lives}
-use Rattle.mm_model.proofs.View.Seen.{length-seen, begins-seen, seen-begins}
+use Rattle.mm_model.proofs.View.Marking.Scanning.{base_of-lives}
+use Rattle.mm_model.proofs.View.ByBase.Seen.{length-seen, begins-seen, seen-begins}
 use Rattle.mm_model.proofs.View.Shown.{shown-is}
 use Rattle.mm_model.proofs.View.Words.{counted_words_of-seen, counted_cells_of-seen, count_at-seen}
 use Rattle.mm_model.proofs.View.Words.{begins_counted_in-seen}

@@ -4,16 +4,16 @@ use Rattle.std.proofs.Common.{arith, refl}
 use Rattle.std.proofs.lemmas.Bool.{eq-eqb}
 use Rattle.std.specs.Prelude.{IsTrue, IfSome, slice_get, ◌==◌, ◌||◌, ◌&&◌, ◌⊎◌}
 use Rattle.mm_model.specs.Object.{is_counted}
-use Rattle.mm_model.specs.ByBase.{Begins, Based}
-use Rattle.mm_model.specs.ObjectView.{ObjectView, ObjectsByBase, counted_words_of}
-use Rattle.mm_model.specs.View.{View, AreaView}
-use Rattle.mm_model.specs.ViewWords.{resolved_in, begins_counted_in, counted_cells_of}
-use Rattle.mm_model.specs.GoodView.{IsPairedAt, IsGoodView}
+use Rattle.mm_model.specs.Views.ByBase.{Begins, Based}
+use Rattle.mm_model.specs.Views.ObjectView.{ObjectView, ObjectsByBase, counted_words_of}
+use Rattle.mm_model.specs.Views.View.{View, AreaView}
+use Rattle.mm_model.specs.Views.ViewWords.{resolved_in, begins_counted_in, counted_cells_of}
+use Rattle.mm_model.specs.Views.GoodView.{IsPairedAt, IsGoodView}
 use Rattle.mm_model.proofs.Good.Living.{each_get}
 use Rattle.mm_model.proofs.Lists.Truth.{together}
 use Rattle.mm_model.proofs.Places.Falling.{falls_from}
 use Rattle.mm_model.proofs.Places.Placing.{both}
-use Rattle.mm_model.proofs.View.Entries.{any_begins, begins_any}
+use Rattle.mm_model.proofs.View.ByBase.Entries.{any_begins, begins_any}
 use Rattle.mm_model.proofs.View.GoodRoom.{begins_from_page_1, object_inside, resolved_in-begins}
 
 -- a counted object that begins at a word

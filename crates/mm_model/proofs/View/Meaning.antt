@@ -10,19 +10,19 @@ use Rattle.mm_model.specs.State.{State, Lives, lives_at}
 use Rattle.mm_model.specs.After.{birth_at}
 use Rattle.mm_model.specs.Words.{falls}
 use Rattle.mm_model.specs.Meaning.{falls_in, resolved, meant, meant_at, object_meant}
-use Rattle.mm_model.specs.Place.{live_pieces}
+use Rattle.mm_model.specs.Places.Place.{live_pieces}
 use Rattle.mm_model.specs.Good.{IsPlaced, IsGood}
-use Rattle.mm_model.specs.ByBase.{Based}
-use Rattle.mm_model.specs.ObjectView.{ObjectView}
-use Rattle.mm_model.specs.View.{seen_objects, view_of}
-use Rattle.mm_model.specs.ViewWords.{resolved_in, object_at, view_meant}
+use Rattle.mm_model.specs.Views.ByBase.{Based}
+use Rattle.mm_model.specs.Views.ObjectView.{ObjectView}
+use Rattle.mm_model.specs.Views.View.{seen_objects, view_of}
+use Rattle.mm_model.specs.Views.ViewWords.{resolved_in, object_at, view_meant}
 use Rattle.mm_model.proofs.Places.Falling.{falls_from}
 use Rattle.mm_model.proofs.Places.Placing.{both}
 use Rattle.mm_model.proofs.Lists.Growing.{position_from-Some}
 use Rattle.mm_model.proofs.Good.Living.{lives_once, lives_where}
 use Rattle.mm_model.proofs.Good.LiveLists.{one_birth, birth_at-lives}
 use Rattle.mm_model.proofs.Good.Meanings.{resolved-lives, refers_at, meant-resolved}
-use Rattle.mm_model.proofs.View.Seen.{seen_based, find-seen, find-seen-none}
+use Rattle.mm_model.proofs.View.ByBase.Seen.{seen_based, find-seen, find-seen-none}
 
 -- the object with a birth number, as it stands in the view if it lives
 abbrev pub based_birth : State → ℕ → Option (Based ObjectView)

@@ -6,19 +6,19 @@ use Rattle.std.specs.Prelude.{slice_get}
 use Rattle.std.specs.List.{AllByRecursion}
 use Rattle.mm_model.specs.Object.{Object, live_objects}
 use Rattle.mm_model.specs.State.{State, Lives}
-use Rattle.mm_model.specs.Place.{Piece, object_piece, area_piece, live_pieces}
+use Rattle.mm_model.specs.Places.Place.{Piece, object_piece, area_piece, live_pieces}
 use Rattle.mm_model.specs.Phase.{IsAscending}
 use Rattle.mm_model.specs.Good.{IsInside, AreApart, AreAllApart, IsPlaced}
-use Rattle.mm_model.specs.ByBase.{Based, based}
-use Rattle.mm_model.specs.ObjectView.{ObjectView, piece_of_object, pieces_of_objects}
-use Rattle.mm_model.specs.View.{seen_objects, view_of}
-use Rattle.mm_model.specs.ViewWords.{view_pieces}
-use Rattle.mm_model.proofs.Good.AreaBirths.{apart-sym}
+use Rattle.mm_model.specs.Views.ByBase.{Based, based}
+use Rattle.mm_model.specs.Views.ObjectView.{ObjectView, piece_of_object, pieces_of_objects}
+use Rattle.mm_model.specs.Views.View.{seen_objects, view_of}
+use Rattle.mm_model.specs.Views.ViewWords.{view_pieces}
+use Rattle.mm_model.proofs.Good.Making.AreaBirths.{apart-sym}
 use Rattle.mm_model.proofs.Good.Living.{each_after, each_before, each_append, all_apart-after, live_piece, live_apart}
 use Rattle.mm_model.proofs.Good.Living.{lives_inside, lives_same}
-use Rattle.mm_model.proofs.View.Entries.{ascending-based}
+use Rattle.mm_model.proofs.View.ByBase.Entries.{ascending-based}
 use Rattle.mm_model.proofs.View.Room.{area_pieces-seen}
-use Rattle.mm_model.proofs.View.Seen.{seen_based, seen-based}
+use Rattle.mm_model.proofs.View.ByBase.Seen.{seen_based, seen-based}
 
 -- pieces are still apart where the last ones give way to others from which each is apart that was apart from those
 all_apart-behind : (ps qs rs : List Piece) → AreAllApart (ps ++ qs)

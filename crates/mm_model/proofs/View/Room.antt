@@ -4,22 +4,22 @@ use mathlib.Core.Path.{fun_ext}
 use Rattle.std.specs.List.{list_any, count_by, range_with_len}
 use Rattle.mm_model.specs.Object.{live_objects}
 use Rattle.mm_model.specs.State.{State, Area}
-use Rattle.mm_model.specs.SizeClass.{size_of}
-use Rattle.mm_model.specs.Place.{Family, Piece, object_piece, area_piece, live_pieces, is_vacant, place_among}
-use Rattle.mm_model.specs.Place.{region_pages}
-use Rattle.mm_model.specs.Search.{place_now, place_grown}
+use Rattle.mm_model.specs.Places.SizeClass.{size_of}
+use Rattle.mm_model.specs.Places.Place.{Family, Piece, object_piece, area_piece, live_pieces, is_vacant, place_among}
+use Rattle.mm_model.specs.Places.Place.{region_pages}
+use Rattle.mm_model.specs.Places.Search.{place_now, place_grown}
 use Rattle.mm_model.specs.Effect.{free_pages}
 use Rattle.mm_model.specs.Good.{IsPlaced}
-use Rattle.mm_model.specs.ByBase.{based}
-use Rattle.mm_model.specs.ObjectView.{piece_of_object}
-use Rattle.mm_model.specs.View.{seen_objects, seen_area, view_of}
-use Rattle.mm_model.specs.ViewWords.{piece_of_area, view_pieces, view_region_pages}
-use Rattle.mm_model.specs.ViewEffect.{view_free_pages}
-use Rattle.mm_model.specs.ViewStep.{view_place_now, view_place_grown}
+use Rattle.mm_model.specs.Views.ByBase.{based}
+use Rattle.mm_model.specs.Views.ObjectView.{piece_of_object}
+use Rattle.mm_model.specs.Views.View.{seen_objects, seen_area, view_of}
+use Rattle.mm_model.specs.Views.ViewWords.{piece_of_area, view_pieces, view_region_pages}
+use Rattle.mm_model.specs.Views.ViewEffect.{view_free_pages}
+use Rattle.mm_model.specs.Views.ViewStep.{view_place_now, view_place_grown}
 use Rattle.mm_model.proofs.Lists.Keyed.{any-map}
 use Rattle.mm_model.proofs.Places.Ends.{fold-alike}
 use Rattle.mm_model.proofs.Places.SeenAlike.{AreSeenAlike, is_vacant-alike, place_among-alike}
-use Rattle.mm_model.proofs.View.Seen.{any-seen}
+use Rattle.mm_model.proofs.View.ByBase.Seen.{any-seen}
 use Rattle.mm_model.proofs.Good.LiveLists.{any-live}
 
 any-append : {X : Type 0} (test : X → Bool) (xs ys : List X)

@@ -1,7 +1,7 @@
 -- A view shows a state where it is the view of the state.
 use Rattle.std.proofs.Common.{◌≡◌, refl}
 use Rattle.mm_model.specs.State.{State}
-use Rattle.mm_model.specs.View.{View, Shows, view_of}
+use Rattle.mm_model.specs.Views.View.{View, Shows, view_of}
 
 pub shown-is : (view : View) (a : State) → Shows view a → view ≡ view_of a
 shown-is view a shows =

@@ -9,10 +9,10 @@ use Rattle.std.specs.List.{count_by, AllByRecursion}
 use Rattle.mm_model.specs.Object.{Object, is_live, live_objects}
 use Rattle.mm_model.specs.State.{State, Lives, live_count, gone_count, totals_of}
 use Rattle.mm_model.specs.declared.line.Totals.{Totals}
-use Rattle.mm_model.specs.Place.{live_pieces}
+use Rattle.mm_model.specs.Places.Place.{live_pieces}
 use Rattle.mm_model.specs.Good.{IsPlaced}
 use Rattle.mm_model.specs.Phase.{lists, IsAscending, is_freed, unless_freed, after_release, released, AreBasesOf}
-use Rattle.mm_model.specs.ViewPhase.{so_many_freed}
+use Rattle.mm_model.specs.Views.ViewPhase.{so_many_freed}
 use Rattle.mm_model.proofs.Lists.Counts.{count-none_passes, count-one_passes, sum_by-split}
 use Rattle.mm_model.proofs.Lists.Keyed.{refuted}
 use Rattle.mm_model.proofs.Places.Placing.{both}

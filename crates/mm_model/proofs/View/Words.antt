@@ -15,17 +15,17 @@ use Rattle.mm_model.specs.Meaning.{falls_in}
 use Rattle.mm_model.specs.Count.{refs, zero_count, names_counted}
 use Rattle.mm_model.specs.Areas.{area_at}
 use Rattle.mm_model.specs.Store.{is_counted_slot, refuses_word}
-use Rattle.mm_model.specs.Place.{live_pieces}
+use Rattle.mm_model.specs.Places.Place.{live_pieces}
 use Rattle.mm_model.specs.Good.{IsPlaced}
-use Rattle.mm_model.specs.ByBase.{Based, based}
-use Rattle.mm_model.specs.ObjectView.{ObjectView, counted_words_of, word_words_of, references_in}
-use Rattle.mm_model.specs.SetsByBase.{count_at, is_zero_count_at}
-use Rattle.mm_model.specs.View.{AreaView, seen, seen_objects, seen_area, view_of}
-use Rattle.mm_model.specs.ViewWords.{begins_counted_in, falls_in_counted_of, area_in, counted_cells_of}
-use Rattle.mm_model.specs.ViewWords.{scanned_cells_of, view_root_words, marking_words, outside_references}
-use Rattle.mm_model.specs.ViewWords.{view_zero_count, view_refuses_word}
+use Rattle.mm_model.specs.Views.ByBase.{Based, based}
+use Rattle.mm_model.specs.Views.ObjectView.{ObjectView, counted_words_of, word_words_of, references_in}
+use Rattle.mm_model.specs.Views.SetsByBase.{count_at, is_zero_count_at}
+use Rattle.mm_model.specs.Views.View.{AreaView, seen, seen_objects, seen_area, view_of}
+use Rattle.mm_model.specs.Views.ViewWords.{begins_counted_in, falls_in_counted_of, area_in, counted_cells_of}
+use Rattle.mm_model.specs.Views.ViewWords.{scanned_cells_of, view_root_words, marking_words, outside_references}
+use Rattle.mm_model.specs.Views.ViewWords.{view_zero_count, view_refuses_word}
 use Rattle.mm_model.proofs.Lists.KeyedSums.{count-flat_map}
-use Rattle.mm_model.proofs.View.Seen.{any-seen, sum-seen, count-seen}
+use Rattle.mm_model.proofs.View.ByBase.Seen.{any-seen, sum-seen, count-seen}
 
 -- the words of an object's counted slots, and of its word slots
 pub counted_words_of-seen : (a : State) (birth : ℕ) (object : Object)

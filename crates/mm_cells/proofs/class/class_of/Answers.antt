@@ -4,7 +4,7 @@ use Rattle.std.proofs.lemmas.Bool.Decides.{nat_tests}
 use Rattle.std.specs.Prelude.{nat_le}
 use Rattle.mm_model.specs.declared.object.Size.{Size}
 use Rattle.mm_model.specs.declared.object.Size.TheVariants.{Small}
-use Rattle.mm_model.specs.SizeClass.{extent_of_size}
+use Rattle.mm_model.specs.Places.SizeClass.{extent_of_size}
 use Rattle.mm_model.proofs.Places.Choosing.{extent_of-enough}
 use Rattle.mm_cells.proofs.Sizes.Classes.{class_by_units, class_by_units-lt}
 use Rattle.mm_cells.proofs.class.class_of.Goals as goal

@@ -16,7 +16,8 @@ loop-word-preserved c =
     let within : word < length table = omega (arith, c.requires, c.loop-word.auto.table) in
     record {
       white = λ k from to. elim (cases_eq k word) [
-        | inl here ↦ subst (λ (i : ℕ). WhitensWord (get_or c.args.table.now i 0) (get_or (slice_set table word next) i 0))
+        | inl here ↦ subst
+            (λ (i : ℕ). WhitensWord (get_or c.args.table.now i 0) (get_or (slice_set table word next) i 0))
             (sym here)
             (subst (λ (w : ℕ). WhitensWord w (get_or (slice_set table word next) word 0)) (inv.above word (omega arith))
             (subst (WhitensWord (get_or table word 0)) (sym (get_or-set_same table word next 0 within))

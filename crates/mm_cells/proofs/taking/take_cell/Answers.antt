@@ -74,7 +74,8 @@ returns-clause-kept c =
     let used = IsLowestRoom-class a c.args.class c.args.page c.requires.kept c.requires.class c.requires.lowest in
     let place = class-within a c.args.page c.args.class c.requires.kept used.0 in
     KeepsCells-cell a c.set_mark.new.self c.note_full.new.table c.args.page c.args.class c.in-Some.cell
-    c.new_mark.result c.note_full.ensures.0 c.requires.kept c.requires.class used.0 place.1 place.0 c.set_mark.ensures.set
+    c.new_mark.result c.note_full.ensures.0 c.requires.kept c.requires.class used.0 place.1 place.0
+    c.set_mark.ensures.set
     (record {
       cell = c.in-Some.cell;
       within = free.within;

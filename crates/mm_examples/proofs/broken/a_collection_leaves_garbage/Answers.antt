@@ -2,10 +2,10 @@
 use Rattle.std.proofs.Common.{◌≡◌, ℕ, true, false, List, [], ◌∷◌, None, refl, inl, arith}
 use Rattle.mm_model.specs.declared.command.Command.{Command}
 use Rattle.mm_model.specs.declared.line.Line.{Line}
-use Rattle.mm_model.specs.SizeClass.{class_sizes}
+use Rattle.mm_model.specs.Places.SizeClass.{class_sizes}
 use Rattle.mm_model.specs.Object.{Object, newborn}
 use Rattle.mm_model.specs.State.{State, Lives, empty_state}
-use Rattle.mm_model.specs.Turns.{Turn}
+use Rattle.mm_model.specs.Logs.Turns.{Turn}
 use Rattle.mm_laws.proofs.Turning.Knowing.{turn_of}
 use Rattle.mm_laws.proofs.Turning.Looks.{weak-idle}
 use Rattle.mm_laws.proofs.Turning.Reading.{references-idle}
@@ -15,8 +15,8 @@ use Rattle.mm_examples.specs.Broken.{KeepsAt}
 use Rattle.mm_examples.proofs.Breaking.{AreChecked, are_turns, front, before, front-known, breaks-last}
 use Rattle.mm_model.specs.declared.command.Command.TheVariants.{Pop, Collect}
 use Rattle.mm_model.specs.declared.object.Kind.TheVariants.{Traced}
-use Rattle.mm_model.specs.Reached.{IsReached, By_root, By_slot}
-use Rattle.mm_model.specs.Faithful.{LeavesReached}
+use Rattle.mm_model.specs.Sets.Reached.{IsReached, By_root, By_slot}
+use Rattle.mm_model.specs.Logs.Faithful.{LeavesReached}
 use Rattle.mm_examples.specs.Examples.{usual, new, made, done, collected}
 use Rattle.mm_examples.proofs.broken.a_collection_leaves_garbage.Goals as goal
 

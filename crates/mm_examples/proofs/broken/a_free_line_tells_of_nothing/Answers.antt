@@ -2,10 +2,10 @@
 use Rattle.std.proofs.Common.{◌≡◌, ℕ, List, [], ◌∷◌, None, refl, arith}
 use Rattle.mm_model.specs.declared.command.Command.{Command}
 use Rattle.mm_model.specs.declared.line.Line.{Line}
-use Rattle.mm_model.specs.SizeClass.{class_sizes}
+use Rattle.mm_model.specs.Places.SizeClass.{class_sizes}
 use Rattle.mm_model.specs.Object.{Object}
 use Rattle.mm_model.specs.State.{State, Lives, empty_state}
-use Rattle.mm_model.specs.Turns.{Turn}
+use Rattle.mm_model.specs.Logs.Turns.{Turn}
 use Rattle.mm_laws.proofs.Turning.Knowing.{turn_of}
 use Rattle.mm_laws.proofs.Turning.Looks.{weak-idle}
 use Rattle.mm_laws.proofs.Turning.Reading.{references-idle}
@@ -14,8 +14,8 @@ use Rattle.mm_examples.specs.Broken.{Promise, References, Protected, WeakReferen
 use Rattle.mm_examples.specs.Broken.{KeepsAt}
 use Rattle.mm_examples.proofs.Breaking.{AreChecked, are_turns, front, before, front-known, breaks-last}
 use Rattle.mm_model.specs.declared.command.Command.TheVariants.{Collect}
-use Rattle.mm_model.specs.Reached.{IsReached, By_root, By_slot}
-use Rattle.mm_model.specs.Faithful.{SparesProtected}
+use Rattle.mm_model.specs.Sets.Reached.{IsReached, By_root, By_slot}
+use Rattle.mm_model.specs.Logs.Faithful.{SparesProtected}
 use Rattle.mm_examples.specs.Examples.{usual, done, collected, freed}
 use Rattle.mm_examples.proofs.broken.a_free_line_tells_of_nothing.Goals as goal
 

@@ -2,11 +2,11 @@
 use Rattle.std.proofs.Common.{◌≡◌, false, List, [], ◌∷◌, Some, None, refl, inl, arith}
 use Rattle.mm_model.specs.declared.command.Command.{Command}
 use Rattle.mm_model.specs.declared.line.Line.{Line}
-use Rattle.mm_model.specs.SizeClass.{class_sizes}
+use Rattle.mm_model.specs.Places.SizeClass.{class_sizes}
 use Rattle.mm_model.specs.Value.{reference}
 use Rattle.mm_model.specs.Object.{Object, newborn}
 use Rattle.mm_model.specs.State.{State, empty_state}
-use Rattle.mm_model.specs.Turns.{Turn}
+use Rattle.mm_model.specs.Logs.Turns.{Turn}
 use Rattle.mm_laws.proofs.Turning.Knowing.{turn_of}
 use Rattle.mm_laws.proofs.Turning.Looks.{weak-idle}
 use Rattle.mm_laws.proofs.Turning.Remembering.{Knows}
@@ -17,7 +17,7 @@ use Rattle.mm_model.specs.declared.command.Command.TheVariants.{Put}
 use Rattle.mm_model.specs.declared.object.Kind.TheVariants.{Traced}
 use Rattle.mm_model.specs.declared.refusal.Refusal.TheVariants as refusals
 use Rattle.mm_model.specs.declared.reply.Reply.TheVariants as replies
-use Rattle.mm_model.specs.Faithful.{ReadsThroughReferences}
+use Rattle.mm_model.specs.Logs.Faithful.{ReadsThroughReferences}
 use Rattle.mm_examples.specs.Examples.{usual, new, made, done}
 use Rattle.mm_examples.proofs.broken.a_missing_cell_is_stored.Goals as goal
 

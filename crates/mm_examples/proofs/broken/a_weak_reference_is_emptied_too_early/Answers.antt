@@ -2,11 +2,11 @@
 use Rattle.std.proofs.Common.{◌≡◌, ℕ, true, false, List, [], ◌∷◌, Some, None, refl, ap, ◌∙◌, subst, inl, arith}
 use Rattle.mm_model.specs.declared.command.Command.{Command}
 use Rattle.mm_model.specs.declared.line.Line.{Line}
-use Rattle.mm_model.specs.SizeClass.{class_sizes}
+use Rattle.mm_model.specs.Places.SizeClass.{class_sizes}
 use Rattle.mm_model.specs.Value.{reference}
 use Rattle.mm_model.specs.Object.{Object, newborn}
 use Rattle.mm_model.specs.State.{State, empty_state}
-use Rattle.mm_model.specs.Turns.{Turn, Born}
+use Rattle.mm_model.specs.Logs.Turns.{Turn, Born}
 use Rattle.mm_laws.proofs.Turning.Knowing.{turn_of}
 use Rattle.mm_laws.proofs.Turning.Reading.{references-idle}
 use Rattle.mm_laws.proofs.Turning.Remembering.{Knows}
@@ -15,9 +15,9 @@ use Rattle.mm_examples.specs.Broken.{KeepsAt}
 use Rattle.mm_examples.proofs.Breaking.{AreChecked, are_turns, front, before, front-known, breaks-last}
 use Rattle.mm_model.specs.declared.command.Command.TheVariants.{Weak, Look}
 use Rattle.mm_model.specs.declared.object.Kind.TheVariants.{Traced}
-use Rattle.mm_model.specs.Course.{IsGone}
+use Rattle.mm_model.specs.Logs.Course.{IsGone}
 use Rattle.mm_model.specs.Effect.{weak_shape}
-use Rattle.mm_model.specs.Faithful.{FollowsTargets}
+use Rattle.mm_model.specs.Logs.Faithful.{FollowsTargets}
 use Rattle.mm_examples.specs.Examples.{usual, new, made, word}
 use Rattle.mm_examples.proofs.broken.a_weak_reference_is_emptied_too_early.Goals as goal
 

@@ -2,11 +2,11 @@
 use Rattle.std.proofs.Common.{◌≡◌, false, List, [], ◌∷◌, Some, None, refl, sym, ap, ◌∙◌, inl, arith}
 use Rattle.mm_model.specs.declared.command.Command.{Command}
 use Rattle.mm_model.specs.declared.line.Line.{Line}
-use Rattle.mm_model.specs.SizeClass.{class_sizes}
+use Rattle.mm_model.specs.Places.SizeClass.{class_sizes}
 use Rattle.mm_model.specs.Value.{integer, reference}
 use Rattle.mm_model.specs.Object.{Object, newborn}
 use Rattle.mm_model.specs.State.{State, empty_state}
-use Rattle.mm_model.specs.Turns.{Turn, Born}
+use Rattle.mm_model.specs.Logs.Turns.{Turn, Born}
 use Rattle.mm_laws.proofs.Turning.Knowing.{turn_of}
 use Rattle.mm_laws.proofs.Turning.Looks.{weak-idle}
 use Rattle.mm_laws.proofs.Turning.Remembering.{Knows}
@@ -16,7 +16,7 @@ use Rattle.mm_examples.proofs.Breaking.{AreChecked, are_turns, front, before, fr
 use Rattle.mm_model.specs.declared.command.Command.TheVariants.{Push, Get, Put}
 use Rattle.mm_model.specs.declared.object.Kind.TheVariants.{Traced}
 use Rattle.mm_model.specs.declared.reply.Reply.TheVariants as replies
-use Rattle.mm_model.specs.Faithful.{get_answer, ReadsThroughReferences}
+use Rattle.mm_model.specs.Logs.Faithful.{get_answer, ReadsThroughReferences}
 use Rattle.mm_examples.specs.Examples.{usual, new, made, word, done}
 use Rattle.mm_examples.proofs.broken.a_write_is_lost.Goals as goal
 

@@ -2,12 +2,12 @@
 use Rattle.std.proofs.Common.{◌≡◌, ℕ, zero, suc, true, false, List, [], ◌∷◌, Some, None, refl, ap, arith}
 use Rattle.mm_model.specs.declared.command.Command.{Command}
 use Rattle.mm_model.specs.declared.line.Line.{Line}
-use Rattle.mm_model.specs.SizeClass.{class_sizes}
+use Rattle.mm_model.specs.Places.SizeClass.{class_sizes}
 use Rattle.std.specs.Prelude.{slice_get}
 use Rattle.mm_model.specs.Object.{Object, newborn, is_live}
 use Rattle.mm_model.proofs.Lists.Truth.{no_other}
 use Rattle.mm_model.specs.State.{State, empty_state}
-use Rattle.mm_model.specs.Turns.{Turn}
+use Rattle.mm_model.specs.Logs.Turns.{Turn}
 use Rattle.mm_laws.proofs.Turning.Knowing.{turn_of}
 use Rattle.mm_laws.proofs.Turning.Looks.{weak-idle}
 use Rattle.mm_laws.proofs.Turning.Reading.{references-idle}
@@ -17,8 +17,8 @@ use Rattle.mm_examples.specs.Broken.{KeepsAt}
 use Rattle.mm_examples.proofs.Breaking.{AreChecked, are_turns, front, before, front-known, breaks-last}
 use Rattle.mm_model.specs.declared.command.Command.TheVariants.{Pop, Collect}
 use Rattle.mm_model.specs.declared.object.Kind.TheVariants.{Traced}
-use Rattle.mm_model.specs.Reached.{IsReached, By_root, By_slot}
-use Rattle.mm_model.specs.Faithful.{SparesProtected}
+use Rattle.mm_model.specs.Sets.Reached.{IsReached, By_root, By_slot}
+use Rattle.mm_model.specs.Logs.Faithful.{SparesProtected}
 use Rattle.mm_examples.specs.Examples.{usual, new, made, done, collected, freed}
 use Rattle.mm_examples.proofs.broken.an_object_is_freed_twice.Goals as goal
 
@@ -99,8 +99,13 @@ unfolding class_sizes
 others References differs = references-idle usual (front usual first groups) a (Collect) lines b known refl
 others Protected differs = absurd (differs refl)
 others WeakReferences differs = weak-idle usual (front usual first groups) a (Collect) lines b known refl
-others Collections differs =
-    (λ e birth. (λ left. absurd (left-none birth left.object left.lives.is left.lives.live), λ own. absurd (unreached birth own)), tt)
+others Collections differs = (
+  λ e birth. (
+    λ left. absurd (left-none birth left.object left.lives.is left.lives.live),
+    λ own. absurd (unreached birth own),
+  ),
+  tt,
+)
 others Cycles differs = (λ e. cc, tt)
 others Apart differs = record { placed = record { inside = tt; apart = tt }; there = tt }
 

@@ -2,11 +2,11 @@
 use Rattle.std.proofs.Common.{◌≡◌, true, false, List, [], ◌∷◌, None, refl, arith}
 use Rattle.mm_model.specs.declared.command.Command.{Command}
 use Rattle.mm_model.specs.declared.line.Line.{Line}
-use Rattle.mm_model.specs.SizeClass.{class_sizes}
+use Rattle.mm_model.specs.Places.SizeClass.{class_sizes}
 use Rattle.mm_model.specs.Value.{reference}
 use Rattle.mm_model.specs.Object.{Object, newborn}
 use Rattle.mm_model.specs.State.{State, Lives, empty_state}
-use Rattle.mm_model.specs.Turns.{Turn}
+use Rattle.mm_model.specs.Logs.Turns.{Turn}
 use Rattle.mm_laws.proofs.Turning.Knowing.{turn_of}
 use Rattle.mm_laws.proofs.Turning.Looks.{weak-idle}
 use Rattle.mm_laws.proofs.Turning.Reading.{references-idle}
@@ -16,8 +16,8 @@ use Rattle.mm_examples.specs.Broken.{KeepsAt}
 use Rattle.mm_examples.proofs.Breaking.{AreChecked, are_turns, front, before, front-known, breaks-last}
 use Rattle.mm_model.specs.declared.command.Command.TheVariants.{Reap}
 use Rattle.mm_model.specs.declared.object.Kind.TheVariants.{Counted}
-use Rattle.mm_model.specs.Protected.{By_stack}
-use Rattle.mm_model.specs.Faithful.{SparesProtected}
+use Rattle.mm_model.specs.Sets.Protected.{By_stack}
+use Rattle.mm_model.specs.Logs.Faithful.{SparesProtected}
 use Rattle.mm_examples.specs.Examples.{usual, new, made, done, reaped, freed}
 use Rattle.mm_examples.proofs.broken.an_object_on_the_stack_is_freed.Goals as goal
 

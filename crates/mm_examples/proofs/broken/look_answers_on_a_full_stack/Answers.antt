@@ -2,11 +2,11 @@
 use Rattle.std.proofs.Common.{◌≡◌, false, List, [], ◌∷◌, Some, None, refl, inl, arith}
 use Rattle.mm_model.specs.declared.command.Command.{Command}
 use Rattle.mm_model.specs.declared.line.Line.{Line}
-use Rattle.mm_model.specs.SizeClass.{class_sizes}
+use Rattle.mm_model.specs.Places.SizeClass.{class_sizes}
 use Rattle.mm_model.specs.Value.{reference}
 use Rattle.mm_model.specs.Object.{Object, newborn}
 use Rattle.mm_model.specs.State.{State, empty_state}
-use Rattle.mm_model.specs.Turns.{Turn, Born}
+use Rattle.mm_model.specs.Logs.Turns.{Turn, Born}
 use Rattle.mm_laws.proofs.Turning.Knowing.{turn_of}
 use Rattle.mm_laws.proofs.Turning.Reading.{references-idle}
 use Rattle.mm_laws.proofs.Turning.Remembering.{Knows}
@@ -18,7 +18,7 @@ use Rattle.mm_model.specs.declared.object.Kind.TheVariants.{Traced}
 use Rattle.mm_model.specs.declared.refusal.Refusal.TheVariants as refusals
 use Rattle.mm_model.specs.declared.reply.Reply.TheVariants as replies
 use Rattle.mm_model.specs.Effect.{weak_shape}
-use Rattle.mm_model.specs.Faithful.{FollowsTargets}
+use Rattle.mm_model.specs.Logs.Faithful.{FollowsTargets}
 use Rattle.mm_examples.specs.Examples.{with_stack, new, made, word}
 use Rattle.mm_examples.proofs.broken.look_answers_on_a_full_stack.Goals as goal
 
@@ -88,9 +88,11 @@ broken kept =
     let follows = kept 1 born refl refl in
     another (follows.looks.full (record { i = 0; looks = refl; means = refl }) refl)
 
-others : (other : Promise) → (other ≡ WeakReferences → ⊥) → KeepsAt other (with_stack 2) (front (with_stack 2) first groups) last
+others : (other : Promise) → (other ≡ WeakReferences → ⊥) →
+    KeepsAt other (with_stack 2) (front (with_stack 2) first groups) last
 unfolding class_sizes
-others References differs = references-idle (with_stack 2) (front (with_stack 2) first groups) a (Look 0) lines b known refl
+others References differs =
+    references-idle (with_stack 2) (front (with_stack 2) first groups) a (Look 0) lines b known refl
 others Protected differs =
     record {
       told = refl;

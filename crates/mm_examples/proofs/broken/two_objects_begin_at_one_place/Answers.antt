@@ -2,11 +2,11 @@
 use Rattle.std.proofs.Common.{◌≡◌, ℕ, zero, suc, true, false, List, [], ◌∷◌, Some, None, refl, sym, ap, ◌∙◌, arith}
 use Rattle.mm_model.specs.declared.command.Command.{Command}
 use Rattle.mm_model.specs.declared.line.Line.{Line}
-use Rattle.mm_model.specs.SizeClass.{class_sizes}
+use Rattle.mm_model.specs.Places.SizeClass.{class_sizes}
 use Rattle.mm_model.specs.Value.{reference}
 use Rattle.mm_model.specs.Object.{Object, newborn}
 use Rattle.mm_model.specs.State.{State, empty_state}
-use Rattle.mm_model.specs.Turns.{Turn}
+use Rattle.mm_model.specs.Logs.Turns.{Turn}
 use Rattle.mm_laws.proofs.Turning.Knowing.{turn_of}
 use Rattle.mm_laws.proofs.Turning.Looks.{weak-idle}
 use Rattle.mm_laws.proofs.Turning.Reading.{references-idle}
@@ -15,8 +15,8 @@ use Rattle.mm_examples.specs.Broken.{Promise, References, Protected, WeakReferen
 use Rattle.mm_examples.specs.Broken.{KeepsAt}
 use Rattle.mm_examples.proofs.Breaking.{AreChecked, are_turns, front, before, front-known, breaks-last}
 use Rattle.mm_model.specs.declared.object.Kind.TheVariants.{Traced}
-use Rattle.mm_model.specs.Course.{IsGone}
-use Rattle.mm_model.specs.Faithful.{KeepsApart}
+use Rattle.mm_model.specs.Logs.Course.{IsGone}
+use Rattle.mm_model.specs.Logs.Faithful.{KeepsApart}
 use Rattle.mm_examples.specs.Examples.{usual, new, made}
 use Rattle.mm_examples.proofs.broken.two_objects_begin_at_one_place.Goals as goal
 

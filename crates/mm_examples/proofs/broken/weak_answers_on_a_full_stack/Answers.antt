@@ -2,11 +2,11 @@
 use Rattle.std.proofs.Common.{◌≡◌, false, List, [], ◌∷◌, Some, None, refl, sym, ap, inl, arith}
 use Rattle.mm_model.specs.declared.command.Command.{Command}
 use Rattle.mm_model.specs.declared.line.Line.{Line}
-use Rattle.mm_model.specs.SizeClass.{class_sizes}
+use Rattle.mm_model.specs.Places.SizeClass.{class_sizes}
 use Rattle.mm_model.specs.Value.{integer, reference}
 use Rattle.mm_model.specs.Object.{Object, newborn, is_weak}
 use Rattle.mm_model.specs.State.{State, empty_state}
-use Rattle.mm_model.specs.Turns.{Turn, Born}
+use Rattle.mm_model.specs.Logs.Turns.{Turn, Born}
 use Rattle.mm_laws.proofs.Turning.Knowing.{turn_of}
 use Rattle.mm_laws.proofs.Turning.Looks.{weak-idle}
 use Rattle.mm_laws.proofs.Turning.Remembering.{Knows}
@@ -17,7 +17,7 @@ use Rattle.mm_model.specs.declared.command.Command.TheVariants.{Push, Weak}
 use Rattle.mm_model.specs.declared.object.Kind.TheVariants.{Traced}
 use Rattle.mm_model.specs.declared.refusal.Refusal.TheVariants as refusals
 use Rattle.mm_model.specs.declared.reply.Reply.TheVariants as replies
-use Rattle.mm_model.specs.Faithful.{ReadsThroughReferences}
+use Rattle.mm_model.specs.Logs.Faithful.{ReadsThroughReferences}
 use Rattle.mm_examples.specs.Examples.{with_stack, new, made, word, done}
 use Rattle.mm_examples.proofs.broken.weak_answers_on_a_full_stack.Goals as goal
 
@@ -88,7 +88,8 @@ broken kept =
     let kind = ap (λ (x : Born). is_weak x.shape.kind) (sym (same_born acts.born acts.was_born)) in
     another ((acts.weak refl).full kind refl)
 
-others : (other : Promise) → (other ≡ References → ⊥) → KeepsAt other (with_stack 2) (front (with_stack 2) first groups) last
+others : (other : Promise) → (other ≡ References → ⊥) →
+    KeepsAt other (with_stack 2) (front (with_stack 2) first groups) last
 unfolding class_sizes
 others References differs = absurd (differs refl)
 others Protected differs =
@@ -98,7 +99,8 @@ others Protected differs =
       gone = λ birth h. inl (record { object = h.object; is = h.is; gone = h.gone });
       spared = tt;
     }
-others WeakReferences differs = weak-idle (with_stack 2) (front (with_stack 2) first groups) a (Weak 1) lines b known refl
+others WeakReferences differs =
+    weak-idle (with_stack 2) (front (with_stack 2) first groups) a (Weak 1) lines b known refl
 others Collections differs = tt
 others Cycles differs = tt
 others Apart differs = record { placed = known.good.placed; there = tt }

@@ -1,5 +1,5 @@
 -- Each log is computed.
-use Rattle.mm_model.specs.SizeClass.{class_sizes}
+use Rattle.mm_model.specs.Places.SizeClass.{class_sizes}
 use Rattle.mm_examples.proofs.Running.{log_if}
 use Rattle.mm_examples.proofs.counting.reaps.Goals as goal
 

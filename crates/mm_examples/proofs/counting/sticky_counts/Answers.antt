@@ -2,7 +2,7 @@
 use Rattle.std.proofs.Common.{◌∷◌, ◌++◌, [], replicate, refl}
 use Rattle.mm_model.specs.declared.command.Command.TheVariants.{Pop, Reap, Collect}
 use Rattle.mm_model.specs.declared.object.Kind.TheVariants.{Counted}
-use Rattle.mm_model.specs.SizeClass.{class_sizes}
+use Rattle.mm_model.specs.Places.SizeClass.{class_sizes}
 use Rattle.mm_examples.specs.Examples.{usual, new, puts, made, done, reaped, collected, freed, total}
 use Rattle.mm_examples.proofs.Running.{log_if}
 use Rattle.mm_examples.proofs.counting.sticky_counts.Goals as goal

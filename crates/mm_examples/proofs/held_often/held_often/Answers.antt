@@ -3,7 +3,7 @@ use Rattle.std.proofs.Common.{◌∷◌, ◌++◌, [], map, replicate, refl}
 use Rattle.std.specs.List.{range_with_len}
 use Rattle.mm_model.specs.declared.command.Command.TheVariants.{Push, Pop, Put, Reap, Collect}
 use Rattle.mm_model.specs.declared.object.Kind.TheVariants.{Traced, Counted}
-use Rattle.mm_model.specs.SizeClass.{class_sizes}
+use Rattle.mm_model.specs.Places.SizeClass.{class_sizes}
 use Rattle.mm_examples.specs.Examples.{usual, new, made, done, reaped, collected, freed, total}
 use Rattle.mm_examples.proofs.Running.{log_if}
 use Rattle.mm_examples.proofs.held_often.held_often.Goals as goal

@@ -8,16 +8,17 @@ use Rattle.mm_model.specs.declared.line.Line.{Line}
 use Rattle.mm_model.specs.declared.line.Line.TheVariants.{Scan}
 use Rattle.mm_model.specs.declared.object.Colour.TheVariants.{Gray}
 use Rattle.mm_model.specs.declared.object.Kind.TheVariants.{Traced}
-use Rattle.mm_model.specs.SizeClass.{class_sizes}
+use Rattle.mm_model.specs.Places.SizeClass.{class_sizes}
 use Rattle.mm_model.specs.Object.{Object, newborn}
 use Rattle.mm_model.specs.State.{State}
 use Rattle.mm_model.specs.Value.{reference}
-use Rattle.mm_model.specs.Marking.{part_slots, part_done, done_of}
+use Rattle.mm_model.specs.Sets.Marking.{part_slots, part_done, done_of}
 use Rattle.mm_model.specs.Words.{scanned_slots}
-use Rattle.mm_model.specs.Scan.{AreScanned, IsNothingGray, IsEnough, Nothing_asked, Cost_reached, Nothing_left, costs}
+use Rattle.mm_model.specs.Sets.Scan.{AreScanned, IsNothingGray, IsEnough, Nothing_asked, Cost_reached, Nothing_left}
+use Rattle.mm_model.specs.Sets.Scan.{costs}
 use Rattle.mm_model.specs.After.{after, scanned_bases}
 use Rattle.mm_model.specs.Step.{IsStep}
-use Rattle.mm_model.specs.Turns.{Turn}
+use Rattle.mm_model.specs.Logs.Turns.{Turn}
 use Rattle.mm_laws.proofs.Turning.Knowing.{turn_of}
 use Rattle.mm_examples.specs.Examples.{usual, new, made, done, scanned}
 use Rattle.mm_examples.proofs.Breaking.{before}

@@ -5,13 +5,13 @@ use Rattle.mm_model.specs.declared.command.Command.TheVariants.{Pop, Begin, Step
 use Rattle.mm_model.specs.declared.line.Line.{Line}
 use Rattle.mm_model.specs.declared.object.Colour.TheVariants.{White, Gray}
 use Rattle.mm_model.specs.declared.object.Kind.TheVariants.{Traced}
-use Rattle.mm_model.specs.SizeClass.{class_sizes}
+use Rattle.mm_model.specs.Places.SizeClass.{class_sizes}
 use Rattle.mm_model.specs.Object.{Object, newborn}
 use Rattle.mm_model.specs.State.{State}
-use Rattle.mm_model.specs.Marking.{MayScan}
+use Rattle.mm_model.specs.Sets.Marking.{MayScan}
 use Rattle.mm_model.specs.After.{after}
 use Rattle.mm_model.specs.Step.{IsStep}
-use Rattle.mm_model.specs.Turns.{Turn}
+use Rattle.mm_model.specs.Logs.Turns.{Turn}
 use Rattle.mm_laws.proofs.Turning.Knowing.{turn_of}
 use Rattle.mm_examples.specs.Examples.{usual, new, made, done, scanned}
 use Rattle.mm_examples.proofs.Breaking.{before}

@@ -4,9 +4,9 @@ use Rattle.mm_model.specs.declared.command.Command.{Command}
 use Rattle.mm_model.specs.declared.command.Command.TheVariants.{Begin, Step, Finish, Stat}
 use Rattle.mm_model.specs.declared.line.Line.{Line}
 use Rattle.mm_model.specs.declared.object.Kind.TheVariants.{Leaf}
-use Rattle.mm_model.specs.SizeClass.{class_sizes}
+use Rattle.mm_model.specs.Places.SizeClass.{class_sizes}
 use Rattle.mm_model.specs.State.{empty_state}
-use Rattle.mm_model.specs.Turns.{Turn}
+use Rattle.mm_model.specs.Logs.Turns.{Turn}
 use Rattle.mm_pace.specs.Paced.{Stretch}
 use Rattle.mm_examples.specs.Examples.{usual, new, made, done, stat, scanned, collected}
 use Rattle.mm_examples.proofs.Adding.{turns_from, turn_at, are_turns, stretches_of, none_added, step_and_finish}

@@ -4,7 +4,7 @@ use Rattle.mm_model.specs.declared.command.Command.{Command}
 use Rattle.mm_model.specs.declared.line.Line.{Line}
 use Rattle.mm_model.specs.declared.object.Kind.TheVariants.{Traced, Leaf}
 use Rattle.std.specs.Fmt.{digits}
-use Rattle.mm_model.specs.SizeClass.{class_sizes}
+use Rattle.mm_model.specs.Places.SizeClass.{class_sizes}
 use Rattle.mm_model.specs.State.{empty_state}
 use Rattle.mm_examples.specs.Examples.{usual, new, made}
 use Rattle.mm_examples.proofs.Adding.{turns_from, are_turns}

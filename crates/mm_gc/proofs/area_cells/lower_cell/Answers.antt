@@ -2,7 +2,7 @@ use Rattle.std.proofs.Common.{ℕ, sym, ◌∙◌, subst}
 use Rattle.mm_count.specs.Counts.{NamesCounted}
 use Rattle.mm_roots.specs.Views.{view_of_area}
 use Rattle.mm_gc.specs.AreaCells.{HoldsCount}
-use Rattle.mm_gc.proofs.LoweredCells.{word_in-slot}
+use Rattle.mm_gc.proofs.AreaCells.LoweredCells.{word_in-slot}
 use Rattle.mm_gc.proofs.area_cells.lower_cell.Goals as goal
 
 pub lower_word-requires-clause-named : goal.lower_word-requires-clause-named

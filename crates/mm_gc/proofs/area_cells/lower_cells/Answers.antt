@@ -1,16 +1,17 @@
 use Rattle.std.proofs.Common.{◌<◌, ◌≤◌, ◌+◌, ℕ, List, Option, take, drop, length, sym, ap, ◌∙◌, subst, arith}
 use Rattle.std.proofs.lemmas.List.{length-take}
 use Rattle.std.specs.Prelude.{slice_index}
-use Rattle.mm_model.specs.GoodView.{AreTight}
-use Rattle.mm_model.specs.ObjectView.{ObjectsByBase}
+use Rattle.mm_model.specs.Views.GoodView.{AreTight}
+use Rattle.mm_model.specs.Views.ObjectView.{ObjectsByBase}
 use Rattle.mm_object.specs.Heap.{Heap}
 use Rattle.mm_count.specs.Counts.{one_more}
 use Rattle.mm_roots.specs.declared.area_shape.AreaShape.{AreaShape}
 use Rattle.mm_roots.specs.Views.{area_words}
 use Rattle.mm_gc.specs.AreaCells.{CanLower, outside_with}
 use Rattle.mm_gc.specs.Counts.{HasCounts}
-use Rattle.mm_gc.proofs.LoweredCells.{first-word, within-counted, counts-next, can_lower, counts-last, same_area}
-use Rattle.mm_gc.proofs.Written.{same-then}
+use Rattle.mm_gc.proofs.AreaCells.LoweredCells.{first-word, within-counted, counts-next, can_lower, counts-last}
+use Rattle.mm_gc.proofs.AreaCells.LoweredCells.{same_area}
+use Rattle.mm_gc.proofs.Writing.Written.{same-then}
 use Rattle.mm_gc.proofs.area_cells.lower_cells.Goals as goal
 
 pub lower_cell-requires-clause-can : goal.lower_cell-requires-clause-can

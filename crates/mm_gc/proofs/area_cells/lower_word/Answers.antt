@@ -1,6 +1,6 @@
 use Rattle.mm_count.proofs.Null.{keeps-same}
-use Rattle.mm_gc.proofs.Outlines.{linked-kept, keeps-links}
-use Rattle.mm_gc.proofs.WordCounts.{held-reference, lowered-zero}
+use Rattle.mm_gc.proofs.Colours.Outlines.{linked-kept, keeps-links}
+use Rattle.mm_gc.proofs.AreaCells.WordCounts.{held-reference, lowered-zero}
 use Rattle.mm_gc.proofs.area_cells.lower_word.Goals as goal
 
 pub lower-requires-clause-some : goal.lower-requires-clause-some

@@ -3,8 +3,8 @@ use Rattle.mm_object.specs.Object.{views_of}
 use Rattle.mm_count.specs.Counts.{one_more}
 use Rattle.mm_count.proofs.Null.{keeps-same, none_begins}
 use Rattle.mm_count.proofs.Sticky.{with_sticky-none}
-use Rattle.mm_gc.proofs.Outlines.{linked-kept, keeps-links}
-use Rattle.mm_gc.proofs.WordCounts.{raised-zero}
+use Rattle.mm_gc.proofs.Colours.Outlines.{linked-kept, keeps-links}
+use Rattle.mm_gc.proofs.AreaCells.WordCounts.{raised-zero}
 use Rattle.mm_gc.proofs.area_cells.raise_word.Goals as goal
 
 pub returns-then-word-eq0-clause-counts : goal.returns-then-word-eq0-clause-counts

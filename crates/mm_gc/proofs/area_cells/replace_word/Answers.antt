@@ -1,7 +1,8 @@
 use Rattle.std.proofs.Common.{◌+◌, ◌*◌, ◌/◌, Some, ap, ◌∙◌}
 use Rattle.std.specs.Prelude.{slice_set}
 use Rattle.mm_object.specs.Object.{views_of}
-use Rattle.mm_gc.proofs.Replaced.{replaced-objects, replaced-named, replaced-counts, replaced-sticky, replaced-rest}
+use Rattle.mm_gc.proofs.AreaCells.Replaced.{replaced-objects, replaced-named, replaced-counts, replaced-sticky}
+use Rattle.mm_gc.proofs.AreaCells.Replaced.{replaced-rest}
 use Rattle.mm_gc.proofs.area_cells.replace_word.Goals as goal
 
 pub lower_word-requires-clause-named : goal.lower_word-requires-clause-named

@@ -1,7 +1,7 @@
 use Rattle.std.proofs.Common.{⊎_elim, sym, ◌∙◌}
 use Rattle.std.specs.Prelude.{slice_index}
-use Rattle.mm_model.specs.ViewWords.{cell_kind_of}
-use Rattle.mm_gc.proofs.Written.{slot_word, slot_raw}
+use Rattle.mm_model.specs.Views.ViewWords.{cell_kind_of}
+use Rattle.mm_gc.proofs.Writing.Written.{slot_word, slot_raw}
 use Rattle.mm_gc.proofs.area_cells.write_cell.Goals as goal
 
 pub returns-in-Word-clause-answer : goal.returns-in-Word-clause-answer

@@ -1,13 +1,13 @@
 use Rattle.std.proofs.Common.{◌≡◌, ℕ, ◌+◌, ◌*◌, ◌/◌, map, Some, sym, ap, ◌∙◌, subst}
 use Rattle.std.specs.Prelude.{slice_index, slice_set, ◌==◌, ◌||◌, true}
-use Rattle.mm_model.specs.ViewWords.{begins_counted_in, outside_references}
+use Rattle.mm_model.specs.Views.ViewWords.{begins_counted_in, outside_references}
 use Rattle.mm_object.specs.Object.{views_of}
 use Rattle.mm_object.specs.Heap.{Heap}
 use Rattle.mm_count.specs.Sticky.{with_sticky}
 use Rattle.mm_roots.specs.Views.{views_of_areas, with_cell}
 use Rattle.mm_gc.specs.AreaCells.{CellParts, CanReplace, IsReplaced}
-use Rattle.mm_gc.proofs.AreaStores.{written}
-use Rattle.mm_gc.proofs.CountedCells.{can_replace, replaced, same-stored, other-stored}
+use Rattle.mm_gc.proofs.AreaCells.AreaStores.{written}
+use Rattle.mm_gc.proofs.AreaCells.CountedCells.{can_replace, replaced, same-stored, other-stored}
 use Rattle.mm_gc.proofs.area_cells.write_tight_word.Goals as goal
 
 pub replace_word-requires-clause-counting : goal.replace_word-requires-clause-counting

@@ -1,12 +1,12 @@
 use Rattle.std.proofs.Common.{ℕ, ◌+◌, ◌*◌, ◌/◌, map, Some, sym, ap, ◌∙◌}
 use Rattle.std.specs.Prelude.{slice_set, if◌then◌else◌}
 use Rattle.mm_model.specs.declared.reply.Put.TheVariants.{Tight, Loose}
-use Rattle.mm_model.specs.ViewWords.{falls_in_counted_of}
+use Rattle.mm_model.specs.Views.ViewWords.{falls_in_counted_of}
 use Rattle.mm_object.specs.Object.{views_of}
 use Rattle.mm_object.specs.Heap.{Heap}
 use Rattle.mm_roots.specs.Views.{views_of_areas, with_cell}
 use Rattle.mm_gc.specs.AreaCells.{CellParts}
-use Rattle.mm_gc.proofs.AreaStores.{uncounted-stored}
+use Rattle.mm_gc.proofs.AreaCells.AreaStores.{uncounted-stored}
 use Rattle.mm_gc.proofs.area_cells.write_uncounted_cell.Goals as goal
 
 pub returns-clause-answer : goal.returns-clause-answer

@@ -5,7 +5,7 @@ use Rattle.mm_pages.specs.Pages.{Pages}
 use Rattle.mm_cells.specs.Cells.{Cells, HasNoCell}
 use Rattle.mm_fixed.specs.Fixed.{Fixed, HasNoBlock}
 use Rattle.mm_fixed.proofs.Left.{AreAllParked-swap}
-use Rattle.mm_gc.proofs.Emptied.{no-block, no-run}
+use Rattle.mm_gc.proofs.Frees.Emptied.{no-block, no-run}
 use Rattle.mm_gc.proofs.closing.close_region.Goals as goal
 
 pub remove_all-requires : goal.remove_all-requires

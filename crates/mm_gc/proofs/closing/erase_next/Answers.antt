@@ -1,6 +1,6 @@
 use Rattle.std.proofs.Common.{subst}
 use Rattle.mm_cells.specs.Cells.{Cells, NoneTakenFrom}
-use Rattle.mm_gc.proofs.Emptied.{none-below, next-object, passed, parked-still}
+use Rattle.mm_gc.proofs.Frees.Emptied.{none-below, next-object, passed, parked-still}
 use Rattle.mm_gc.proofs.closing.erase_next.Goals as goal
 
 pub returns-in-None-clause-passed : goal.returns-in-None-clause-passed

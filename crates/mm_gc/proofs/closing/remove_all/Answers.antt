@@ -1,7 +1,7 @@
 use Rattle.std.proofs.Common.{◌≡◌, inl, inr, ap, ◌∙◌, arith}
 use Rattle.std.proofs.lemmas.Bool.{cases_lt}
 use Rattle.mm_roots.specs.Areas.{area_at}
-use Rattle.mm_gc.proofs.Emptied.{unparked-again, in-place-again}
+use Rattle.mm_gc.proofs.Frees.Emptied.{unparked-again, in-place-again}
 use Rattle.mm_gc.proofs.closing.remove_all.Goals as goal
 
 pub loop-a-preserved : goal.loop-a-preserved

@@ -1,4 +1,4 @@
-use Rattle.mm_gc.proofs.Emptied.{in-place-removed}
+use Rattle.mm_gc.proofs.Frees.Emptied.{in-place-removed}
 use Rattle.mm_gc.proofs.closing.remove_any.Goals as goal
 
 pub returns-clause-place : goal.returns-clause-place

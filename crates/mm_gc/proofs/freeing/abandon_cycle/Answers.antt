@@ -1,9 +1,9 @@
 use Rattle.std.proofs.Common.{sym, ap, ◌∙◌, subst}
-use Rattle.mm_model.specs.GoodView.{AreWhite}
+use Rattle.mm_model.specs.Views.GoodView.{AreWhite}
 use Rattle.mm_object.specs.Object.{views_of}
 use Rattle.mm_object.specs.Heap.{Heap}
 use Rattle.mm_object.specs.Colours.{all_whitened}
-use Rattle.mm_gc.proofs.AlikeHeaps.{whitened-white, whitened-twice}
+use Rattle.mm_gc.proofs.Colours.AlikeHeaps.{whitened-white, whitened-twice}
 use Rattle.mm_gc.proofs.freeing.abandon_cycle.Goals as goal
 
 pub returns-then-running-clause-colours : goal.returns-then-running-clause-colours

@@ -1,15 +1,15 @@
 use Rattle.std.proofs.Common.{ℕ, ◌+◌, ◌*◌, take, sym, ap, ◌∙◌, arith}
 use Rattle.std.proofs.lemmas.List.{length-take-le}
-use Rattle.mm_model.specs.SetsByBase.{IsReapableAt}
-use Rattle.mm_model.specs.ViewPhase.{view_after_release}
-use Rattle.mm_model.specs.ByBase.{changed}
-use Rattle.mm_model.specs.ObjectView.{ObjectsByBase}
+use Rattle.mm_model.specs.Views.SetsByBase.{IsReapableAt}
+use Rattle.mm_model.specs.Views.ViewPhase.{view_after_release}
+use Rattle.mm_model.specs.Views.ByBase.{changed}
+use Rattle.mm_model.specs.Views.ObjectView.{ObjectsByBase}
 use Rattle.mm_object.specs.Object.{views_of}
 use Rattle.mm_sweep.specs.Release.{finalized_slots}
 use Rattle.mm_gc.specs.Gc.{objects_in}
-use Rattle.mm_gc.proofs.Alike.{all_white, pieces-alike}
-use Rattle.mm_gc.proofs.Settling.{settled-objects}
-use Rattle.mm_gc.proofs.Sweeping.{releasable, linked-recounted}
+use Rattle.mm_gc.proofs.Colours.Alike.{all_white, pieces-alike}
+use Rattle.mm_gc.proofs.Writing.Settling.{settled-objects}
+use Rattle.mm_gc.proofs.Frees.Sweeping.{releasable, linked-recounted}
 use Rattle.mm_gc.proofs.freeing.free_reapable.Goals as goal
 
 pub release-requires-clause-dead : goal.release-requires-clause-dead

@@ -2,16 +2,16 @@ use Rattle.std.proofs.Common.{ℕ, ◌+◌, ◌*◌, List, take, refl, sym, ap, 
 use Rattle.std.proofs.lemmas.List.{length-take-le}
 use Rattle.mm_model.specs.declared.line.Line.{Line}
 use Rattle.mm_model.specs.declared.line.Phase.TheVariants as phases
-use Rattle.mm_model.specs.View.{View}
-use Rattle.mm_model.specs.Journal.{Writes}
-use Rattle.mm_model.specs.Spelling.{spelling_of}
+use Rattle.mm_model.specs.Views.View.{View}
+use Rattle.mm_model.specs.Logs.Journal.{Writes}
+use Rattle.mm_model.specs.Logs.Spelling.{spelling_of}
 use Rattle.mm_object.specs.Object.{views_of}
 use Rattle.mm_sweep.specs.Sweep.{IsWhiteAt}
 use Rattle.mm_gc.specs.Gc.{objects_in}
-use Rattle.mm_gc.proofs.Alike.{all_white, AreAlike, all_white-twice, pieces-alike, phase_lines-alike}
-use Rattle.mm_gc.proofs.FinishCost.{finalized-alike, counted-found}
-use Rattle.mm_gc.proofs.Settling.{settled-objects}
-use Rattle.mm_gc.proofs.Sweeping.{releasable, linked-whitened}
+use Rattle.mm_gc.proofs.Colours.Alike.{all_white, AreAlike, all_white-twice, pieces-alike, phase_lines-alike}
+use Rattle.mm_gc.proofs.Marking.FinishCost.{finalized-alike, counted-found}
+use Rattle.mm_gc.proofs.Writing.Settling.{settled-objects}
+use Rattle.mm_gc.proofs.Frees.Sweeping.{releasable, linked-whitened}
 use Rattle.mm_gc.proofs.freeing.free_white.Goals as goal
 
 pub release-requires-clause-dead : goal.release-requires-clause-dead

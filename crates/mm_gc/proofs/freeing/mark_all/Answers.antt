@@ -1,4 +1,4 @@
-use Rattle.mm_gc.proofs.Marked.{collects-marked}
+use Rattle.mm_gc.proofs.Marking.Marked.{collects-marked}
 use Rattle.mm_gc.proofs.freeing.mark_all.Goals as goal
 
 pub returns-clause-unreached : goal.returns-clause-unreached

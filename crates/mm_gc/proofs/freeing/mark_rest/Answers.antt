@@ -4,9 +4,9 @@ use Rattle.mm_mark.specs.Colours.{root_words}
 use Rattle.mm_mark.specs.Marker.{Marker}
 use Rattle.mm_mark.specs.Draining.{unscanned}
 use Rattle.mm_mark.proofs.Potential.{unscanned-grayed}
-use Rattle.mm_gc.proofs.AlikeHeaps.{views-alike}
-use Rattle.mm_gc.proofs.FinishCost.{scanned-blackened}
-use Rattle.mm_gc.proofs.Marked.{finishes-marked, all_done-shaded}
+use Rattle.mm_gc.proofs.Colours.AlikeHeaps.{views-alike}
+use Rattle.mm_gc.proofs.Marking.FinishCost.{scanned-blackened}
+use Rattle.mm_gc.proofs.Marking.Marked.{finishes-marked, all_done-shaded}
 use Rattle.mm_gc.proofs.freeing.mark_rest.Goals as goal
 
 pub drain-requires-clause-done : goal.drain-requires-clause-done

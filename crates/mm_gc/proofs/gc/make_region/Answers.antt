@@ -1,7 +1,7 @@
 -- Nothing lies in the region.
 use Rattle.std.proofs.Common.{◌≡◌, ◌-◌, ◌*◌, ℕ, length, replicate, List, None, refl, sym, ap, ◌∙◌, subst, arith}
 use Rattle.std.specs.Prelude.{slice_index}
-use Rattle.mm_model.specs.ByBase.{Begins}
+use Rattle.mm_model.specs.Views.ByBase.{Begins}
 use Rattle.mm_model.specs.Areas.{most_areas}
 use Rattle.std.proofs.lemmas.List.{length-replicate}
 use Rattle.mm_words.specs.Piece as pieces

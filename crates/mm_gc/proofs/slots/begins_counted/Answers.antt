@@ -1,7 +1,7 @@
 use Rattle.std.proofs.Common.{sym, ap, ◌∙◌}
 use Rattle.mm_model.specs.declared.object.Shape.{Shape}
 use Rattle.mm_model.specs.Object.{is_counted}
-use Rattle.mm_gc.proofs.Tight.{begins_counted-at, begins_counted-inside, begins_counted-none}
+use Rattle.mm_gc.proofs.Writing.Tight.{begins_counted-at, begins_counted-inside, begins_counted-none}
 use Rattle.mm_gc.proofs.slots.begins_counted.Goals as goal
 
 pub returns-then-found-word-clause-answer : goal.returns-then-found-word-clause-answer

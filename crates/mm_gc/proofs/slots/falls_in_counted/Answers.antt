@@ -1,7 +1,7 @@
 use Rattle.std.proofs.Common.{sym, ap, ◌∙◌}
 use Rattle.mm_model.specs.declared.object.Shape.{Shape}
 use Rattle.mm_model.specs.Object.{is_counted}
-use Rattle.mm_gc.proofs.Tight.{falls_in_counted-covers, falls_in_counted-none}
+use Rattle.mm_gc.proofs.Writing.Tight.{falls_in_counted-covers, falls_in_counted-none}
 use Rattle.mm_gc.proofs.slots.falls_in_counted.Goals as goal
 
 pub returns-in-Some-clause-falls : goal.returns-in-Some-clause-falls

@@ -1,4 +1,4 @@
-use Rattle.mm_gc.proofs.Coloured.{coloured-counts}
+use Rattle.mm_gc.proofs.Colours.Coloured.{coloured-counts}
 use Rattle.mm_gc.proofs.slots.tell_marking.Goals as goal
 
 pub returns-then-running-clause-counts : goal.returns-then-running-clause-counts

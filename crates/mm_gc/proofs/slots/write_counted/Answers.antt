@@ -1,10 +1,10 @@
 use Rattle.std.proofs.Common.{◌≡◌, sym, ◌∙◌, subst}
 use Rattle.std.specs.Prelude.{slice_index}
-use Rattle.mm_model.proofs.View.Entries.{begins_same}
+use Rattle.mm_model.proofs.View.ByBase.Entries.{begins_same}
 use Rattle.mm_object.specs.Object.{StoredObject, views_of}
 use Rattle.mm_count.specs.Counts.{NamesCounted, HasReference}
-use Rattle.mm_gc.proofs.Written.{named-tight, slot-named, slot-reference, counted-refused, counted-stored}
-use Rattle.mm_gc.proofs.Written.{stored-linked}
+use Rattle.mm_gc.proofs.Writing.Written.{named-tight, slot-named, slot-reference, counted-refused, counted-stored}
+use Rattle.mm_gc.proofs.Writing.Written.{stored-linked}
 use Rattle.mm_gc.proofs.slots.write_counted.Goals as goal
 
 pub returns-then-not-is_tight-clause-answer : goal.returns-then-not-is_tight-clause-answer

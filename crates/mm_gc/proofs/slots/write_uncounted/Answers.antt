@@ -3,7 +3,7 @@ use Rattle.mm_object.specs.Object.{views_of}
 use Rattle.mm_object.specs.Heap.{Heap}
 use Rattle.mm_gc.specs.Counts.{HasCounts}
 use Rattle.mm_gc.specs.Stores.{IsStored}
-use Rattle.mm_gc.proofs.Written.{plain-counts, plain-stored}
+use Rattle.mm_gc.proofs.Writing.Written.{plain-counts, plain-stored}
 use Rattle.mm_gc.proofs.slots.write_uncounted.Goals as goal
 
 pub returns-clause-answer : goal.returns-clause-answer

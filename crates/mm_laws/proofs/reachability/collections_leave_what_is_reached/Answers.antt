@@ -1,6 +1,6 @@
 -- The lemmas say it.
 use Rattle.std.proofs.Common.{refl}
-use Rattle.mm_model.specs.Turns.{PhaseOf, Collecting}
+use Rattle.mm_model.specs.Logs.Turns.{PhaseOf, Collecting}
 use Rattle.mm_laws.proofs.Phases.Leaving.{lived-collected}
 use Rattle.mm_laws.proofs.Turning.Promises.{left_is_reached}
 use Rattle.mm_laws.proofs.reachability.collections_leave_what_is_reached.Goals as goal

@@ -1,6 +1,6 @@
 -- What a phase frees it should free, and no protected object should be.
 use Rattle.std.proofs.Common.{refl}
-use Rattle.mm_model.specs.Turns.{Reaping, Collecting, Finishing}
+use Rattle.mm_model.specs.Logs.Turns.{Reaping, Collecting, Finishing}
 use Rattle.mm_laws.proofs.Turning.Promises.{spares-phase}
 use Rattle.mm_laws.proofs.reachability.phases_spare_protected.Goals as goal
 

@@ -1,6 +1,6 @@
 -- The whole is read as the lines of its two parts are, in turn.
 use Rattle.std.proofs.Common.{ap}
-use Rattle.mm_model.specs.Trace.{Reading}
+use Rattle.mm_model.specs.Logs.Trace.{Reading}
 use Rattle.mm_laws.proofs.Tracing.Cutting.{trace_reading-clean, trace_reading-fault}
 use Rattle.mm_laws.proofs.traces.traces_join_at_a_newline.Goals as goal
 

@@ -1,8 +1,8 @@
 use Rattle.std.proofs.Common.{sym, subst}
-use Rattle.mm_model.specs.View.{Shows}
-use Rattle.mm_model.specs.ViewStep.{IsViewRow}
+use Rattle.mm_model.specs.Views.View.{Shows}
+use Rattle.mm_model.specs.Views.ViewStep.{IsViewRow}
 use Rattle.mm_model.proofs.View.Shown.{shown-is, view_of-shows}
-use Rattle.mm_model.proofs.View.Rows.{row-shown}
+use Rattle.mm_model.proofs.View.Commands.Rows.{row-shown}
 use Rattle.mm_laws.proofs.views.rows_of_views_are_rows.Goals as goal
 
 pub returns : goal.returns

@@ -1,4 +1,4 @@
-use Rattle.mm_model.proofs.View.Steps.{step-shown}
+use Rattle.mm_model.proofs.View.Commands.Steps.{step-shown}
 use Rattle.mm_laws.proofs.views.steps_of_views_are_steps.Goals as goal
 
 pub returns : goal.returns

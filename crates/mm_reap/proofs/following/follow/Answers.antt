@@ -1,7 +1,7 @@
 use Rattle.std.proofs.Common.{ℕ, ◌+◌, List, take, sym, ap, ◌∙◌, subst, arith}
 use Rattle.std.proofs.lemmas.List.{take-take}
-use Rattle.mm_model.specs.ObjectView.{ObjectsByBase}
-use Rattle.mm_model.specs.GoodView.{HoldTight}
+use Rattle.mm_model.specs.Views.ObjectView.{ObjectsByBase}
+use Rattle.mm_model.specs.Views.GoodView.{HoldTight}
 use Rattle.mm_object.specs.Object.{views_of}
 use Rattle.mm_reap.specs.Slots.{counted_slots_at}
 use Rattle.mm_reap.specs.Found.{AreReapable}

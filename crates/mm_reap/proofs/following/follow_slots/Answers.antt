@@ -1,5 +1,5 @@
 use Rattle.std.proofs.Common.{sym, ap, subst, arith}
-use Rattle.mm_model.specs.GoodView.{HoldTight}
+use Rattle.mm_model.specs.Views.GoodView.{HoldTight}
 use Rattle.mm_model.specs.declared.object.Shape.{Shape}
 use Rattle.mm_count.proofs.Tables.{same-table}
 use Rattle.mm_reap.proofs.Recounted.{counted-to, recounted-both}

@@ -1,6 +1,6 @@
 use Rattle.std.proofs.Common.{◌≡◌, ◌/◌, ℕ, List, Some, set, sym, ap, ◌∙◌, subst, arith}
-use Rattle.mm_model.specs.ByBase.{Begins}
-use Rattle.mm_model.specs.SizeClass.{size_of, extent_of, area_bytes}
+use Rattle.mm_model.specs.Views.ByBase.{Begins}
+use Rattle.mm_model.specs.Places.SizeClass.{size_of, extent_of, area_bytes}
 use Rattle.mm_pages.specs.Parked.{HaveNoCommonRun, AreAllParked}
 use Rattle.mm_cells.specs.Placing.{run_length}
 use Rattle.mm_fixed.specs.Fixed.{Fixed, OutBlock, HasNoBlockAt, block_parked, block_out, with_block, with_run}

@@ -1,7 +1,7 @@
 use Rattle.std.proofs.Common.{ℕ, ◌^◌, ◌%◌, List, length, sum, sym, ap, subst, ◌∙◌, append-nil, arith}
 use Rattle.mm_model.specs.declared.line.Line.TheVariants as lines
-use Rattle.mm_model.specs.Journal.{Writes}
-use Rattle.mm_model.specs.Spelling.{spelling, spelling_of}
+use Rattle.mm_model.specs.Logs.Journal.{Writes}
+use Rattle.mm_model.specs.Logs.Spelling.{spelling, spelling_of}
 use Rattle.mm_model.proofs.Text.Journals.{writes-none}
 use Rattle.mm_sweep.proofs.Finals.{final_lines-true, final_lines-false, final_slots-true}
 use Rattle.mm_sweep.proofs.finalizing.run_finalizer.Goals as goal

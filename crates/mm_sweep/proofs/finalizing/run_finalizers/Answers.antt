@@ -1,9 +1,9 @@
 use Rattle.std.proofs.Common.{ℕ, ◌<◌, List, length, take, sym, ap, subst, arith}
 use Rattle.std.specs.Prelude.{slice_index}
-use Rattle.mm_model.specs.Journal.{Writes}
-use Rattle.mm_model.specs.Spelling.{spelling_of}
-use Rattle.mm_model.specs.ViewPhase.{view_final_lines}
-use Rattle.mm_model.specs.ViewWords.{object_at}
+use Rattle.mm_model.specs.Logs.Journal.{Writes}
+use Rattle.mm_model.specs.Logs.Spelling.{spelling_of}
+use Rattle.mm_model.specs.Views.ViewPhase.{view_final_lines}
+use Rattle.mm_model.specs.Views.ViewWords.{object_at}
 use Rattle.mm_model.proofs.Text.Journals.{writes-none, writes-append}
 use Rattle.mm_object.specs.Object.{views_of}
 use Rattle.mm_object.specs.Heap.{IsObject}

@@ -1,6 +1,6 @@
 use Rattle.std.proofs.Common.{◌+◌, ◌≤◌, take}
-use Rattle.mm_model.specs.Journal.{Writes}
-use Rattle.mm_model.specs.Spelling.{spelling_of}
+use Rattle.mm_model.specs.Logs.Journal.{Writes}
+use Rattle.mm_model.specs.Logs.Spelling.{spelling_of}
 use Rattle.mm_object.specs.Object.{views_of}
 use Rattle.mm_sweep.specs.Release.{final_lines_at, finalized_slots}
 use Rattle.mm_sweep.proofs.finalizing.run_finalizers.Given as goal

@@ -2,8 +2,8 @@ use Rattle.std.proofs.Common.{◌≡◌, ℕ, ◌+◌, ◌*◌, ◌<◌, ◌≤�
 use Rattle.std.specs.Prelude.{slice_index}
 use Rattle.std.proofs.lemmas.Nat.{rows}
 use Rattle.mm_model.specs.declared.line.Line.TheVariants as lines
-use Rattle.mm_model.specs.Journal.{Writes}
-use Rattle.mm_model.specs.Spelling.{spelling_of}
+use Rattle.mm_model.specs.Logs.Journal.{Writes}
+use Rattle.mm_model.specs.Logs.Spelling.{spelling_of}
 use Rattle.mm_model.proofs.Text.Journals.{writes-none, writes-append}
 use Rattle.mm_pages.specs.Pages.{Pages}
 use Rattle.mm_object.specs.Heap.{IsObject}

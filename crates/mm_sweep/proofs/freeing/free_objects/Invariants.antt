@@ -1,7 +1,7 @@
 use Rattle.std.proofs.Common.{◌+◌, ◌*◌, ◌^◌, ◌<◌, ◌≤◌, ℕ, take, map}
 use Rattle.mm_model.specs.declared.line.Line.TheVariants as lines
-use Rattle.mm_model.specs.Journal.{Writes}
-use Rattle.mm_model.specs.Spelling.{spelling_of}
+use Rattle.mm_model.specs.Logs.Journal.{Writes}
+use Rattle.mm_model.specs.Logs.Spelling.{spelling_of}
 use Rattle.mm_object.specs.Heap.{IsSound, FitsHeap}
 use Rattle.mm_weak.specs.Links.{IsLinked}
 use Rattle.mm_sweep.specs.Release.{Frees}

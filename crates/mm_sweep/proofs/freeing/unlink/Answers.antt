@@ -2,8 +2,8 @@ use Rattle.std.proofs.Common.{◌≡◌, ◌≢◌, ℕ, Bool, true, false, inl,
 use Rattle.mm_model.specs.declared.object.Kind.{Kind}
 use Rattle.mm_model.specs.declared.object.Kind.TheVariants.{Traced, Leaf, Counted, Weak}
 use Rattle.mm_model.specs.Object.{is_weak}
-use Rattle.mm_model.specs.ByBase.{Begins}
-use Rattle.mm_model.proofs.View.Entries.{begins_same}
+use Rattle.mm_model.specs.Views.ByBase.{Begins}
+use Rattle.mm_model.proofs.View.ByBase.Entries.{begins_same}
 use Rattle.mm_object.specs.Object.{StoredObject}
 use Rattle.mm_object.specs.Heap.{Heap, IsSound}
 use Rattle.mm_weak.specs.Links.{IsLinked, IsParted}

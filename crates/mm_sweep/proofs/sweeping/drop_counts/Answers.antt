@@ -1,9 +1,9 @@
 use Rattle.std.proofs.Common.{◌≡◌, ℕ, ◌<◌, List, [], ◌∷◌, ◌++◌, length, take, false, refl, sym, ap, subst, arith}
 use Rattle.std.specs.Prelude.{slice_index}
 use Rattle.mm_model.specs.Phase.{lists}
-use Rattle.mm_model.specs.ObjectView.{ObjectsByBase, counted_words_of}
-use Rattle.mm_model.specs.ViewWords.{object_at}
-use Rattle.mm_model.specs.GoodView.{HoldTight}
+use Rattle.mm_model.specs.Views.ObjectView.{ObjectsByBase, counted_words_of}
+use Rattle.mm_model.specs.Views.ViewWords.{object_at}
+use Rattle.mm_model.specs.Views.GoodView.{HoldTight}
 use Rattle.mm_object.specs.Object.{view_of_stored, views_of}
 use Rattle.mm_object.specs.Heap.{IsObject}
 use Rattle.mm_count.specs.Apart.{AreCountsApart}

@@ -1,9 +1,9 @@
 use Rattle.std.proofs.Common.{◌≡◌, ℕ, ◌+◌, ◌*◌, ◌≤◌, List, [], length, take, sym, ap, subst, ◌∙◌, arith}
 use Rattle.std.specs.List.{AllByRecursion}
 use Rattle.std.proofs.lemmas.List.{length-take}
-use Rattle.mm_model.specs.ByBase.{Begins, based}
-use Rattle.mm_model.specs.ObjectView.{ObjectView}
-use Rattle.mm_model.proofs.View.MappedEntries.{mapped_begins}
+use Rattle.mm_model.specs.Views.ByBase.{Begins, based}
+use Rattle.mm_model.specs.Views.ObjectView.{ObjectView}
+use Rattle.mm_model.proofs.View.ByBase.MappedEntries.{mapped_begins}
 use Rattle.mm_object.specs.Object.{StoredObjects, view_of_stored, views_of}
 use Rattle.mm_object.specs.Heap.{Heap}
 use Rattle.mm_count.specs.Table.{IsRight}

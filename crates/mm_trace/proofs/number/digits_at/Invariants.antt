@@ -1,6 +1,6 @@
 use Rattle.std.proofs.Common.{◌≡◌, ◌<◌, ◌^◌, true, take}
 use Rattle.std.specs.List.{list_all}
-use Rattle.mm_model.specs.Trace.{digits_value, is_digit}
+use Rattle.mm_model.specs.Logs.Trace.{digits_value, is_digit}
 use Rattle.mm_trace.proofs.number.digits_at.Given as goal
 
 abbrev pub invariant-loop-i : goal.invariant-loop-i

@@ -1,6 +1,6 @@
 use Rattle.std.proofs.Common.{◌≡◌, List, ℕ, [], Ok, eqb-true, subst, sym, ◌∙◌, arith}
 use Rattle.std.proofs.lemmas.List.{nil_from_length}
-use Rattle.mm_model.specs.Trace.{number_of}
+use Rattle.mm_model.specs.Logs.Trace.{number_of}
 use Rattle.mm_trace.specs.Plain.{BeginsWith}
 use Rattle.mm_trace.proofs.Numbers.{BeginsWith-digit}
 use Rattle.mm_trace.proofs.WordEnds.{EndsWord-end}

@@ -1,5 +1,5 @@
 use Rattle.std.proofs.Common.{◌≡◌, List, ℕ, Ok, subst, sym, arith}
-use Rattle.mm_model.specs.Trace.{number_of}
+use Rattle.mm_model.specs.Logs.Trace.{number_of}
 use Rattle.mm_trace.specs.Plain.{BeginsWith}
 use Rattle.mm_trace.proofs.Numbers.{BeginsWith-digit}
 use Rattle.mm_trace.proofs.number.number_at.Goals as goal

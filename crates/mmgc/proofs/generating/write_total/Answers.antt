@@ -1,7 +1,7 @@
 use Rattle.std.proofs.Common.{[], ap, append-nil, subst, ◌∙◌}
 use mathlib.Core.Path.{subst₂}
-use Rattle.mm_model.specs.Journal.{Writes}
-use Rattle.mm_model.specs.Spelling.{spelling}
+use Rattle.mm_model.specs.Logs.Journal.{Writes}
+use Rattle.mm_model.specs.Logs.Spelling.{spelling}
 use Rattle.mm_model.specs.declared.line.Line.TheVariants as lines
 use Rattle.mm_model.proofs.Text.Journals.{writes-append}
 use Rattle.mmgc.specs.Keeping.{keeps-trans}

@@ -1,6 +1,6 @@
 use Rattle.std.proofs.Common.{codes, ◌++◌, ◌∙◌, subst}
 use mathlib.Core.Path.{subst₂}
-use Rattle.mm_model.specs.Spelling.{fault_text}
+use Rattle.mm_model.specs.Logs.Spelling.{fault_text}
 use Rattle.mmgc.specs.Telling.{Takes}
 use Rattle.mmgc.proofs.Telling.{takes_first, takes_next}
 use Rattle.mmgc.proofs.program.write_fault.Goals as goal

@@ -1,7 +1,7 @@
 -- A cell of a page that has room, or the first one of a fresh page.
 use Rattle.std.proofs.Common.{ℕ, ◌*◌, ◌/◌, set, slice_index, List, refl, arith, sym, ◌∙◌, ap, subst}
 use Rattle.std.specs.Prelude.{Some}
-use Rattle.mm_model.specs.Lowest.{IsLowest, IsNowhere, Of_first, Of_second}
+use Rattle.mm_model.specs.Places.Lowest.{IsLowest, IsNowhere, Of_first, Of_second}
 use Rattle.mm_pages.specs.Parked.{AreParked, AreAllParked}
 use Rattle.mm_cells.specs.declared.page_use.PageUse.TheVariants.{Class}
 use Rattle.mm_cells.specs.Cells.{Cells, newly_taken, with_cell, with_run, IsSoundCells}

@@ -2,7 +2,8 @@
 use Rattle.std.proofs.Common.{◌≡◌, ◌+◌, ◌-◌, ◌*◌, ℕ, List, ap, sym, ◌∙◌, arith}
 use Rattle.mm_cells.specs.declared.marks.Mark.TheVariants.{Free}
 use Rattle.mm_cells.specs.Marks.{code_of_cell, mark_of_cell}
-use Rattle.mm_cells.proofs.Tables.Maps.{marks_lent, mark_at-with_marks, code_at-with_marks, SetsMark-with_marks, plain-code}
+use Rattle.mm_cells.proofs.Tables.Maps.{marks_lent, mark_at-with_marks, code_at-with_marks, SetsMark-with_marks}
+use Rattle.mm_cells.proofs.Tables.Maps.{plain-code}
 use Rattle.mm_cells.proofs.table.Table.free_cell.Goals as goal
 
 pub returns-clause-free : goal.returns-clause-free

@@ -6,7 +6,7 @@ use Rattle.mm_count.specs.Kept.{with_entry_word}
 use Rattle.mm_count.proofs.Composites.{fits-entry}
 use Rattle.mm_count.proofs.Places.{keeps}
 use Rattle.mm_count.proofs.Counted.{counted-entered}
-use Rattle.mm_count.proofs.Changes.{born-enters}
+use Rattle.mm_count.proofs.Stores.Changes.{born-enters}
 use Rattle.mm_count.proofs.Views.{rest-changed, entered-views, entered-unpinned, entered-listed}
 use Rattle.mm_count.proofs.table.ZeroTable.born.Goals as goal
 

@@ -4,7 +4,7 @@ use Rattle.mm_count.specs.Composite.{FitsWord}
 use Rattle.mm_count.proofs.Composites.{fits-entry}
 use Rattle.mm_count.proofs.Entries.{length-without_place}
 use Rattle.mm_count.proofs.Right.{right-closed_last}
-use Rattle.mm_count.proofs.Changes.{last-counted, closed-same, closed-right, below-last}
+use Rattle.mm_count.proofs.Stores.Changes.{last-counted, closed-same, closed-right, below-last}
 use Rattle.mm_count.proofs.table.ZeroTable.close_gap.Goals as goal
 
 pub returns-then-gap-len-clause-right : goal.returns-then-gap-len-clause-right

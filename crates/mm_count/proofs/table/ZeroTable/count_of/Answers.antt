@@ -1,6 +1,6 @@
 use Rattle.std.proofs.Common.{sym, ap, ◌∙◌}
 use Rattle.mm_count.specs.Counts.{count_in}
-use Rattle.mm_count.proofs.Changes.{composite_at-counted}
+use Rattle.mm_count.proofs.Stores.Changes.{composite_at-counted}
 use Rattle.mm_count.proofs.table.ZeroTable.count_of.Goals as goal
 
 pub returns-clause-count : goal.returns-clause-count

@@ -5,7 +5,7 @@ use Rattle.mm_count.specs.Table.{Table, IsRight, composite_of}
 use Rattle.mm_count.specs.Kept.{gives, with_entry_word}
 use Rattle.mm_count.proofs.Composites.{fits-entry, composite-entry}
 use Rattle.mm_count.proofs.Room.{room_left}
-use Rattle.mm_count.proofs.Changes.{entered-right}
+use Rattle.mm_count.proofs.Stores.Changes.{entered-right}
 use Rattle.mm_count.proofs.table.ZeroTable.enter.Goals as goal
 
 pub set_composite-requires-clause-fits : goal.set_composite-requires-clause-fits

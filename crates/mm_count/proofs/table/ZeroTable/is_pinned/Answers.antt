@@ -1,6 +1,6 @@
 use Rattle.std.proofs.Common.{sym, ap, ◌∙◌}
 use Rattle.mm_count.specs.declared.composite.Composite.{Composite}
-use Rattle.mm_count.proofs.Changes.{composite_at-counted}
+use Rattle.mm_count.proofs.Stores.Changes.{composite_at-counted}
 use Rattle.mm_count.proofs.table.ZeroTable.is_pinned.Goals as goal
 
 pub returns-clause-pinned : goal.returns-clause-pinned

@@ -5,7 +5,7 @@ use Rattle.mm_count.specs.Counts.{left}
 use Rattle.mm_count.proofs.Composites.{not-true_is, not-false_is, fits-left, composite-left}
 use Rattle.mm_count.proofs.Places.{keeps}
 use Rattle.mm_count.proofs.Counted.{counted-left}
-use Rattle.mm_count.proofs.Changes.{composite-said, place-within, leave-kept, leave-gives, left-gap}
+use Rattle.mm_count.proofs.Stores.Changes.{composite-said, place-within, leave-kept, leave-gives, left-gap}
 use Rattle.mm_count.proofs.Views.{rest-changed, left-views, left-unpinned}
 use Rattle.mm_count.proofs.Leaving.{left-apart, left-pins, left-others}
 use Rattle.mm_count.proofs.table.ZeroTable.leave.Goals as goal

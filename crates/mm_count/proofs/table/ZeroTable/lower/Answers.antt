@@ -6,8 +6,8 @@ use Rattle.mm_count.specs.Kept.{with_entry_word}
 use Rattle.mm_count.proofs.Composites.{fits-below, fits-entry, composite-below}
 use Rattle.mm_count.proofs.Places.{keeps}
 use Rattle.mm_count.proofs.Counted.{counted-lowered}
-use Rattle.mm_count.proofs.Changes.{composite-said, lower-kept, lower-gives, lower-enters, kept-right, some-said}
-use Rattle.mm_count.proofs.Changes.{out-said}
+use Rattle.mm_count.proofs.Stores.Changes.{composite-said, lower-kept, lower-gives, lower-enters, kept-right, some-said}
+use Rattle.mm_count.proofs.Stores.Changes.{out-said}
 use Rattle.mm_count.proofs.Views.{rest-changed, lowered-views, lowered-pins, lowered-unpinned, lowered-listed}
 use Rattle.mm_count.proofs.Views.{lowered-names}
 use Rattle.mm_count.proofs.table.ZeroTable.lower.Goals as goal

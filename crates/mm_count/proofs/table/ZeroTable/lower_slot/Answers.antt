@@ -2,7 +2,7 @@ use Rattle.std.proofs.Common.{ℕ, [], ◌∷◌, sym, ◌∙◌, subst}
 use Rattle.mm_count.specs.Table.{IsCountedAt}
 use Rattle.mm_count.specs.Counts.{composite_at, HasReference}
 use Rattle.mm_count.specs.Kept.{AreLowered}
-use Rattle.mm_count.proofs.Lowering.{lowered-zero, totals-lowered}
+use Rattle.mm_count.proofs.Stores.Lowering.{lowered-zero, totals-lowered}
 use Rattle.mm_count.proofs.Tables.{lowered-table, lowered-front, front-same}
 use Rattle.mm_count.proofs.table.ZeroTable.lower_slot.Goals as goal
 

@@ -1,12 +1,13 @@
 use Rattle.std.proofs.Common.{◌<◌, [], ◌∷◌, take, refl, sym, ap, ◌∙◌, subst, arith}
 use Rattle.std.proofs.lemmas.List.{take_all}
-use Rattle.mm_model.specs.ObjectView.{counted_words_of}
+use Rattle.mm_model.specs.Views.ObjectView.{counted_words_of}
 use Rattle.mm_object.specs.Object.{view_of_stored}
 use Rattle.mm_model.specs.declared.object.Shape.{Shape}
 use Rattle.mm_count.specs.Counts.{NamesCounted, HasReference}
 use Rattle.mm_count.specs.Kept.{AreLowered}
-use Rattle.mm_count.proofs.Lowering.{lowered-none, lowered-then, length-words, words-more, word, slot-now, word-now}
-use Rattle.mm_count.proofs.Lowering.{named-now, reference-now, apart-lowered}
+use Rattle.mm_count.proofs.Stores.Lowering.{lowered-none, lowered-then, length-words, words-more, word, slot-now}
+use Rattle.mm_count.proofs.Stores.Lowering.{word-now}
+use Rattle.mm_count.proofs.Stores.Lowering.{named-now, reference-now, apart-lowered}
 use Rattle.mm_count.proofs.Tables.{same-table, front-same, front-then}
 use Rattle.mm_count.proofs.table.ZeroTable.lower_slots.Goals as goal
 

@@ -1,6 +1,6 @@
 use Rattle.std.proofs.Common.{◌≤◌, ◌+◌, ◌*◌, ◌≡◌, length, take}
-use Rattle.mm_model.specs.ByBase.{Begins}
-use Rattle.mm_model.specs.ObjectView.{counted_words_of}
+use Rattle.mm_model.specs.Views.ByBase.{Begins}
+use Rattle.mm_model.specs.Views.ObjectView.{counted_words_of}
 use Rattle.mm_object.specs.Object.{StoredObject, view_of_stored}
 use Rattle.mm_object.specs.Heap.{IsSound}
 use Rattle.mm_count.specs.Table.{IsRight, IsSameTable}

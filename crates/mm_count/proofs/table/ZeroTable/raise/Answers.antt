@@ -5,7 +5,7 @@ use Rattle.mm_count.specs.Counts.{raised}
 use Rattle.mm_count.proofs.Composites.{fits-above, composite-above}
 use Rattle.mm_count.proofs.Places.{keeps}
 use Rattle.mm_count.proofs.Counted.{counted-raised}
-use Rattle.mm_count.proofs.Changes.{composite-said, place-within, raise-kept, raise-gives, kept-right, left-gap}
+use Rattle.mm_count.proofs.Stores.Changes.{composite-said, place-within, raise-kept, raise-gives, kept-right, left-gap}
 use Rattle.mm_count.proofs.Views.{rest-changed, raised-views, raised-unpinned, raised-listed}
 use Rattle.mm_count.proofs.table.ZeroTable.raise.Goals as goal
 

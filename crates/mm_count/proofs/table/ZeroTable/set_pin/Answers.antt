@@ -5,7 +5,7 @@ use Rattle.mm_count.specs.Counts.{with_pin}
 use Rattle.mm_count.proofs.Composites.{fits-pin, composite-pin}
 use Rattle.mm_count.proofs.Places.{keeps}
 use Rattle.mm_count.proofs.Counted.{counted-pinned}
-use Rattle.mm_count.proofs.Changes.{composite-said, pin-gives, kept-right}
+use Rattle.mm_count.proofs.Stores.Changes.{composite-said, pin-gives, kept-right}
 use Rattle.mm_count.proofs.Views.{rest-changed, pinned-views}
 use Rattle.mm_count.proofs.Leaving.{pinned-apart, pinned-one, pinned-listed}
 use Rattle.mm_count.proofs.table.ZeroTable.set_pin.Goals as goal

@@ -1,13 +1,14 @@
 use Rattle.std.proofs.Common.{◌≢◌, ℕ, sym, ap, ◌∙◌, subst, slice_index}
-use Rattle.mm_model.specs.ViewWords.{outside_references}
+use Rattle.mm_model.specs.Views.ViewWords.{outside_references}
 use Rattle.mm_object.specs.Heap.{Heap}
 use Rattle.mm_count.specs.Table.{Table}
 use Rattle.mm_count.specs.Counts.{lowered, changed_at, written_at, composite_at, table_raised, table_lowered}
 use Rattle.mm_count.specs.Counts.{IsCountedBy, one_more, NamesCounted, HasReference}
-use Rattle.mm_count.proofs.Stored.{between-right, between-places, between-counted, between-named, between-reference}
-use Rattle.mm_count.proofs.Stored.{between-table}
-use Rattle.mm_count.proofs.Writing.{keeps-then, keeps-unwritten, views-unwritten, between-rest, between-unpinned}
-use Rattle.mm_count.proofs.Writing.{between-listed, between-objects, between-views, views-written}
+use Rattle.mm_count.proofs.Stores.Stored.{between-right, between-places, between-counted, between-named}
+use Rattle.mm_count.proofs.Stores.Stored.{between-reference}
+use Rattle.mm_count.proofs.Stores.Stored.{between-table}
+use Rattle.mm_count.proofs.Stores.Writing.{keeps-then, keeps-unwritten, views-unwritten, between-rest, between-unpinned}
+use Rattle.mm_count.proofs.Stores.Writing.{between-listed, between-objects, between-views, views-written}
 use Rattle.mm_count.proofs.table.ZeroTable.store.Goals as goal
 
 pub set_slot-requires : goal.set_slot-requires

@@ -2,8 +2,8 @@
 use Rattle.std.proofs.Common.{◌≡◌, ℕ, ◌/◌, ◌<◌, refl, arith, sym, ◌∙◌, ap, subst}
 use Rattle.std.specs.Prelude.{Some, None, Option, slice_get}
 use Rattle.mm_model.specs.declared.object.Size.{Size}
-use Rattle.mm_model.specs.SizeClass.{size_of, extent_of, extent_of_size}
-use Rattle.mm_model.specs.ByBase.{Begins}
+use Rattle.mm_model.specs.Places.SizeClass.{size_of, extent_of, extent_of_size}
+use Rattle.mm_model.specs.Views.ByBase.{Begins}
 use Rattle.mm_pages.specs.Parked.{HaveNoCommonRun, AreAllParked}
 use Rattle.mm_model.specs.declared.object.Colour.TheVariants.{White}
 use Rattle.mm_cells.specs.Cells.{Cells, newly_taken}

@@ -1,7 +1,7 @@
 -- The cell of the block is given back.
 use Rattle.std.proofs.Common.{◌≡◌, ℕ, ◌/◌, refl, sym, ap, subst}
 use Rattle.std.specs.Prelude.{None}
-use Rattle.mm_model.specs.ByBase.{Begins}
+use Rattle.mm_model.specs.Views.ByBase.{Begins}
 use Rattle.mm_pages.specs.Parked.{HaveNoCommonRun, AreAllParked}
 use Rattle.mm_fixed.specs.Fixed.{Fixed, OutBlock, block_out, with_block}
 use Rattle.mm_fixed.specs.Cells.{cells_of}

@@ -1,7 +1,7 @@
 -- The cell of the block becomes black.
 use Rattle.std.proofs.Common.{◌≡◌, ℕ, true, refl, sym, ap, subst}
 use Rattle.std.specs.Prelude.{Some}
-use Rattle.mm_model.specs.ByBase.{Begins}
+use Rattle.mm_model.specs.Views.ByBase.{Begins}
 use Rattle.mm_fixed.specs.Fixed.{Fixed, OutBlock, block_parked, block_out, with_block, IsParked}
 use Rattle.mm_fixed.specs.Cells.{cells_of}
 use Rattle.mm_fixed.proofs.Kept.{keeps, taken-kept, painted-kept, begins-written, sound-shown}

@@ -1,7 +1,7 @@
 -- The cell of the block becomes white.
 use Rattle.std.proofs.Common.{◌≡◌, ℕ, false, refl, sym, ◌∙◌, ap, subst}
 use Rattle.std.specs.Prelude.{Some}
-use Rattle.mm_model.specs.ByBase.{Begins}
+use Rattle.mm_model.specs.Views.ByBase.{Begins}
 use Rattle.mm_words.specs.Location.{Location}
 use Rattle.mm_cells.specs.Cells.{Cells}
 use Rattle.mm_fixed.specs.Fixed.{Fixed, block_parked, block_out, out_at, with_block, IsOut}

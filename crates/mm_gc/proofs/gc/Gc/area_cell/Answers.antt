@@ -1,10 +1,10 @@
 use Rattle.std.proofs.Common.{◌≡◌, None, subst}
-use Rattle.mm_model.specs.ViewWords.{area_in}
+use Rattle.mm_model.specs.Views.ViewWords.{area_in}
 use Rattle.mm_roots.specs.declared.area_shape.AreaRefusal.TheVariants as why
 use Rattle.mm_gc.specs.AreaCells.{IsAreaCell, HasNoAreaCell}
 use Rattle.mm_gc.specs.Gc.{Gc, view_of_gc}
 use Rattle.mm_gc.specs.Inside.{gc_of}
-use Rattle.mm_gc.proofs.AreaReads.{cause-is, area_in-is, cell-read, no_cell-read}
+use Rattle.mm_gc.proofs.AreaCells.AreaReads.{cause-is, area_in-is, cell-read, no_cell-read}
 use Rattle.mm_gc.proofs.gc.Gc.area_cell.Goals as goal
 
 pub returns-in-Ok-clause-answer : goal.returns-in-Ok-clause-answer

@@ -1,7 +1,7 @@
 use Rattle.std.proofs.lemmas.Result.{err_from_is_err_and}
 use Rattle.mm_model.specs.declared.command.Command.TheVariants as commands
 use Rattle.mm_gc.specs.Gc.{view_of_gc}
-use Rattle.mm_gc.proofs.AreaReads.{no_area_cell-answers, area_get-answers}
+use Rattle.mm_gc.proofs.AreaCells.AreaReads.{no_area_cell-answers, area_get-answers}
 use Rattle.mm_gc.proofs.Rows.Areas.{area_get-no_area, area_get-no_slot}
 use Rattle.mm_gc.proofs.gc.Gc.area_get.Goals as goal
 

@@ -7,9 +7,10 @@ use Rattle.mm_gc.specs.Gc.{Gc, view_of_gc}
 use Rattle.mm_gc.specs.Inside.{gc_of}
 use Rattle.mm_gc.specs.Replies.{put_reply}
 use Rattle.mm_gc.specs.Rows.{Answers}
-use Rattle.mm_gc.proofs.AreaPuts.{has-cell, store, slot-at, store-at, area_put-answers, area_put-keeps, changed_region}
-use Rattle.mm_gc.proofs.AreaReads.{no_area_cell-answers}
-use Rattle.mm_gc.proofs.KeptParts.{with_region}
+use Rattle.mm_gc.proofs.AreaCells.AreaPuts.{has-cell, store, slot-at, store-at, area_put-answers, area_put-keeps}
+use Rattle.mm_gc.proofs.AreaCells.AreaPuts.{changed_region}
+use Rattle.mm_gc.proofs.AreaCells.AreaReads.{no_area_cell-answers}
+use Rattle.mm_gc.proofs.Keeping.KeptParts.{with_region}
 use Rattle.mm_gc.proofs.Pushing.{no_cell-answers}
 use Rattle.mm_gc.proofs.Rows.Areas.{area_put-no_cell, area_put-no_area, area_put-no_slot}
 use Rattle.mm_gc.proofs.gc.Gc.area_put.Goals as goal

@@ -2,14 +2,14 @@ use Rattle.std.proofs.Common.{◌+◌, ◌*◌, ◌≤◌, [], length, sym, ◌�
 use Rattle.mm_model.specs.declared.command.Command.TheVariants as commands
 use Rattle.mm_model.specs.declared.refusal.Refusal.TheVariants as refusals
 use Rattle.mm_model.specs.declared.reply.Reply.TheVariants as replies
-use Rattle.mm_model.specs.ViewWords.{marking_words}
+use Rattle.mm_model.specs.Views.ViewWords.{marking_words}
 use Rattle.mm_gc.specs.Gc.{Gc, view_of_gc}
 use Rattle.mm_gc.specs.Inside.{gc_of}
 use Rattle.mm_gc.specs.Rows.{Answers}
-use Rattle.mm_gc.proofs.Begun.{white-idle, runs-told}
+use Rattle.mm_gc.proofs.Marking.Begun.{white-idle, runs-told}
 use Rattle.mm_gc.proofs.Refusals.{row-refused}
 use Rattle.mm_gc.proofs.Rows.Phases.{begin-busy}
-use Rattle.mm_gc.proofs.Scanning.{keeps-begun, answers-begun}
+use Rattle.mm_gc.proofs.Marking.Scanning.{keeps-begun, answers-begun}
 use Rattle.mm_gc.proofs.Shown.{row-of}
 use Rattle.mm_gc.proofs.gc.Gc.begin.Goals as goal
 

@@ -1,6 +1,6 @@
 use Rattle.mm_model.specs.declared.command.Command.TheVariants as commands
 use Rattle.mm_gc.specs.Replies.{new_reply, weak_reply, put_reply, done_reply}
-use Rattle.mm_gc.proofs.Numbered.{answers-commands, tells-commands}
+use Rattle.mm_gc.proofs.Keeping.Numbered.{answers-commands, tells-commands}
 use Rattle.mm_gc.proofs.gc.Gc.carry_out.Goals as goal
 
 pub returns-in-New-clause-commands : goal.returns-in-New-clause-commands

@@ -2,14 +2,14 @@ use Rattle.std.proofs.Common.{◌≡◌, ℕ, ◌+◌, take, length, refl, sym, 
 use Rattle.std.proofs.lemmas.List.{length-take-le}
 use Rattle.mm_model.specs.declared.command.Command.TheVariants as commands
 use Rattle.mm_model.specs.declared.reply.Reply.TheVariants as replies
-use Rattle.mm_model.specs.ViewPhase.{view_collected}
-use Rattle.mm_model.specs.ViewWords.{outside_references}
+use Rattle.mm_model.specs.Views.ViewPhase.{view_collected}
+use Rattle.mm_model.specs.Views.ViewWords.{outside_references}
 use Rattle.mm_words.specs.Location.{location_of}
 use Rattle.mm_gc.specs.Gc.{Gc, view_of_gc}
 use Rattle.mm_gc.specs.Inside.{gc_of}
 use Rattle.mm_gc.specs.Rows.{Tells}
-use Rattle.mm_gc.proofs.Begun.{white-idle, settled-recoloured, tight-recoloured, counts-recoloured}
-use Rattle.mm_gc.proofs.Freed.{HasCollected, freed-fits, collects-shows, keeps-collected, tells-collected}
+use Rattle.mm_gc.proofs.Marking.Begun.{white-idle, settled-recoloured, tight-recoloured, counts-recoloured}
+use Rattle.mm_gc.proofs.Frees.Freed.{HasCollected, freed-fits, collects-shows, keeps-collected, tells-collected}
 use Rattle.mm_gc.proofs.Rows.Phases.{collect-row}
 use Rattle.mm_gc.proofs.gc.Gc.collect.Given.{Over}
 use Rattle.mm_gc.proofs.gc.Gc.collect.Goals as goal

@@ -6,7 +6,7 @@ use Rattle.mm_gc.specs.declared.wanted.Made.TheVariants as made_variants
 use Rattle.mm_gc.specs.declared.wanted.Wanted.TheVariants as wanted
 use Rattle.mm_gc.specs.Gc.{view_of_gc}
 use Rattle.mm_gc.specs.Making.{Searches}
-use Rattle.mm_gc.proofs.Asking.{tells-refused, create-tells}
+use Rattle.mm_gc.proofs.Makes.Asking.{tells-refused, create-tells}
 use Rattle.mm_gc.proofs.Rows.Making.{new-shape, new-full}
 use Rattle.mm_gc.proofs.gc.Gc.create.Goals as goal
 

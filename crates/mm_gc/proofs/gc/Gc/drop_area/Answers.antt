@@ -8,9 +8,9 @@ use Rattle.mm_gc.specs.Gc.{Gc, view_of_gc}
 use Rattle.mm_gc.specs.Inside.{gc_of}
 use Rattle.mm_gc.specs.Rows.{Answers}
 use Rattle.mm_gc.specs.Steps.{IsDropCost, counted_cells}
-use Rattle.mm_gc.proofs.AreaDrops.{has-cells, can-lower_all, settled-lowered, drop-answers, drop-keeps}
-use Rattle.mm_gc.proofs.AreaReads.{area_in-is}
-use Rattle.mm_gc.proofs.KeptParts.{with_region}
+use Rattle.mm_gc.proofs.AreaCells.AreaDrops.{has-cells, can-lower_all, settled-lowered, drop-answers, drop-keeps}
+use Rattle.mm_gc.proofs.AreaCells.AreaReads.{area_in-is}
+use Rattle.mm_gc.proofs.Keeping.KeptParts.{with_region}
 use Rattle.mm_gc.proofs.Pushing.{refused-answers}
 use Rattle.mm_gc.proofs.Rows.Areas.{drop-no_area}
 use Rattle.mm_gc.proofs.gc.Gc.drop_area.Goals as goal

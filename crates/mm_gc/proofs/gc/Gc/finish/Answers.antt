@@ -2,8 +2,8 @@ use Rattle.std.proofs.Common.{◌≡◌, ℕ, ◌+◌, ◌<◌, ◌^◌, true, t
 use Rattle.std.proofs.lemmas.List.{length-take-le}
 use Rattle.mm_model.specs.declared.command.Command.TheVariants as commands
 use Rattle.mm_model.specs.declared.reply.Reply.TheVariants as replies
-use Rattle.mm_model.specs.ViewPhase.{view_collected}
-use Rattle.mm_model.specs.ViewWords.{outside_references}
+use Rattle.mm_model.specs.Views.ViewPhase.{view_collected}
+use Rattle.mm_model.specs.Views.ViewWords.{outside_references}
 use Rattle.mm_words.specs.Location.{location_of}
 use Rattle.mm_object.specs.Object.{views_of}
 use Rattle.mm_object.specs.Heap.{Heap}
@@ -11,14 +11,15 @@ use Rattle.mm_gc.specs.Gc.{Gc, objects_in, freed_since, view_of_gc}
 use Rattle.mm_gc.specs.Inside.{gc_of}
 use Rattle.mm_gc.specs.Rows.{Kept, Tells}
 use Rattle.mm_gc.specs.Steps.{IsFinishCost}
-use Rattle.mm_gc.proofs.Alike.{AreAlike}
-use Rattle.mm_gc.proofs.AlikeHeaps.{views-alike, rest-alike}
-use Rattle.mm_gc.proofs.Begun.{keeps-gray, done-names, runs-told, idle-told, settled-recoloured, tight-recoloured}
-use Rattle.mm_gc.proofs.Begun.{counts-recoloured}
-use Rattle.mm_gc.proofs.FinishCost.{many-alike, counted-alike, finalized-alike}
-use Rattle.mm_gc.proofs.Freed.{HasCollected, freed-fits, finishes-shows, keeps-collected, tells-collected}
+use Rattle.mm_gc.proofs.Colours.Alike.{AreAlike}
+use Rattle.mm_gc.proofs.Colours.AlikeHeaps.{views-alike, rest-alike}
+use Rattle.mm_gc.proofs.Marking.Begun.{keeps-gray, done-names, runs-told, idle-told, settled-recoloured}
+use Rattle.mm_gc.proofs.Marking.Begun.{tight-recoloured}
+use Rattle.mm_gc.proofs.Marking.Begun.{counts-recoloured}
+use Rattle.mm_gc.proofs.Marking.FinishCost.{many-alike, counted-alike, finalized-alike}
+use Rattle.mm_gc.proofs.Frees.Freed.{HasCollected, freed-fits, finishes-shows, keeps-collected, tells-collected}
 use Rattle.mm_gc.proofs.Rows.Phases.{finish-row, finish-idle}
-use Rattle.mm_gc.proofs.Untouched.{tells-refused}
+use Rattle.mm_gc.proofs.Keeping.Untouched.{tells-refused}
 use Rattle.mm_model.specs.declared.refusal.Refusal.TheVariants as refusals
 use Rattle.mm_gc.proofs.gc.Gc.finish.Given.{Over}
 use Rattle.mm_gc.proofs.gc.Gc.finish.Goals as goal

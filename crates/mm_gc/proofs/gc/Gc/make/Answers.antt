@@ -1,7 +1,7 @@
 -- It has no objects, no areas and no stack cells, and all words that are out are those of its pieces.
 use Rattle.std.proofs.Common.{◌≡◌, ◌-◌, ◌*◌, ℕ, true, false, length, refl, sym, ap, ◌∙◌, arith}
 use Rattle.std.proofs.lemmas.List.{length-replicate}
-use Rattle.mm_model.specs.ViewWords.{outside_references}
+use Rattle.mm_model.specs.Views.ViewWords.{outside_references}
 use Rattle.mm_words.specs.Piece as pieces
 use Rattle.mm_words.specs.Arena.{Arena}
 use Rattle.mm_roots.specs.Stack.{Cells}

@@ -6,7 +6,7 @@ use Rattle.mm_gc.specs.declared.wanted.Wanted.TheVariants as wanted
 use Rattle.mm_gc.specs.Gc.{view_of_gc}
 use Rattle.mm_gc.specs.Inside.{gc_of}
 use Rattle.mm_gc.specs.Making.{area_command, Searches}
-use Rattle.mm_gc.proofs.Asking.{tells-refused, area-tells, area-bad, area-full, areas-full, areas-few}
+use Rattle.mm_gc.proofs.Makes.Asking.{tells-refused, area-tells, area-bad, area-full, areas-full, areas-few}
 use Rattle.mm_gc.proofs.gc.Gc.make_area.Goals as goal
 
 pub returns-then-is_bad_area-clause-row : goal.returns-then-is_bad_area-clause-row

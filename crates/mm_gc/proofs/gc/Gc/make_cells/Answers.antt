@@ -4,9 +4,9 @@ use Rattle.mm_gc.specs.declared.wanted.Made.TheVariants as made_variants
 use Rattle.mm_gc.specs.Gc.{Gc, view_of_gc}
 use Rattle.mm_gc.specs.Inside.{gc_of}
 use Rattle.mm_gc.specs.Making.{IsWanted}
-use Rattle.mm_gc.proofs.Made.{keeps-unmade, made-of}
-use Rattle.mm_gc.proofs.MadeAreas.{area-keeps, area-made}
-use Rattle.mm_gc.proofs.Reaching.{place_in_reach-region}
+use Rattle.mm_gc.proofs.Makes.Made.{keeps-unmade, made-of}
+use Rattle.mm_gc.proofs.Makes.MadeAreas.{area-keeps, area-made}
+use Rattle.mm_gc.proofs.Makes.Reaching.{place_in_reach-region}
 use Rattle.mm_gc.proofs.gc.Gc.make_cells.Goals as goal
 
 pub invariant_of-self : goal.invariant_of-self

@@ -1,16 +1,16 @@
 use Rattle.std.proofs.Common.{Some, sym, ap, ◌∙◌, subst}
-use Rattle.mm_model.specs.ByBase.{Begins}
-use Rattle.mm_model.specs.ViewEffect.{birth_colour}
+use Rattle.mm_model.specs.Views.ByBase.{Begins}
+use Rattle.mm_model.specs.Views.ViewEffect.{birth_colour}
 use Rattle.mm_object.specs.Object.{newly_stored}
 use Rattle.mm_gc.specs.declared.wanted.Wanted.TheVariants as wanted
 use Rattle.mm_gc.specs.declared.wanted.Made.TheVariants as made_variants
 use Rattle.mm_gc.specs.Gc.{Gc, view_of_gc, cycle_in}
 use Rattle.mm_gc.specs.Inside.{gc_of}
 use Rattle.mm_gc.specs.Making.{IsWanted}
-use Rattle.mm_gc.proofs.Made.{keeps-unmade, room-pushed, made-of}
-use Rattle.mm_gc.proofs.MadeObjects.{coloured, new-right, new-listed, object-done, object-answered}
-use Rattle.mm_gc.proofs.Reaching.{place_in_reach-region}
-use Rattle.mm_gc.proofs.Shapes.{shape-fine}
+use Rattle.mm_gc.proofs.Makes.Made.{keeps-unmade, room-pushed, made-of}
+use Rattle.mm_gc.proofs.Makes.MadeObjects.{coloured, new-right, new-listed, object-done, object-answered}
+use Rattle.mm_gc.proofs.Makes.Reaching.{place_in_reach-region}
+use Rattle.mm_gc.proofs.Makes.Shapes.{shape-fine}
 use Rattle.mm_gc.proofs.gc.Gc.make_object.Goals as goal
 
 pub create-requires-clause-shape : goal.create-requires-clause-shape

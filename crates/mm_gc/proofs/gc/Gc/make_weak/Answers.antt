@@ -1,13 +1,13 @@
 use Rattle.std.proofs.Common.{Some, sym, ap, ◌∙◌, subst}
-use Rattle.mm_model.specs.ViewEffect.{birth_colour}
+use Rattle.mm_model.specs.Views.ViewEffect.{birth_colour}
 use Rattle.mm_gc.specs.declared.wanted.Wanted.TheVariants as wanted
 use Rattle.mm_gc.specs.declared.wanted.Made.TheVariants as made_variants
 use Rattle.mm_gc.specs.Gc.{Gc, view_of_gc, cycle_in}
 use Rattle.mm_gc.specs.Inside.{gc_of}
 use Rattle.mm_gc.specs.Making.{IsWanted}
-use Rattle.mm_gc.proofs.Made.{keeps-unmade, room-pushed, made-of}
-use Rattle.mm_gc.proofs.MadeWeak.{target-asked, target-alone, linked-weak, weak-done, weak-answered}
-use Rattle.mm_gc.proofs.Reaching.{place_in_reach-region}
+use Rattle.mm_gc.proofs.Makes.Made.{keeps-unmade, room-pushed, made-of}
+use Rattle.mm_gc.proofs.Makes.MadeWeak.{target-asked, target-alone, linked-weak, weak-done, weak-answered}
+use Rattle.mm_gc.proofs.Makes.Reaching.{place_in_reach-region}
 use Rattle.mm_gc.proofs.gc.Gc.make_weak.Goals as goal
 
 pub create_weak-requires-clause-target : goal.create_weak-requires-clause-target

@@ -4,7 +4,7 @@ use Rattle.std.proofs.lemmas.Result.{err_from_is_err_and}
 use Rattle.mm_model.specs.declared.command.Command.TheVariants as commands
 use Rattle.mm_model.specs.declared.refusal.Refusal.TheVariants as refusals
 use Rattle.mm_model.specs.declared.reply.Reply.TheVariants as replies
-use Rattle.mm_model.specs.ViewWords.{outside_references}
+use Rattle.mm_model.specs.Views.ViewWords.{outside_references}
 use Rattle.mm_object.specs.Object.{view_of_stored}
 use Rattle.mm_object.specs.Heap.{Heap}
 use Rattle.mm_count.specs.Table.{Table}
@@ -14,12 +14,12 @@ use Rattle.mm_gc.specs.Inside.{gc_of}
 use Rattle.mm_gc.specs.Refused.{IsMeant}
 use Rattle.mm_gc.specs.Replies.{put_reply}
 use Rattle.mm_gc.specs.Rows.{Answers}
-use Rattle.mm_gc.proofs.Changed.{with_parts}
-use Rattle.mm_gc.proofs.KeptParts.{counts-kept}
+use Rattle.mm_gc.proofs.Keeping.Changed.{with_parts}
+use Rattle.mm_gc.proofs.Keeping.KeptParts.{counts-kept}
 use Rattle.mm_gc.proofs.Meaning.{unmeant-answers}
 use Rattle.mm_gc.proofs.Pushing.{no_cell-answers}
-use Rattle.mm_gc.proofs.Putting.{counting-kept, put-out, put-not_counted, gray-stored, known-stored}
-use Rattle.mm_gc.proofs.Putting.{slot-stored, holder-begins, put-answers, put-keeps}
+use Rattle.mm_gc.proofs.Writing.Putting.{counting-kept, put-out, put-not_counted, gray-stored, known-stored}
+use Rattle.mm_gc.proofs.Writing.Putting.{slot-stored, holder-begins, put-answers, put-keeps}
 use Rattle.mm_gc.proofs.Rows.Writing.{put-no_word, put-no_holder, put-nothing}
 use Rattle.mm_gc.proofs.gc.Gc.put.Goals as goal
 

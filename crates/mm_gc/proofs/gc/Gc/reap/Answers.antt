@@ -3,16 +3,17 @@ use Rattle.std.proofs.lemmas.List.{length-take-le}
 use Rattle.std.specs.Prelude.{max}
 use Rattle.mm_model.specs.declared.command.Command.TheVariants as commands
 use Rattle.mm_model.specs.declared.reply.Reply.TheVariants as replies
-use Rattle.mm_model.specs.ViewPhase.{view_reaped}
-use Rattle.mm_model.specs.ViewWords.{outside_references}
+use Rattle.mm_model.specs.Views.ViewPhase.{view_reaped}
+use Rattle.mm_model.specs.Views.ViewWords.{outside_references}
 use Rattle.mm_words.specs.Location.{location_of}
 use Rattle.mm_gc.specs.Gc.{Gc, view_of_gc}
 use Rattle.mm_gc.specs.Inside.{gc_of}
 use Rattle.mm_gc.specs.Rows.{Kept, Tells}
 use Rattle.mm_gc.specs.Steps.{IsReapCost}
-use Rattle.mm_gc.proofs.Begun.{has_counts, holds_tight}
-use Rattle.mm_gc.proofs.Freed.{freed-fits, reaps-shows}
-use Rattle.mm_gc.proofs.Reaped.{HasReaped, few-entries, known-released, partly-released, keeps-reaped, tells-reaped}
+use Rattle.mm_gc.proofs.Marking.Begun.{has_counts, holds_tight}
+use Rattle.mm_gc.proofs.Frees.Freed.{freed-fits, reaps-shows}
+use Rattle.mm_gc.proofs.Frees.Reaped.{HasReaped, few-entries, known-released, partly-released, keeps-reaped}
+use Rattle.mm_gc.proofs.Frees.Reaped.{tells-reaped}
 use Rattle.mm_gc.proofs.gc.Gc.reap.Given.{Over}
 use Rattle.mm_gc.proofs.gc.Gc.reap.Goals as goal
 

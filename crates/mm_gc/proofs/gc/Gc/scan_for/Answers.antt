@@ -1,7 +1,7 @@
 use Rattle.std.proofs.Common.{◌+◌, ◌*◌, rules, arith}
 use Rattle.mm_gc.specs.Gc.{view_of_gc}
 use Rattle.mm_gc.specs.Steps.{marking_in}
-use Rattle.mm_gc.proofs.Stepping.{scanning-begins, scanning-goes_on, scanning-drained, paid-on, part-few}
+use Rattle.mm_gc.proofs.Marking.Stepping.{scanning-begins, scanning-goes_on, scanning-drained, paid-on, part-few}
 use Rattle.mm_gc.proofs.gc.Gc.scan_for.Goals as goal
 
 pub parts-preserved : goal.parts-preserved

@@ -2,7 +2,7 @@ use Rattle.std.proofs.Common.{◌≡◌, ℕ, ◌+◌, ◌-◌, ◌*◌, ◌≤�
 use Rattle.mm_mark.specs.Stale.{HasFewStale, IsPaid}
 use Rattle.mm_gc.specs.Gc.{view_of_gc}
 use Rattle.mm_gc.specs.Steps.{marking_in}
-use Rattle.mm_gc.proofs.Stepping.{IsScanning}
+use Rattle.mm_gc.proofs.Marking.Stepping.{IsScanning}
 use Rattle.mm_gc.proofs.gc.Gc.scan_for.Given as goal
 
 abbrev pub invariant-parts : goal.invariant-parts

@@ -9,9 +9,9 @@ use Rattle.mm_gc.specs.Rows.{Kept, WritesLines}
 use Rattle.mm_gc.specs.Showing.{IsShowing}
 use Rattle.mm_gc.specs.Steps.{marking_in}
 use Rattle.mm_model.specs.declared.line.Line.TheVariants as lines
-use Rattle.mm_gc.proofs.Begun.{keeps-gray, runs-told}
-use Rattle.mm_gc.proofs.Scanning.{part-scanned, none-scanned, keeps-scanned, answer-shows}
-use Rattle.mm_gc.proofs.Untouched.{writes-line}
+use Rattle.mm_gc.proofs.Marking.Begun.{keeps-gray, runs-told}
+use Rattle.mm_gc.proofs.Marking.Scanning.{part-scanned, none-scanned, keeps-scanned, answer-shows}
+use Rattle.mm_gc.proofs.Keeping.Untouched.{writes-line}
 use Rattle.mm_gc.proofs.gc.Gc.scan_next.Given.{Over}
 use Rattle.mm_gc.proofs.gc.Gc.scan_next.Goals as goal
 use Rattle.mm_gc.proofs.gc.Gc.scan_next.Goals.{in-Some, in-None}

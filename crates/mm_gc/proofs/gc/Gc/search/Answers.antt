@@ -2,7 +2,7 @@ use Rattle.std.proofs.Common.{◌≡◌, None, sym, subst}
 use Rattle.mm_gc.specs.declared.wanted.Reach.TheVariants as reach
 use Rattle.mm_gc.specs.Gc.{view_of_gc}
 use Rattle.mm_gc.specs.Making.{IsWanted, place_in_reach}
-use Rattle.mm_gc.proofs.Searching.{made-nowhere, searches-at_once, searches-from}
+use Rattle.mm_gc.proofs.Makes.Searching.{made-nowhere, searches-at_once, searches-from}
 use Rattle.mm_gc.proofs.gc.Gc.search.Goals as goal
 
 pub returns-in-Some-clause-searched : goal.returns-in-Some-clause-searched

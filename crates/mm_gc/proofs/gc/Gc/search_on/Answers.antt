@@ -1,7 +1,7 @@
 use Rattle.mm_gc.specs.declared.wanted.Reach.TheVariants as reach
 use Rattle.mm_gc.specs.Gc.{view_of_gc}
-use Rattle.mm_gc.proofs.Searching.{made-nowhere, reap-wants, collect-wants, searches-after_reap}
-use Rattle.mm_gc.proofs.Searching.{searches-after_collection}
+use Rattle.mm_gc.proofs.Makes.Searching.{made-nowhere, reap-wants, collect-wants, searches-after_reap}
+use Rattle.mm_gc.proofs.Makes.Searching.{searches-after_collection}
 use Rattle.mm_gc.proofs.gc.Gc.search_on.Goals as goal
 
 pub make_wanted-requires-clause-wanted : goal.make_wanted-requires-clause-wanted

@@ -6,10 +6,10 @@ use Rattle.mm_gc.specs.Gc.{Gc, freed_since, view_of_gc}
 use Rattle.mm_gc.specs.Kept.{KeepsGc}
 use Rattle.mm_gc.specs.Inside.{gc_of}
 use Rattle.mm_gc.specs.Rows.{Kept, Tells}
-use Rattle.mm_gc.proofs.Begun.{runs-told, idle-told}
+use Rattle.mm_gc.proofs.Marking.Begun.{runs-told, idle-told}
 use Rattle.mm_gc.proofs.Rows.Phases.{step-idle}
-use Rattle.mm_gc.proofs.Stepping.{tells-scanned}
-use Rattle.mm_gc.proofs.Untouched.{tells-refused}
+use Rattle.mm_gc.proofs.Marking.Stepping.{tells-scanned}
+use Rattle.mm_gc.proofs.Keeping.Untouched.{tells-refused}
 use Rattle.mm_gc.proofs.gc.Gc.step.Goals as goal
 
 pub returns-then-not-running-clause-row : goal.returns-then-not-running-clause-row

@@ -8,8 +8,8 @@ use Rattle.mm_gc.specs.declared.wanted.Wanted.TheVariants as wanted
 use Rattle.mm_gc.specs.Gc.{view_of_gc}
 use Rattle.mm_gc.specs.Inside.{gc_of}
 use Rattle.mm_gc.specs.Making.{Searches}
-use Rattle.mm_gc.proofs.Asking.{tells-answered, weak-no_area}
-use Rattle.mm_gc.proofs.AskingWeak.{weak-no_weak, weak-stack_full, weak-kept_tells, weak-wanted, weak-searched}
+use Rattle.mm_gc.proofs.Makes.Asking.{tells-answered, weak-no_area}
+use Rattle.mm_gc.proofs.Makes.AskingWeak.{weak-no_weak, weak-stack_full, weak-kept_tells, weak-wanted, weak-searched}
 use Rattle.mm_gc.proofs.Meaning.{unmeant-answers, begins-read}
 use Rattle.mm_gc.proofs.Rows.Making.{weak-no_cell, weak-nothing}
 use Rattle.mm_gc.proofs.gc.Gc.weak.Goals as goal

@@ -1,7 +1,7 @@
 use Rattle.std.proofs.Common.{◌≡◌, ◌/◌, Some, None, sym, ◌∙◌, subst}
 use Rattle.std.specs.Prelude.{IfSome, slice_get}
-use Rattle.mm_model.specs.ByBase.{Begins, with_entry}
-use Rattle.mm_model.specs.Place.{Objects}
+use Rattle.mm_model.specs.Views.ByBase.{Begins, with_entry}
+use Rattle.mm_model.specs.Places.Place.{Objects}
 use Rattle.mm_object.specs.Object.{StoredObjects, newly_stored}
 use Rattle.mm_gc.proofs.region.Region.create.Goals as goal
 

@@ -1,8 +1,8 @@
 use Rattle.std.proofs.Common.{◌≡◌, List, sym, ◌∙◌, subst}
 use Rattle.std.specs.Prelude.{IfSome}
-use Rattle.mm_model.specs.Place.{Areas}
-use Rattle.mm_model.specs.View.{View, AreaView}
-use Rattle.mm_model.specs.ViewEffect.{new_area_view, view_area_inserted, view_free_number}
+use Rattle.mm_model.specs.Places.Place.{Areas}
+use Rattle.mm_model.specs.Views.View.{View, AreaView}
+use Rattle.mm_model.specs.Views.ViewEffect.{new_area_view, view_area_inserted, view_free_number}
 use Rattle.mm_gc.specs.Gc.{areas_in}
 use Rattle.mm_gc.proofs.region.Region.create_area.Goals as goal
 

@@ -1,6 +1,6 @@
 use Rattle.std.proofs.Common.{sym, ap, ◌∙◌}
-use Rattle.mm_model.specs.SizeClass.{size_of}
-use Rattle.mm_model.specs.Place.{place_among}
+use Rattle.mm_model.specs.Places.SizeClass.{size_of}
+use Rattle.mm_model.specs.Places.Place.{place_among}
 use Rattle.mm_gc.specs.declared.wanted.Reach.{Reach}
 use Rattle.mm_gc.specs.Gc.{pieces_in}
 use Rattle.mm_gc.specs.Regions.{limit_in}

@@ -1,5 +1,5 @@
 use Rattle.std.proofs.Common.{arith, Some, None, sym, ap, ◌∙◌, subst}
-use Rattle.mm_model.specs.SizeClass.{area_bytes}
+use Rattle.mm_model.specs.Places.SizeClass.{area_bytes}
 use Rattle.mm_pages.specs.Pages.{Pages}
 use Rattle.mm_object.specs.Heap.{Heap, cells_in}
 use Rattle.mm_fixed.specs.Cells.{cells_of}

@@ -1,5 +1,5 @@
 use Rattle.std.proofs.Common.{None, Some}
-use Rattle.mm_model.specs.SizeClass.{object_bytes, extent_of}
+use Rattle.mm_model.specs.Places.SizeClass.{object_bytes, extent_of}
 use Rattle.mm_object.specs.Heap.{cells_in}
 use Rattle.mm_fixed.specs.Cells.{cells_of}
 use Rattle.mm_roots.proofs.Kept.{views-taken}

@@ -1,9 +1,9 @@
 use Rattle.std.proofs.Common.{◌≡◌, Some, None, ap, sym, subst, ◌∙◌, refl}
 use Rattle.mm_model.specs.declared.object.Colour.TheVariants.{Black}
-use Rattle.mm_model.specs.ObjectView.{ObjectsByBase}
+use Rattle.mm_model.specs.Views.ObjectView.{ObjectsByBase}
 use Rattle.mm_object.specs.Object.{view_of_stored, views_of}
 use Rattle.std.specs.Prelude.{IfSome, Option}
-use Rattle.mm_model.specs.View.{PartlyScannedView}
+use Rattle.mm_model.specs.Views.View.{PartlyScannedView}
 use Rattle.mm_object.specs.Heap.{Heap}
 use Rattle.mm_mark.specs.Marker.{Marker, AreKnown, marker_of, view_of_partly}
 use Rattle.mm_mark.specs.Colours.{IsSameButColours}

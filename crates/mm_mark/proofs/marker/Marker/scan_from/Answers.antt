@@ -1,6 +1,6 @@
 use Rattle.std.proofs.Common.{◌≡◌, ℕ, ◌+◌, ◌-◌, min, List, take, drop, length, sym, ap, subst, ◌∙◌, arith}
-use Rattle.mm_model.specs.ByBase.{Begins}
-use Rattle.mm_model.specs.ObjectView.{ObjectsByBase, scanned_words_of}
+use Rattle.mm_model.specs.Views.ByBase.{Begins}
+use Rattle.mm_model.specs.Views.ObjectView.{ObjectsByBase, scanned_words_of}
 use Rattle.mm_object.specs.Object.{view_of_stored, views_of}
 use Rattle.mm_mark.specs.Marker.{Marker, marking, view_of_partly}
 use Rattle.mm_mark.specs.Colours.{IsGrayed}

@@ -1,7 +1,7 @@
 use Rattle.std.proofs.Common.{◌≡◌, Option, Some, None, refl, sym, subst, ◌∙◌, arith}
 use Rattle.std.specs.Prelude.{IfSome, MatchOption}
-use Rattle.mm_model.specs.ObjectView.{ObjectsByBase}
-use Rattle.mm_model.specs.View.{PartlyScannedView}
+use Rattle.mm_model.specs.Views.ObjectView.{ObjectsByBase}
+use Rattle.mm_model.specs.Views.View.{PartlyScannedView}
 use Rattle.mm_object.specs.Object.{views_of}
 use Rattle.mm_mark.specs.Marker.{IsUnderScan}
 use Rattle.mm_mark.specs.Parts.{NoneIsGray}

@@ -1,6 +1,6 @@
 use Rattle.std.proofs.Common.{◌≡◌, ℕ, ◌+◌, ◌-◌, ◌<◌, ◌≤◌, List, take, drop, length, refl, sym, ap, subst, ◌∙◌, arith}
 use Rattle.std.specs.Prelude.{◌++◌, [], ◌∷◌}
-use Rattle.mm_model.specs.ObjectView.{scanned_words_of}
+use Rattle.mm_model.specs.Views.ObjectView.{scanned_words_of}
 use Rattle.mm_object.specs.Object.{view_of_stored}
 use Rattle.mm_mark.specs.Colours.{IsGrayed}
 use Rattle.mm_mark.proofs.Told.{stored-viewed}

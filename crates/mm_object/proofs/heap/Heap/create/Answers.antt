@@ -1,7 +1,7 @@
 use Rattle.std.proofs.Common.{◌≡◌, ℕ, ◌/◌, false, List, Some, None, refl, sym, ap, subst, ◌∙◌}
 use Rattle.std.specs.Prelude.{slice_set}
-use Rattle.mm_model.specs.SizeClass.{size_of, extent_of, object_bytes}
-use Rattle.mm_model.specs.ByBase as bases
+use Rattle.mm_model.specs.Places.SizeClass.{size_of, extent_of, object_bytes}
+use Rattle.mm_model.specs.Views.ByBase as bases
 use Rattle.mm_pages.specs.Pages as heaps
 use Rattle.mm_pages.specs.Parked.{AreParked, AreAllParked}
 use Rattle.mm_cells.specs.Cells.{Cells, newly_taken}

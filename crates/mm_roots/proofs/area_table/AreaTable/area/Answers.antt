@@ -1,7 +1,7 @@
 use Rattle.std.proofs.Common.{ℕ, ◌≡◌, Bool, true, false, List, Some, None, get_or, sym, ap, ◌∙◌, arith}
 use Rattle.std.proofs.lemmas.List.{get_or_past}
 use Rattle.mm_sets.specs.Set.{members}
-use Rattle.mm_model.specs.SizeClass.{extent_of, extent_of_size, area_bytes}
+use Rattle.mm_model.specs.Places.SizeClass.{extent_of, extent_of_size, area_bytes}
 use Rattle.mm_roots.specs.declared.area_shape.AreaShape.{AreaShape}
 use Rattle.mm_roots.specs.Kept.{AreaRows, areas_told, is_free, is_scanned, cells_in}
 use Rattle.mm_roots.proofs.Tables.{length-areas_told, get_or-areas_told, area_told-taken, area_told-free}

@@ -2,13 +2,13 @@ use Rattle.std.proofs.Common.{◌≡◌, ◌+◌, ◌/◌, ◌<◌, ◌≤◌, �
 use Rattle.std.proofs.Common.{refl, sym, ap, ◌∙◌, subst, arith}
 use Rattle.std.specs.Prelude.{is_some}
 use Rattle.std.specs.List.{count_by}
-use Rattle.mm_model.specs.SizeClass.{size_of, extent_of, extent_of_size, area_bytes}
+use Rattle.mm_model.specs.Places.SizeClass.{size_of, extent_of, extent_of_size, area_bytes}
 use Rattle.mm_model.specs.declared.object.Size.{Size}
-use Rattle.mm_model.specs.ViewEffect.{new_area_view, view_area_inserted}
+use Rattle.mm_model.specs.Views.ViewEffect.{new_area_view, view_area_inserted}
 use Rattle.mm_pages.specs.Pages.{Pages, IsSoundHeap}
 use Rattle.mm_pages.specs.Parked.{AreParked, HaveNoCommonRun, AreAllParked}
 use Rattle.mm_object.specs.Heap.{Heap, FitsHeap}
-use Rattle.mm_model.specs.ByBase.{Begins, with_entry}
+use Rattle.mm_model.specs.Views.ByBase.{Begins, with_entry}
 use Rattle.mm_fixed.specs.Fixed.{Fixed, block_parked, IsSoundFixed, HasNoBlockAt}
 use Rattle.mm_fixed.specs.Placing.{IsPlaceForBlock}
 use Rattle.mm_roots.specs.declared.area_shape.AreaShape.{AreaShape}

@@ -29,7 +29,8 @@ index-requires g c =
 
 pub clear_bit-requires : goal.clear_bit-requires
 clear_bit-requires g c =
-    let place = c.loop-i.invariant.sound.placed c.loop-i.i c.index.result.now (read-entry _ _ c.loop-i.i _ c.index.result.now c.loop-i.invariant.items c.loop-i.invariant.end
+    let place = c.loop-i.invariant.sound.placed c.loop-i.i c.index.result.now
+    (read-entry _ _ c.loop-i.i _ c.index.result.now c.loop-i.invariant.items c.loop-i.invariant.end
     c.loop-i-test.true c.index.ensures) in
     let below = place.below in
     let bits = c.loop-i.invariant.bits in
@@ -52,7 +53,8 @@ loop-i-preserved g c =
       sound = h.sound;
       bits = let same = ap length words in let bits = h.bits in omega arith;
       left = subst (λ (ws : List ℕ). IsLeft c.args.self.now ws (c.loop-i.i + 1)) (sym words)
-          (left-cleared c.args.self.now old new c.loop-i.i c.index.result.now h.sound h.left (read-entry _ _ c.loop-i.i _ c.index.result.now c.loop-i.invariant.items c.loop-i.invariant.end
+          (left-cleared c.args.self.now old new c.loop-i.i c.index.result.now h.sound h.left
+          (read-entry _ _ c.loop-i.i _ c.index.result.now c.loop-i.invariant.items c.loop-i.invariant.end
           c.loop-i-test.true c.index.ensures) change);
       end = h.end;
       ticked = let a = h.ticked in let b = c.tick.ensures in omega arith;

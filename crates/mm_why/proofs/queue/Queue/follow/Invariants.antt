@@ -1,5 +1,5 @@
 use Rattle.std.proofs.Common.{◌≡◌, ℕ, ◌+◌, ◌-◌, ◌≤◌, List, take}
-use Rattle.mm_model.specs.View.{AreaView}
+use Rattle.mm_model.specs.Views.View.{AreaView}
 use Rattle.mm_object.specs.Object.{views_of}
 use Rattle.mm_why.specs.Queue.{IsGrown, IsSoundQueue}
 use Rattle.mm_why.specs.Search.{shown_with, HaveReasons, AreLive, AreFollowed, cost_of}

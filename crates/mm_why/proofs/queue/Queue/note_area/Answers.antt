@@ -5,7 +5,8 @@ use Rattle.mm_roots.specs.Views.{cell_words, views_of_areas}
 use Rattle.mm_why.specs.declared.found.Lead.{Lead}
 use Rattle.mm_why.specs.Search.{shown_with, IsLead}
 use Rattle.mm_why.proofs.AreaWords.{area-word, length-cell_words}
-use Rattle.mm_why.proofs.Noted.{get-index, grown-then, noted-grown, noted-reasons, noted-words, noted-short, whole-found}
+use Rattle.mm_why.proofs.Noted.{get-index, grown-then, noted-grown, noted-reasons, noted-words, noted-short}
+use Rattle.mm_why.proofs.Noted.{whole-found}
 use Rattle.mm_why.proofs.queue.Queue.note_area.Goals as goal
 
 pub loop-cell-preserved : goal.loop-cell-preserved

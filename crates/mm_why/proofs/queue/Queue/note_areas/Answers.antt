@@ -1,6 +1,6 @@
 use Rattle.std.proofs.Common.{◌≡◌, ℕ, ◌+◌, ◌++◌, List, sym, ap, subst, ◌∙◌, append-nil}
 use Rattle.std.specs.List.{flat_map}
-use Rattle.mm_model.specs.ViewWords.{scanned_cells_of}
+use Rattle.mm_model.specs.Views.ViewWords.{scanned_cells_of}
 use Rattle.mm_object.specs.Object.{views_of}
 use Rattle.mm_roots.specs.Views.{views_of_areas}
 use Rattle.mm_why.specs.Search.{AreWordsFound}

@@ -1,5 +1,5 @@
 use Rattle.std.specs.List.{flat_map}
-use Rattle.mm_model.specs.ViewWords.{scanned_cells_of}
+use Rattle.mm_model.specs.Views.ViewWords.{scanned_cells_of}
 use Rattle.mm_object.specs.Object.{views_of}
 use Rattle.mm_roots.specs.Views.{views_of_areas}
 use Rattle.mm_why.proofs.AreaWords.{both-found}

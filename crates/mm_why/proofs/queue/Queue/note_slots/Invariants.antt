@@ -1,5 +1,5 @@
 use Rattle.std.proofs.Common.{◌≡◌, ℕ, ◌+◌, List, take, length}
-use Rattle.mm_model.specs.View.{AreaView}
+use Rattle.mm_model.specs.Views.View.{AreaView}
 use Rattle.mm_object.specs.Object.{views_of}
 use Rattle.mm_why.specs.Queue.{AreShort, IsGrown}
 use Rattle.mm_why.specs.Search.{shown_with, HaveReasons, AreWordsFound, AreLive}

@@ -1,11 +1,13 @@
-use Rattle.std.proofs.Common.{◌≡◌, ◌+◌, ◌++◌, ◌∷◌, [], List, Option, Some, length, reverse, refl, sym, ap, subst, ◌∙◌, arith}
+use Rattle.std.proofs.Common.{◌≡◌, ◌+◌, ◌++◌, ◌∷◌, [], List, Option, Some, length, reverse, refl, sym, ap, subst, ◌∙◌}
+use Rattle.std.proofs.Common.{arith}
 use Rattle.std.proofs.Common.{length-append}
 use Rattle.std.proofs.lemmas.Option.{slice_get_within}
 use Rattle.mm_why.specs.declared.hop.Hop.{Hop}
 use Rattle.mm_why.specs.declared.found.Found.{Found}
 use Rattle.mm_why.specs.Path.{IsPathOf, hop_by}
 use Rattle.mm_why.specs.Search.{LeadsOn}
-use Rattle.mm_why.proofs.Traced.{before-slot, length-some, length-root, leads-slot, leads-root, leads-nowhere, traced, trace-bounded}
+use Rattle.mm_why.proofs.Traced.{before-slot, length-some, length-root, leads-slot, leads-root, leads-nowhere, traced}
+use Rattle.mm_why.proofs.Traced.{trace-bounded}
 use Rattle.mm_why.proofs.queue.Queue.trace_back.Goals as goal
 
 pub hops-init : goal.hops-init

@@ -22,4 +22,5 @@ returns-in-Ok-clause-taken g c start bytes input room clean given p =
 pub returns-in-Err-clause-taken : goal.returns-in-Err-clause-taken
 returns-in-Err-clause-taken g c start bytes input room clean given p =
     let more = length-append bytes c.args.piece.now in
-    ended-fault c.args.piece.now given clean (omega (arith, room, more)) _ (c.in-Err.ensures.progress start bytes (omega arith) p)
+    ended-fault c.args.piece.now given clean (omega (arith, room, more)) _
+    (c.in-Err.ensures.progress start bytes (omega arith) p)

@@ -1,6 +1,6 @@
 use Rattle.std.proofs.Common.{[], ◌∷◌, ◌++◌, ◌+◌, Some, take, drop, refl, append-nil, sym, subst}
 use Rattle.std.proofs.lemmas.Result.{err_from_is_err_and}
-use Rattle.mm_model.specs.Trace.{complete_lines}
+use Rattle.mm_model.specs.Logs.Trace.{complete_lines}
 use Rattle.mmgc.specs.Keeping.{keeps-same, keeps-trans}
 use Rattle.mmgc.specs.Logging.{kept_by, moment_of}
 use Rattle.mmgc.specs.Replaying.{Progress, Stopped}

@@ -1,6 +1,6 @@
 -- That a trace of bytes that are known has no fault is a matter of computing.
 use Rattle.std.proofs.Common.{sym, subst, refl, codes, arith}
-use Rattle.mm_model.specs.Trace.{line_reading, words_reading}
+use Rattle.mm_model.specs.Logs.Trace.{line_reading, words_reading}
 use Rattle.mmgc.specs.Completing.{IsTrace}
 use Rattle.mmgc.proofs.tests.faults.without_faults_a_trace_is_carried_out_whole.Goals as goal
 

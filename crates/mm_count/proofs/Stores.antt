@@ -1,0 +1,4 @@
+pub mod Changes
+pub mod Lowering
+pub mod Stored
+pub mod Writing

@@ -1,0 +1,9 @@
+pub mod AreaDrops
+pub mod AreaPuts
+pub mod AreaReads
+pub mod AreaStores
+pub mod CountedCells
+pub mod LoweredCells
+pub mod OutsideWords
+pub mod Replaced
+pub mod WordCounts

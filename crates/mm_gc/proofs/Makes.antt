@@ -1,0 +1,10 @@
+pub mod Asking
+pub mod AskingWeak
+pub mod Births
+pub mod Made
+pub mod MadeAreas
+pub mod MadeObjects
+pub mod MadeWeak
+pub mod Reaching
+pub mod Searching
+pub mod Shapes

@@ -1,0 +1,6 @@
+pub mod AreaStores
+pub mod CountedStores
+pub mod CountedWords
+pub mod Shading
+pub mod Sticking
+pub mod Stores

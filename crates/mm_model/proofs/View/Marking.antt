@@ -1,0 +1,10 @@
+pub mod Barrier
+pub mod Graying
+pub mod MarkedSets
+pub mod Parts
+pub mod Phases
+pub mod Protecting
+pub mod Reapable
+pub mod Releases
+pub mod Scanning
+pub mod Sets

@@ -1,0 +1,5 @@
+pub mod Limits
+pub mod Lowest
+pub mod Place
+pub mod Search
+pub mod SizeClass

@@ -1,0 +1,5 @@
+pub mod Marking
+pub mod Protected
+pub mod Reached
+pub mod Reapable
+pub mod Scan

@@ -1,0 +1,11 @@
+pub mod ByBase
+pub mod GoodView
+pub mod ObjectView
+pub mod SetsByBase
+pub mod View
+pub mod ViewEffect
+pub mod ViewPhase
+pub mod ViewStep
+pub mod ViewStore
+pub mod ViewTests
+pub mod ViewWords
