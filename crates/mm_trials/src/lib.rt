@@ -11,6 +11,8 @@ mod headers;
 #[cfg(test)]
 mod lines;
 #[cfg(test)]
+mod long_paths;
+#[cfg(test)]
 mod paths;
 #[cfg(test)]
 mod places;

@@ -5,13 +5,13 @@ use Rattle.std.proofs.Common.{inr, arith}
 use Rattle.std.specs.Prelude.{IfSome, ◌⊎◌}
 use Rattle.mm_model.specs.Logs.Trace.{lines_of, FaultAt}
 use Rattle.mm_gc.specs.Gc.{Gc}
-use Rattle.mm_model.specs.declared.settings.Settings.{Settings}
+use Rattle.mmgc.specs.Added.{Task}
 use Rattle.mm_io.specs.Faults.{Rose}
 use Rattle.mm_io.specs.Told.{Gives}
 use Rattle.mmgc.specs.Replaying.{reading_of, most_bytes}
 use Rattle.mmgc.specs.Completing.{IsTrace, IsWholeInput, IsUnhindered, IsComplete}
 use Rattle.mmgc.specs.Run.{Input, Output, NothingLeft, lines_seen, IsWritten, Replayed}
-use Rattle.mmgc.specs.Program.{Traffic, Serves, Ran, status_of}
+use Rattle.mmgc.specs.Program.{Traffic, Serves, Ran, status_of, task_of}
 use Rattle.clap.specs.Words.{takes}
 use Rattle.mmgc.specs.Words.{Choice, choice_of, choice_read, mmgc_app}
 use Rattle.mmgc.specs.declared.program.Outcome.{Outcome}
@@ -66,9 +66,9 @@ same_choice words read choice r of =
     read_by_values (takes mmgc_app (codes "mmgc" ∷ words)) (choice_of words) read choice r of
 
 -- Each end but that of a whole input needs what an unhindered replay doesn't have.
-module _ (settings : Settings) (input : Input) (output : Output) (heap : Gc)
+module _ (task : Task) (input : Input) (output : Output) (heap : Gc)
     (trace : IfSome input.left IsTrace) (told : IsSome input.left_after) where
-  ends_whole : (end : End) → Replayed end settings input output heap
+  ends_whole : (end : End) → Replayed end task input output heap
       → (Rose input.faults input.faults_after → ⊥) → (Rose output.faults output.faults_after → ⊥) → status_of end ≡ 0
   ends_whole Whole r reads writes = refl
   ends_whole (Fault line fault) r reads writes =
@@ -107,7 +107,7 @@ module _ (words : List (List ℕ)) (traffic : Traffic) (outcome : Outcome) (says
       absurd (input.reads fails.cause)
   serves_complete choice of (inr (inr (inl r))) u =
       let input = input_of u choice (same_choice words u.choice choice u.readable of) r.replays in
-      inl (r.status ∙ ends_whole choice.settings (record traffic.input { left = r.bytes }) traffic.output r.heap
+      inl (r.status ∙ ends_whole (task_of choice) (record traffic.input { left = r.bytes }) traffic.output r.heap
       (input.trace r.bytes r.input) input.told r.end r.replayed input.reads u.writes)
   serves_complete choice of (inr (inr (inr r))) u =
       inl (r.status ∙ generated_whole r.end traffic.output _ u.writes r.generated.ends.end_is r.generated.ends.written)

@@ -6,7 +6,9 @@ use mathlib.Core.Path.{subst₂}
 use Rattle.mm_model.specs.declared.line.Line.{Line}
 use Rattle.mm_model.specs.declared.line.Line.TheVariants as lines
 use Rattle.mm_model.specs.declared.line.Totals.{Totals}
-use Rattle.mm_model.specs.State.{State}
+use Rattle.mm_model.specs.State.{State, totals_of}
+use Rattle.mm_model.specs.Views.View.{Shows}
+use Rattle.std.proofs.lemmas.List.{length_push}
 use Rattle.mm_model.specs.Logs.Journal.{Writes}
 use Rattle.mm_model.specs.Logs.Spelling.{spelling, spelling_of}
 use Rattle.mm_model.specs.Logs.Trace.{lines_of, complete_lines, FaultAt}
@@ -14,10 +16,13 @@ use Rattle.mm_model.proofs.Text.Journals.{writes-append}
 use Rattle.mm_io.specs.Faults.{Rose}
 use Rattle.mm_io.specs.Told.{Appends, Gives}
 use Rattle.mm_io.proofs.ToldLemmas.{Gives-append}
-use Rattle.mm_gc.specs.Gc.{Gc, totals_in}
+use Rattle.mm_gc.specs.Gc.{Gc, totals_in, view_of_gc}
 use Rattle.mm_gc.specs.Rows.{Kept}
+use Rattle.mmgc.specs.declared.extras.Extras.{Extras}
+use Rattle.mmgc.specs.Added.{IsAddedText, IsFollowed, with_total}
+use Rattle.mmgc.specs.Appending.{Appended}
 use Rattle.mmgc.specs.Writing.{kept_bytes, Grows}
-use Rattle.mmgc.specs.Replaying.{reading_of, most_bytes, Grew, GrewSince, Start, Moment, Stopped, Progress}
+use Rattle.mmgc.specs.Replaying.{reading_of, most_bytes, Grew, GrewSince, Start, task_since, Moment, Stopped, Progress}
 use Rattle.mmgc.specs.Run.{Input, Output, Reach, lines_in, NothingLeft, HasCause, IsFaultOf, IsLogOf, IsPassedOn}
 use Rattle.mmgc.specs.Run.{IsWritten}
 use Rattle.mmgc.specs.Run.{IsWithinTrace, Replayed, Ended, Logged}
@@ -183,26 +188,56 @@ ended-since {end} {bytes = bytes} {input = input} left faults given e ended =
       stopped = ended.stopped;
     }
 
+-- one line more makes another log
+longer : (xs : List Line) (x : Line) → xs ++ x ∷ [] ≡ xs → ⊥
+longer xs x e = let more = length_push xs x in let same = ap length e in omega (arith, more, same)
+
+-- the added text stands behind the total line, and nothing behind any other log
+followed-whole : (extras : Extras) (groups : List Line) (state : State) (added : List ℕ) →
+    IsAddedText extras state added → IsFollowed extras groups state (with_total groups state) added
+followed-whole extras groups state added is =
+    record {
+      behind_total = λ e. is;
+      else_none = λ e. absurd (longer groups (lines.Total (totals_of state)) e);
+    }
+
+followed-other : (extras : Extras) (groups : List Line) (state : State) →
+    IsFollowed extras groups state groups []
+followed-other extras groups state =
+    record {
+      behind_total = λ e. absurd (longer groups (lines.Total (totals_of state)) (sym e));
+      else_none = λ e. refl;
+    }
+
 -- the total line makes a legal log whole
-pub logged-whole : {start : Start} (reach : Reach) {heap : Gc} {kept after : Kept} (totals : Totals) →
+pub logged-whole : {start : Start} (reach : Reach) {heap : Gc} {kept between after : Kept} (totals : Totals) →
     Stopped start (lines_in reach) None heap kept → totals ≡ totals_in heap →
-    Grew kept after (spelling (lines.Total totals)) →
+    Grew kept between (spelling (lines.Total totals)) →
+    ((a : State) → Shows (view_of_gc heap) a → Appended (IsAddedText start.extras a) between after) →
     Logged Whole start reach heap after
-logged-whole {start} reach {after = after} totals s t w =
+logged-whole {start} reach {between = between} {after = after} totals s t w adds =
     let line = lines.Total totals in
+    let state = s.carried.state in
+    let added = adds state s.carried.shows in
+    let total : s.log ++ line ∷ [] ≡ with_total s.log state =
+    ap (λ (x : Totals). s.log ++ lines.Total x ∷ []) (t ∙ s.carried.shows.totals) in
     let text : spelling_of s.log ++ spelling line ≡ spelling_of (s.log ++ line ∷ []) =
     ap (λ x. spelling_of s.log ++ x) (sym (append-nil (spelling line)))
     ∙ sym (spelling_of-append s.log (line ∷ [])) in
     record {
       groups = s.log;
-      state = s.carried.state;
+      state = state;
       legal = s.carried.legal;
       good = s.carried.good;
       shows = s.carried.shows;
       log = s.log ++ line ∷ [];
-      log_is = ap (λ (x : Totals). s.log ++ lines.Total x ∷ []) (t ∙ s.carried.shows.totals);
-      written = subst (GrewSince start after) text
-          (writes-append (spelling_of s.log) (spelling line) s.written w);
+      log_is = total;
+      added = added.text;
+      follows = subst (λ log. IsFollowed start.extras s.log state log added.text) (sym total)
+          (followed-whole start.extras s.log state added.text added.is);
+      written = writes-append (spelling_of (s.log ++ line ∷ [])) added.text
+          (subst (GrewSince start between) text
+          (writes-append (spelling_of s.log) (spelling line) s.written w)) added.written;
     }
 
 -- the lines of the commands are the log of every other end
@@ -217,7 +252,7 @@ log_is-other TooLong reach groups state other = refl
 pub logged-other : (end : End) {start : Start} (reach : Reach) {fault : Option FaultAt} {heap : Gc} {kept : Kept} →
     (end ≡ Whole → ⊥) → Stopped start (lines_in reach) fault heap kept →
     Logged end start reach heap kept
-logged-other end {start} reach other s =
+logged-other end {start} reach {kept = kept} other s =
     record {
       groups = s.log;
       state = s.carried.state;
@@ -226,7 +261,9 @@ logged-other end {start} reach other s =
       shows = s.carried.shows;
       log = s.log;
       log_is = log_is-other end reach s.log s.carried.state other;
-      written = s.written;
+      added = [];
+      follows = followed-other start.extras s.log s.carried.state;
+      written = subst (GrewSince start kept) (sym (append-nil (spelling_of s.log))) s.written;
     }
 
 -- a journal that writes nothing more
@@ -241,8 +278,10 @@ logged-written_out {start = start} {after = after} l w =
       shows = l.shows;
       log = l.log;
       log_is = l.log_is;
-      written = subst (GrewSince start after) (append-nil (spelling_of l.log))
-          (writes-append (spelling_of l.log) [] l.written w);
+      added = l.added;
+      follows = l.follows;
+      written = subst (GrewSince start after) (append-nil (spelling_of l.log ++ l.added))
+          (writes-append (spelling_of l.log ++ l.added) [] l.written w);
     }
 
 -- the log of any end is one that a failed write may have cut short
@@ -294,9 +333,9 @@ module _ {end : End} {start : Start} {input : Input} {now : Moment} (output : Ou
   pub replayed : (broken : Bool) (pending : List ℕ) (result : End) → result ≡ cond broken WriteFailed end →
       (end ≡ WriteFailed → IsTrue broken) → Finished output start.kept broken pending →
       Logged end start ended.reach heap (kept_at output.taken_after broken pending) →
-      Replayed result start.settings input output heap
+      Replayed result (task_since start) input output heap
   replayed false pending result is still f l =
-      subst (λ r. Replayed r start.settings input output heap) (sym is) (record {
+      subst (λ r. Replayed r (task_since start) input output heap) (sym is) (record {
         reach = ended.reach;
         within = ended.within;
         given = given_all;
@@ -310,13 +349,15 @@ module _ {end : End} {start : Start} {input : Input} {now : Moment} (output : Ou
         shows = l.shows;
         log = l.log;
         log_is = l.log_is;
-        written = all_written end output (spelling_of l.log) (λ e. let lost = still e in cc lost) (f.clean refl)
-            (all_taken output.taken output.taken_after (spelling_of l.log)
-            (subst₂ (λ x y. Writes x false y false (spelling_of l.log)) f.started
+        added = l.added;
+        follows = l.follows;
+        written = all_written end output (spelling_of l.log ++ l.added) (λ e. let lost = still e in cc lost)
+            (f.clean refl) (all_taken output.taken output.taken_after (spelling_of l.log ++ l.added)
+            (subst₂ (λ x y. Writes x false y false (spelling_of l.log ++ l.added)) f.started
             (ap (kept_bytes output.taken_after false) (f.nothing_pending refl)) l.written)) (f.passed refl);
       })
   replayed true pending result is still f l =
-      subst (λ r. Replayed r start.settings input output heap) (sym is) (record {
+      subst (λ r. Replayed r (task_since start) input output heap) (sym is) (record {
         reach = ended.reach;
         within = ended.within;
         given = given_all;
@@ -330,10 +371,13 @@ module _ {end : End} {start : Start} {input : Input} {now : Moment} (output : Ou
         shows = l.shows;
         log = l.log;
         log_is = cut_short end ended.reach input l.groups l.state l.log ended.cause fault_is l.log_is;
+        added = l.added;
+        follows = l.follows;
         written = (
           f.cause refl,
-          broken_front output.taken output.taken_after pending (spelling_of l.log)
-              (subst (λ x. Writes x false (kept_bytes output.taken_after true pending) true (spelling_of l.log))
+          broken_front output.taken output.taken_after pending (spelling_of l.log ++ l.added)
+              (subst
+              (λ x. Writes x false (kept_bytes output.taken_after true pending) true (spelling_of l.log ++ l.added))
               f.started l.written) f.grows,
         );
       })

@@ -34,6 +34,7 @@ none_generated settings heap new =
         legal = (refl, refl);
         good = empty_is_good settings new.limits.growing;
         shows = new.shows;
+        settings_stay = refl;
         counted = refl;
         births = omega arith;
       };

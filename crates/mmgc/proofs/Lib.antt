@@ -1,3 +1,4 @@
+pub mod AddedLines
 pub mod Completing
 pub mod Ends
 pub mod Examples

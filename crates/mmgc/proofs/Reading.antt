@@ -7,8 +7,9 @@ use Rattle.mmgc.specs.Words.{Choice, Values, mmgc_app}
 
 -- values that are the same one by one
 pub values_same : {v w : Values} → v.pages ≡ w.pages → v.max ≡ w.max → v.zct ≡ w.zct → v.queue ≡ w.queue →
-    v.stack ≡ w.stack → v.generated ≡ w.generated → v.count ≡ w.count → v.file ≡ w.file → v ≡ w
-values_same p m z q s g n f =
+    v.stack ≡ w.stack → v.generated ≡ w.generated → v.count ≡ w.count → v.why ≡ w.why →
+    v.file ≡ w.file → v ≡ w
+values_same p m z q s g n y f =
     λ i. record {
       pages = p i;
       max = m i;
@@ -17,6 +18,7 @@ values_same p m z q s g n f =
       stack = s i;
       generated = g i;
       count = n i;
+      why = y i;
       file = f i;
     }
 

@@ -35,8 +35,9 @@ use Rattle.mm_trace.specs.Lines.{IsWithinLine}
 use Rattle.mm_gc.specs.Gc.{Gc, view_of_gc, totals_in}
 use Rattle.mm_gc.specs.Rows.{IsStepOf, Executes, Kept}
 use Rattle.mm_model.specs.declared.settings.Settings.{Settings}
+use Rattle.mmgc.specs.declared.extras.Extras.{Extras}
 use Rattle.mmgc.specs.Replaying.{reading_of, CarriedOut, Stopped, Progress, DoesLine, CarriesOut, GoesOn, IsUnderWay}
-use Rattle.mmgc.specs.Replaying.{most_bytes, Grew, GrewSince, Start, Moment, IsNew}
+use Rattle.mmgc.specs.Replaying.{most_bytes, Grew, GrewSince, Start, start_with, Moment, IsNew}
 use Rattle.mmgc.proofs.StepNumbers.{step_counts_one}
 
 -- one log after another
@@ -96,6 +97,7 @@ carried_out-push {settings} {commands} {log} {command = command} {group = group}
           (after c.state command group) c.legal s.step;
       good = s.good;
       shows = s.shows;
+      settings_stay = few.settings ∙ c.settings_stay;
       counted = omega (arith, more, few.commands, c.counted);
       births = omega (arith, more, few.births, c.births);
     }
@@ -460,11 +462,11 @@ progress-written_out p w =
     }
 
 -- nothing was read yet
-pub progress-none : (settings : Settings) (heap : Gc) (kept : Option (List ℕ)) →
+pub progress-none : (settings : Settings) (extras : Extras) (heap : Gc) (kept : Option (List ℕ)) →
     IsNew settings heap →
-    Progress (record { settings = settings; kept = kept }) []
+    Progress (record { settings = settings; extras = extras; kept = kept }) []
     (record { heap = heap; held = []; lines = 0; kept = record { bytes = kept; broken = false } })
-progress-none settings heap kept shows =
+progress-none settings extras heap kept shows =
     record {
       done = [];
       whole = refl;
@@ -480,6 +482,7 @@ progress-none settings heap kept shows =
           legal = (refl, refl);
           good = empty_is_good settings shows.limits.growing;
           shows = shows.shows;
+          settings_stay = refl;
           counted = refl;
           births = omega arith;
         };
@@ -488,11 +491,10 @@ progress-none settings heap kept shows =
     }
 
 -- the same, in the words of what was made
-pub progress-began : (settings : Settings) (heap : Gc) (held : List ℕ) (lines : ℕ) (kept : Kept) →
+pub progress-began : (settings : Settings) (extras : Extras) (kept : Kept) {heap : Gc} {held : List ℕ} {lines : ℕ} →
     held ≡ [] → lines ≡ 0 → kept.broken ≡ false → IsNew settings heap →
-    Progress (record { settings = settings; kept = kept.bytes }) []
-    (record { heap = heap; held = held; lines = lines; kept = kept })
-progress-began settings heap held lines kept h n whole shows =
-    subst₃ (λ h n b. Progress (record { settings = settings; kept = kept.bytes }) []
+    Progress (start_with settings extras kept) [] (record { heap = heap; held = held; lines = lines; kept = kept })
+progress-began settings extras kept {heap} {held} {lines} h n whole shows =
+    subst₃ (λ h n b. Progress (start_with settings extras kept) []
     (record { heap = heap; held = h; lines = n; kept = record { bytes = kept.bytes; broken = b } }))
-    (sym h) (sym n) (sym whole) (progress-none settings heap kept.bytes shows)
+    (sym h) (sym n) (sym whole) (progress-none settings extras heap kept.bytes shows)

@@ -4,13 +4,15 @@ use Rattle.std.proofs.Common.{inr}
 use Rattle.mm_model.specs.declared.settings.Settings.{Settings}
 use Rattle.mm_io.specs.Told.{NamedFile}
 use Rattle.mmgc.specs.declared.generator.GeneratedTrace.{GeneratedTrace}
+use Rattle.mmgc.specs.declared.extras.Extras.{Extras}
 use Rattle.mmgc.specs.declared.program.Outcome.{Outcome}
+use Rattle.mmgc.specs.Added.{Task}
 use Rattle.mmgc.specs.Program.{Traffic, IsInput, Serves}
 use Rattle.mmgc.specs.Words.{Choice}
 
 -- a trace that is read
-abbrev pub a_replay : Settings → Option (List ℕ) → Choice
-a_replay settings file = record { settings = settings; file = file; generated = None }
+abbrev pub a_replay : Task → Option (List ℕ) → Choice
+a_replay task file = record { settings = task.settings; file = file; generated = None; extras = task.extras }
 
 -- what stays as it was, or as it was opened, is the input that was opened
 opened_stays : (file : Option (List ℕ)) (named : Option NamedFile) (left opened after : Option (List ℕ)) →
@@ -29,12 +31,12 @@ asked_name None some = cc some
 asked_name (Some name) some = refl
 
 -- what came of a source that turned to the file that was asked for
-serves_there : (settings : Settings) (file : Option (List ℕ)) (named : Option NamedFile) (left : Option (List ℕ))
+serves_there : (task : Task) (file : Option (List ℕ)) (named : Option NamedFile) (left : Option (List ℕ))
     (traffic : Traffic) (outcome : Outcome) (says : List ℕ → Type 0) →
     IsInput file named left traffic.input.left →
-    Serves (a_replay settings None) traffic outcome says →
-    Serves (a_replay settings file) (from_source named left traffic.input.faults traffic) outcome says
-serves_there settings file named left traffic outcome says i (inl lacks) =
+    Serves (a_replay task None) traffic outcome says →
+    Serves (a_replay task file) (from_source named left traffic.input.faults traffic) outcome says
+serves_there task file named left traffic outcome says i (inl lacks) =
     inl (record {
       status = lacks.status;
       no_heap = lacks.no_heap;
@@ -42,9 +44,9 @@ serves_there settings file named left traffic outcome says i (inl lacks) =
       unread = inr (opened_stays file named left traffic.input.left traffic.input.left_after i lacks.unread);
       unwritten = lacks.unwritten;
     })
-serves_there settings file named left traffic outcome says i (inr (inl fails)) = let none = fails.asked in cc none
-serves_there settings file named left traffic outcome says i (inr (inr (inr g))) = let none = g.generates in cc none
-serves_there settings file named left traffic outcome says i (inr (inr (inl r))) =
+serves_there task file named left traffic outcome says i (inr (inl fails)) = let none = fails.asked in cc none
+serves_there task file named left traffic outcome says i (inr (inr (inr g))) = let none = g.generates in cc none
+serves_there task file named left traffic outcome says i (inr (inr (inl r))) =
     inr (inr (inl (record {
       replays = refl;
       end = r.end;
@@ -58,21 +60,23 @@ serves_there settings file named left traffic outcome says i (inr (inr (inl r)))
       faithful = r.faithful;
     })))
 
-pub serves-opened : (settings : Settings) (file : Option (List ℕ)) (named : Option NamedFile)
+pub serves-opened : (task : Task) (file : Option (List ℕ)) (named : Option NamedFile)
     (left : Option (List ℕ)) (faults : ℕ) (traffic : Traffic) (outcome : Outcome) (says : List ℕ → Type 0) →
     traffic.named ≡ named → IsInput file named left traffic.input.left → traffic.input.faults ≡ faults →
-    Serves (a_replay settings None) traffic outcome says →
-    Serves (a_replay settings file) (from_source named left faults traffic) outcome says
-serves-opened settings file named left faults traffic outcome says n i f served =
-    subst (λ faults. Serves (a_replay settings file) (from_source named left faults traffic)
-    outcome says) f (serves_there settings file named left traffic outcome says i served)
+    Serves (a_replay task None) traffic outcome says →
+    Serves (a_replay task file) (from_source named left faults traffic) outcome says
+serves-opened task file named left faults traffic outcome says n i f served =
+    subst (λ faults. Serves (a_replay task file) (from_source named left faults traffic)
+    outcome says) f (serves_there task file named left traffic outcome says i served)
 
 -- what is asked for, by another name
-pub serves-asked : (settings : Settings) (file : Option (List ℕ)) (asked generated : Option GeneratedTrace)
-    (traffic : Traffic) (outcome : Outcome) (says : List ℕ → Type 0) → asked ≡ generated →
-    Serves (record { settings = settings; file = file; generated = generated }) traffic outcome says →
-    Serves (record { settings = settings; file = file; generated = asked }) traffic outcome says
-serves-asked settings file asked generated traffic outcome says is served =
+pub serves-asked : (settings : Settings) (file : Option (List ℕ)) (extras : Extras)
+    (asked generated : Option GeneratedTrace) (traffic : Traffic) (outcome : Outcome) (says : List ℕ → Type 0) →
+    asked ≡ generated →
+    Serves (record { settings = settings; file = file; generated = generated; extras = extras }) traffic outcome says →
+    Serves (record { settings = settings; file = file; generated = asked; extras = extras }) traffic outcome says
+serves-asked settings file extras asked generated traffic outcome says is served =
     subst
-    (λ generated. Serves (record { settings = settings; file = file; generated = generated }) traffic outcome says)
+    (λ generated. Serves (record { settings = settings; file = file; generated = generated; extras = extras }) traffic
+    outcome says)
     (sym is) served

@@ -1,4 +1,4 @@
--- A step counts one command and bears at most one object.
+-- A step counts one command, bears at most one object, and keeps the settings.
 use Rattle.std.proofs.Common.{◌≡◌, ℕ, ◌+◌, ◌≤◌, Bool, true, false, List, [], ◌∷◌, length, Option, Some, None, refl, sym}
 use Rattle.std.proofs.Common.{ap, ◌∙◌, subst, arith}
 use Rattle.std.proofs.lemmas.List.{length_push, length-map, length-set}
@@ -28,46 +28,53 @@ use Rattle.mm_model.proofs.Good.Numbers.{BearsFew, bears_few-new, bears_few-plai
 record HasSame (a b : State) : Type 0 where
   births : length b.objects ≡ length a.objects
   commands : b.commands ≡ a.commands
+  settings : b.settings ≡ a.settings
 
 -- at most one more object, and as many commands
 record BearsOne (a b : State) : Type 0 where
   births : length b.objects ≤ length a.objects + 1
   commands : b.commands ≡ a.commands
+  settings : b.settings ≡ a.settings
 
 -- at most one more object, and one more command
 pub record CountsOne (a b : State) : Type 0 where
   pub births : length b.objects ≤ length a.objects + 1
   pub commands : b.commands ≡ a.commands + 1
+  pub settings : b.settings ≡ a.settings
 
 same : (a : State) → HasSame a a
-same a = record { births = refl; commands = refl }
+same a = record { births = refl; commands = refl; settings = refl }
 
 same-then : (a b c : State) → HasSame a b → HasSame b c → HasSame a c
-same-then a b c h k = record { births = k.births ∙ h.births; commands = k.commands ∙ h.commands }
+same-then a b c h k =
+    record { births = k.births ∙ h.births; commands = k.commands ∙ h.commands; settings = k.settings ∙ h.settings }
 
 same-reaped : (dead : List ℕ) (a : State) → HasSame a (reaped dead a)
-same-reaped dead a = record { births = length-map a.objects (after_release a dead); commands = refl }
+same-reaped dead a =
+    record { births = length-map a.objects (after_release a dead); commands = refl; settings = refl }
 
 same-collected : (lost : List ℕ) (a : State) → HasSame a (collected lost a)
-same-collected lost a = record { births = length-map a.objects (after_release a lost); commands = refl }
+same-collected lost a =
+    record { births = length-map a.objects (after_release a lost); commands = refl; settings = refl }
 
 one_of_same : (a b : State) → HasSame a b → BearsOne a b
-one_of_same a b h = let births = h.births in record { births = omega arith; commands = h.commands }
+one_of_same a b h = let births = h.births in
+    record { births = omega arith; commands = h.commands; settings = h.settings }
 
 one_behind : (a b c : State) → HasSame a b → BearsOne b c → BearsOne a c
 one_behind a b c h k =
     let first = h.births in
     let next = k.births in
-    record { births = omega arith; commands = k.commands ∙ h.commands }
+    record { births = omega arith; commands = k.commands ∙ h.commands; settings = k.settings ∙ h.settings }
 
 one_before : (a b c : State) → BearsOne a b → HasSame b c → BearsOne a c
 one_before a b c h k =
     let first = h.births in
     let next = k.births in
-    record { births = omega arith; commands = k.commands ∙ h.commands }
+    record { births = omega arith; commands = k.commands ∙ h.commands; settings = k.settings ∙ h.settings }
 
 one_of_few : (a : State) (effect : Effect) → BearsFew a effect → BearsOne a effect.state
-one_of_few a effect h = record { births = h.births; commands = h.commands }
+one_of_few a effect h = record { births = h.births; commands = h.commands; settings = h.settings }
 
 -- a search frees objects, and no number of a birth is given again
 searched : (a : State) (family : Family) (bytes : ℕ) (log : List Line) (b : State) (found : Option ℕ)
@@ -94,7 +101,7 @@ new_one shape b found = one_of_few b (new_effect b shape found) (bears_few-new b
 area_one : (scanned : Bool) (counted cells : ℕ) (b : State) (found : Option ℕ)
     → BearsOne b (area_effect b scanned counted cells found).state
 area_one scanned counted cells b None = one_of_same b b (same b)
-area_one scanned counted cells b (Some base) = record { births = omega arith; commands = refl }
+area_one scanned counted cells b (Some base) = record { births = omega arith; commands = refl; settings = refl }
 
 one_with_some : {X : Type 0} (found : Option X) (b : State) (effect : X → Effect)
     → ((x : X) → BearsOne b (effect x).state) → BearsOne b (with_some found b effect).state
@@ -107,7 +114,7 @@ weak_made_one b target object base =
     let weak = record (newborn weak_shape base) { partner = Some target } in
     let set = length-set b.objects target linked in
     let more = length_push (with_object target linked b).objects weak in
-    record { births = omega (arith, set, more); commands = refl }
+    record { births = omega (arith, set, more); commands = refl; settings = refl }
 
 weak_one : (target : ℕ) (b : State) (found : Option ℕ) → BearsOne b (weak_effect b target found).state
 weak_one target b None = one_of_same b b (same b)
@@ -124,7 +131,8 @@ makes_weak_one : (a : State) (target : ℕ) (partner : Option ℕ) (log : List L
     → MakesWeak a target partner log effect → BearsOne a effect.state
 makes_weak_one a target (Some weak) log effect m =
     subst (λ (e : Effect). BearsOne a e.state) (sym m.effect_is)
-    (one_with_some (slice_get a.objects weak) a _ (λ object. record { births = omega arith; commands = refl }))
+    (one_with_some (slice_get a.objects weak) a _ (λ object.
+    record { births = omega arith; commands = refl; settings = refl }))
 makes_weak_one a target None log effect m =
     makes_one a Objects (object_bytes 0) (λ b found. weak_effect b target found) log effect (weak_one target) m
 
@@ -132,7 +140,7 @@ scanned_same : (a : State) (births : List ℕ) (log : List Line) (b : State) →
 scanned_same a [] log b m = subst (HasSame a) (sym m.1) (same a)
 scanned_same a (birth ∷ births) log b m =
     let rest = scanned_same (part_done a birth m.0) births m.1 b m.4 in
-    record { births = rest.births; commands = rest.commands }
+    record { births = rest.births; commands = rest.commands; settings = rest.settings }
 
 reaps_same : (a : State) (log : List Line) (b : State) → Reaps a log b → HasSame a b
 reaps_same a log b m = subst (HasSame a) (sym m.state) (same-reaped m.dead a)
@@ -176,7 +184,11 @@ ends_same a full log b (At_threshold is above reaps) = reaps_same a log b reaps
 
 counted_one : (a b c : State) → BearsOne a b → c ≡ one_more_command b → CountsOne a c
 counted_one a b c h is =
-    subst (CountsOne a) (sym is) (record { births = h.births; commands = ap (λ n. n + 1) h.commands })
+    subst (CountsOne a) (sym is) (record {
+      births = h.births;
+      commands = ap (λ n. n + 1) h.commands;
+      settings = h.settings;
+    })
 
 -- a step counts one command and bears at most one object
 pub step_counts_one : (a : State) (command : Command) (group : List Line) (b : State) → IsStep a command group b

@@ -5,7 +5,7 @@ use Rattle.clap.proofs.OnLiterals.{clap_on_literals}
 use Rattle.mm_io.specs.Faults.{Rose}
 use Rattle.mmgc.specs.Program.{Traffic}
 use Rattle.mmgc.specs.Completing.{IsTrace, IsUnhindered}
-use Rattle.mmgc.specs.Words.{Choice, choice_read}
+use Rattle.mmgc.specs.Words.{Choice, choice_read, no_extras}
 
 -- what holds where no word stands
 abbrev pub no_words : Choice
@@ -14,6 +14,7 @@ no_words =
       settings = record { pages = 1024; max = 1024; zct = 256; queue = 256; stack = 1024 };
       file = None;
       generated = None;
+      extras = no_extras;
     }
 
 pub no_words-read : choice_read [] ≡ Some no_words

@@ -1,3 +1,5 @@
+pub mod Added
+pub mod Appending
 pub mod Completing
 pub mod Generating
 pub mod Generator

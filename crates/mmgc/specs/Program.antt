@@ -7,6 +7,7 @@ use Rattle.mm_gc.specs.Gc.{Gc}
 use Rattle.mmgc.specs.declared.program.Outcome.{Outcome}
 use Rattle.mmgc.specs.declared.replay.End.{End}
 use Rattle.mmgc.specs.declared.replay.End.TheVariants.{Whole, Fault, ReadFailed, WriteFailed, TooLong}
+use Rattle.mmgc.specs.Added.{Task}
 use Rattle.mmgc.specs.Run.{Input, IsPassedOn, Output, Replayed, commands_in}
 use Rattle.mmgc.specs.declared.generator.GeneratedTrace.{GeneratedTrace}
 use Rattle.mmgc.specs.Generator.{commands_of}
@@ -68,6 +69,10 @@ pub record FailsToOpen (choice : Choice) (traffic : Traffic) (outcome : Outcome)
   pub unread : traffic.input.left_after ≡ traffic.input.left
   pub ends : EndsUnwritten end traffic.output
 
+-- what a choice asks of the replay of a trace
+abbrev pub task_of : Choice → Task
+task_of choice = record { settings = choice.settings; extras = choice.extras }
+
 -- The input was replayed to this end, on the heap that is handed back. The lines of the commands that were carried out
 -- are legal and keep what is promised of logs.
 pub record Replays (choice : Choice) (traffic : Traffic) (outcome : Outcome) (says : List ℕ → Type 0) : Type 0 where
@@ -79,7 +84,7 @@ pub record Replays (choice : Choice) (traffic : Traffic) (outcome : Outcome) (sa
   pub status : outcome.status ≡ status_of end
   pub heap_back : outcome.heap ≡ Some heap
   pub text : says (end_text end)
-  pub replayed : Replayed end choice.settings (record traffic.input { left = bytes }) traffic.output heap
+  pub replayed : Replayed end (task_of choice) (record traffic.input { left = bytes }) traffic.output heap
   pub faithful : IsFaithful choice.settings (commands_in replayed.reach) replayed.groups
 
 -- nothing was read, and no fault was counted there

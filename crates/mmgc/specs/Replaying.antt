@@ -18,6 +18,8 @@ use Rattle.mm_model.specs.Logs.Trace.{line_reading, reading_from, Reading, Fault
 use Rattle.mm_trace.specs.Lines.{IsWithinLine}
 use Rattle.mm_gc.specs.Gc.{Gc, view_of_gc}
 use Rattle.mm_gc.specs.Rows.{IsStepOf, Kept}
+use Rattle.mmgc.specs.declared.extras.Extras.{Extras}
+use Rattle.mmgc.specs.Added.{Task}
 
 -- what these lines say, from line 1 on
 abbrev pub reading_of : List (List ℕ) → Reading
@@ -31,10 +33,19 @@ most_bytes = 2 ^ 32 - 1
 abbrev pub Grew : Kept → Kept → List ℕ → Type 0
 Grew before after bytes = Writes before.bytes before.broken after.bytes after.broken bytes
 
--- where a replay began: the settings of its heap, and what its journal kept, which was whole
+-- where a replay began: the settings of its heap, what is to stand behind its log, and what its journal kept, which was
+-- whole
 pub record Start : Type 0 where
   pub settings : Settings
+  pub extras : Extras
   pub kept : Option (List ℕ)
+
+abbrev pub start_with : Settings → Extras → Kept → Start
+start_with settings extras kept = record { settings = settings; extras = extras; kept = kept.bytes }
+
+-- what was asked for as it began
+abbrev pub task_since : Start → Task
+task_since start = record { settings = start.settings; extras = start.extras }
 
 -- the journal was given these bytes since the replay began
 abbrev pub GrewSince : Start → Kept → List ℕ → Type 0
@@ -58,6 +69,7 @@ pub record CarriedOut (settings : Settings) (commands : List Command) (log : Lis
   pub legal : IsLegal IsStep settings commands log state
   pub good : IsGood state
   pub shows : Shows (view_of_gc heap) state
+  pub settings_stay : state.settings ≡ settings
   pub counted : state.commands ≡ length commands
   pub births : length state.objects ≤ length commands
 

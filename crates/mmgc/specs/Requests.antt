@@ -12,6 +12,7 @@ asked_by request =
       settings = request.settings;
       file = option_map (λ name. name.now) request.file;
       generated = request.generated;
+      extras = request.extras;
     }
 
 -- the heap can have the settings, and not too many commands are asked for
@@ -29,5 +30,6 @@ values_by given =
       stack = option_map (λ text. text.now) given.stack;
       generated = option_map (λ text. text.now) given.generated;
       count = option_map (λ text. text.now) given.count;
+      why = option_map (λ text. text.now) given.why;
       file = option_map (λ text. text.now) given.file;
     }

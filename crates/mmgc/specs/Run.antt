@@ -3,9 +3,7 @@ use Rattle.std.specs.Prelude.{◌≡◌, ℕ, ◌<◌, ◌≤◌, Bool, true, fa
 use Rattle.std.specs.Prelude.{Some, None, IfSome, Result, Ok, Err, ⊤}
 use Rattle.mm_model.specs.declared.command.Command.{Command}
 use Rattle.mm_model.specs.declared.line.Line.{Line}
-use Rattle.mm_model.specs.declared.line.Line.TheVariants as lines
-use Rattle.mm_model.specs.declared.settings.Settings.{Settings}
-use Rattle.mm_model.specs.State.{State, totals_of}
+use Rattle.mm_model.specs.State.{State}
 use Rattle.mm_model.specs.Good.{IsGood}
 use Rattle.mm_model.specs.Logs.Log.{IsLegal}
 use Rattle.mm_model.specs.Step.{IsStep}
@@ -16,6 +14,7 @@ use Rattle.mm_io.specs.Faults.{Rose}
 use Rattle.mm_io.specs.Told.{Appends, AppendsFront, Gives}
 use Rattle.mm_gc.specs.Gc.{Gc, view_of_gc}
 use Rattle.mm_gc.specs.Rows.{Kept}
+use Rattle.mmgc.specs.Added.{Task, with_total, IsFollowed}
 use Rattle.mmgc.specs.Replaying.{reading_of, most_bytes, Start, GrewSince, Moment, Stopped, Progress}
 use Rattle.mmgc.specs.declared.replay.End.{End}
 use Rattle.mmgc.specs.declared.replay.End.TheVariants.{Whole, Fault, ReadFailed, WriteFailed, TooLong}
@@ -91,10 +90,6 @@ IsFaultOf (Fault line fault) found = found ≡ Some (record { line = line; fault
 IsFaultOf WriteFailed found = ⊤
 IsFaultOf _ found = found ≡ None
 
--- the lines of the commands, followed by the totals of the state after them
-abbrev pub with_total : List Line → State → List Line
-with_total groups state = groups ++ lines.Total (totals_of state) ∷ []
-
 -- The log of an end, by the lines of its commands: a total line follows them where all was carried out, and else none.
 -- Where a write failed, it was meant to follow only if the input was read to its end and has no fault.
 abbrev pub IsLogOf : End → Reach → List Line → State → List Line → Type 0
@@ -116,7 +111,7 @@ IsWritten _ output text =
     (output.faults_after ≡ output.faults) × Appends output.taken output.taken_after text × IsPassedOn output
 
 -- How a replay ended, by what the source gave, what the sink took, and what the heap shows.
-pub record Replayed (end : End) (settings : Settings) (input : Input) (output : Output) (heap : Gc) : Type 0 where
+pub record Replayed (end : End) (task : Task) (input : Input) (output : Output) (heap : Gc) : Type 0 where
   pub reach : Reach
   pub within : IsWithinTrace reach
   pub given : Gives input.left input.left_after (reach.read ++ reach.over)
@@ -126,12 +121,15 @@ pub record Replayed (end : End) (settings : Settings) (input : Input) (output : 
   -- the lines of the commands, and the state after them
   pub groups : List Line
   pub state : State
-  pub legal : IsLegal IsStep settings (commands_in reach) groups state
+  pub legal : IsLegal IsStep task.settings (commands_in reach) groups state
   pub good : IsGood state
   pub shows : Shows (view_of_gc heap) state
   pub log : List Line
   pub log_is : IsLogOf end reach groups state log
-  pub written : IsWritten end output (spelling_of log)
+  -- what stands behind the log
+  pub added : List ℕ
+  pub follows : IsFollowed task.extras groups state log added
+  pub written : IsWritten end output (spelling_of log ++ added)
 
 -- A replay that had taken these bytes came to its end with the next piece, or with none.
 pub record Ended (end : End) (start : Start) (bytes : List ℕ) (input : Input) (now : Moment) : Type 0 where
@@ -170,4 +168,6 @@ pub record Logged (end : End) (start : Start) (reach : Reach) (heap : Gc) (kept 
   pub shows : Shows (view_of_gc heap) state
   pub log : List Line
   pub log_is : IsLogOf end reach groups state log
-  pub written : GrewSince start kept (spelling_of log)
+  pub added : List ℕ
+  pub follows : IsFollowed start.extras groups state log added
+  pub written : GrewSince start kept (spelling_of log ++ added)

@@ -1,22 +1,24 @@
 -- What the words behind the program's name ask for.
 use Rattle.std.specs.Prelude.{◌&&◌, ℕ, ◌-◌, ◌^◌, true, if◌then◌else◌, nat_le, List, ◌∷◌, Option, None, Some, Result, Ok}
 use Rattle.std.specs.Prelude.{Err, codes}
-use Rattle.std.specs.Prelude.{option_and_then}
+use Rattle.std.specs.Prelude.{option_and_then, option_map}
 use Rattle.std.specs.Str.{bytes_eq}
 use Rattle.clap.specs.Words.{App, Row, Rule, Text, first_of, matches_of, new_app, new_rule, takes, with_rule}
 use Rattle.clap.specs.Simple.{on_top}
 use Rattle.mm_model.specs.declared.refusal.LineFault.{LineFault}
 use Rattle.mm_model.specs.declared.settings.Settings.{Settings}
 use Rattle.mm_model.specs.Logs.Trace.{number_of}
+use Rattle.mmgc.specs.declared.extras.Extras.{Extras}
 use Rattle.mmgc.specs.declared.generator.GeneratedTrace.{GeneratedTrace}
 use Rattle.mmgc.specs.Generator.{most_generated}
 
--- The settings of the heap, the file to read, where one is named, and the generated trace that takes the place of the
--- input, where one is asked for.
+-- The settings of the heap, the file to read, where one is named, the generated trace that takes the place of the
+-- input, where one is asked for, and what is to stand behind the log.
 pub record Choice : Type 0 where
   pub settings : Settings
   pub file : Option (List ℕ)
   pub generated : Option GeneratedTrace
+  pub extras : Extras
 
 -- an option with one value
 abbrev pub option_rule : Text → Rule
@@ -38,7 +40,8 @@ settings_app =
 -- the program's command
 abbrev pub mmgc_app : App
 mmgc_app =
-    with_rule (with_option (with_option settings_app (codes "gen")) (codes "count")) (new_rule (codes "FILE"))
+    with_rule (with_option (with_option (with_option settings_app (codes "gen")) (codes "count")) (codes "why"))
+    (new_rule (codes "FILE"))
 
 -- the values that words give, each where it stands
 pub record Values : Type 0 where
@@ -49,6 +52,7 @@ pub record Values : Type 0 where
   pub stack : Option Text
   pub generated : Option Text
   pub count : Option Text
+  pub why : Option Text
   pub file : Option Text
 
 abbrev pub values_in : List Row → Values
@@ -61,6 +65,7 @@ values_in rows =
       stack = first_of (codes "stack") rows;
       generated = first_of (codes "gen") rows;
       count = first_of (codes "count") rows;
+      why = first_of (codes "why") rows;
       file = first_of (codes "FILE") rows;
     }
 
@@ -107,22 +112,39 @@ trace_of seed count =
     (setting_of (limits 0 most_generated 0) (Some count)))
     (setting_of (limits 0 (2 ^ 32 - 1) 0) (Some seed))
 
--- with a generated trace no file is read
+-- nothing stands behind the log
+abbrev pub no_extras : Extras
+no_extras = record { why = None }
+
+-- an option whose value is any number of the trace's grammar, where it stands
+abbrev pub extras_of : Option Text → Option Extras
+extras_of None = Some no_extras
+extras_of (Some word) =
+    option_map (λ word. record { why = Some word }) (setting_of (limits 0 (2 ^ 32 - 1) 0) (Some word))
+
+-- a trace that is read
+abbrev pub reading : Settings → Option Text → Option Extras → Option Choice
+reading settings file None = None
+reading settings file (Some extras) =
+    Some (record { settings = settings; file = file_of file; generated = None; extras = extras })
+
+-- With a generated trace no file is read, and nothing stands behind the log.
 abbrev pub generating : Settings → Option GeneratedTrace → Option Choice
 generating settings None = None
-generating settings (Some trace) = Some (record { settings = settings; file = None; generated = Some trace })
+generating settings (Some trace) =
+    Some (record { settings = settings; file = None; generated = Some trace; extras = no_extras })
 
--- `--gen` and `--count` stand together or not at all, and neither stands beside FILE.
-abbrev pub choice_with : Settings → Option Text → Option Text → Option Text → Option Choice
-choice_with settings None None file =
-    Some (record { settings = settings; file = file_of file; generated = None })
-choice_with settings (Some seed) (Some count) None = generating settings (trace_of seed count)
-choice_with settings seed count file = None
+-- `--gen` and `--count` stand together or not at all, and neither stands beside FILE or `--why`.
+abbrev pub choice_with : Settings → Option Text → Option Text → Option Text → Option Text → Option Choice
+choice_with settings None None file why = reading settings file (extras_of why)
+choice_with settings (Some seed) (Some count) None None = generating settings (trace_of seed count)
+choice_with settings seed count file why = None
 
 -- what the values ask for
 abbrev pub choice_from : Values → Option Choice
 choice_from values =
-    option_and_then (λ settings. choice_with settings values.generated values.count values.file) (settings_of values)
+    option_and_then (λ settings. choice_with settings values.generated values.count values.file values.why)
+    (settings_of values)
 
 -- what the values ask for that the program's command gives for a list, whose first word is the program's name
 abbrev pub choice_in : List Text → Option Choice

@@ -1,5 +1,6 @@
 // The journal that writes the log.
-ghost use Rattle.std.specs.Prelude.{◌≡◌, ◌↔◌, ◌+◌, ◌≤◌, ◌%◌, ◌^◌, [], false, not, sum, IsTrue, OnOk, IsErr};
+ghost use Rattle.std.specs.Prelude.{◌≡◌, ◌↔◌, ◌+◌, ◌++◌, length, ◌≤◌, ◌%◌, ◌^◌, [], false, not, sum, IsTrue, OnOk};
+ghost use Rattle.std.specs.Prelude.{IsErr};
 ghost use Rattle.arrayvec.specs.ArrayVec.{array_vec_len};
 ghost use Rattle.mm_model.specs.Logs.Spelling.{spelling};
 ghost use Rattle.mmgc.specs.Writing.{kept_bytes, Keeps};
@@ -46,6 +47,16 @@ impl<'a, K: Sink> LogWriter<'a, K> {
     {
         self.make_room();
         self.append(line);
+    }
+
+    /// Goes on with these bytes, which reach the sink as lines do.
+    pub fn text(&mut self, bytes: &[u8])
+        requires { length bytes.now ≤ 64 }
+        ensures written { Grew (kept_by K.taken self.old) (kept_by K.taken self.new) bytes.now }
+        ensures kept { KeepsOn K.faults K.taken self.old self.new }
+    {
+        self.make_room();
+        self.append_text(bytes);
     }
 
     /// Writes what is pending to the sink. An error says that the writer is broken.
@@ -108,6 +119,17 @@ impl<'a, K: Sink> LogWriter<'a, K> {
         }
     }
 
+    fn append_text(&mut self, bytes: &[u8])
+        requires room { array_vec_len self.old.pending + 96 ≤ 4096 }
+        requires short { length bytes.now ≤ 64 }
+        ensures written { Grew (kept_by K.taken self.old) (kept_by K.taken self.new) bytes.now }
+        ensures kept { KeepsOn K.faults K.taken self.old self.new }
+    {
+        if self.whole() {
+            put_bytes(bytes, &mut self.pending);
+        }
+    }
+
     // Nothing is pending afterwards: the sink has it, or it is lost.
     #[cold]
     #[inline(never)]
@@ -165,6 +187,13 @@ impl<'a, K: Sink> Journal for LogWriter<'a, K> {
     fn scan(&mut self, base: u32, slots: u32) {
         self.line(&Line::Scan { base, slots });
     }
+}
+
+fn put_bytes(bytes: &[u8], to: &mut ArrayVec<u8, 4096>)
+    requires { array_vec_len to.old + length bytes.now ≤ 4096 }
+    ensures { to.new.items ≡ to.old.items ++ bytes.now }
+{
+    let _ = to.try_extend_from_slice(bytes);
 }
 
 fn wrapping_sum(words: &[u32]) -> u32

@@ -7,6 +7,9 @@ ghost use Rattle.mm_gc.specs.Gc.{Gc};
 ghost use Rattle.mmgc.specs.Program.{Ran};
 ghost use Rattle.mmgc.specs.Telling.{IsTold};
 
+mod answer;
+mod appendix;
+mod extras;
 mod generating;
 mod generator;
 mod log;

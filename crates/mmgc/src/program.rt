@@ -1,8 +1,11 @@
 // The program, over whatever its bytes come from and go to.
-ghost use Rattle.std.specs.Prelude.{◌≡◌, ◌≢◌, ◌≤◌, ◌++◌, ◌∷◌, List, ℕ, Option, None, Some, OnOk, OnErr, IsSome, codes};
+ghost use Rattle.std.specs.Prelude.{◌≡◌, ◌≢◌, ◌≤◌, ◌++◌, ◌∷◌, List, ℕ, Option, None, Some, OnOk, OnErr, IfOk, IsSome};
+ghost use Rattle.std.specs.Prelude.{codes};
 ghost use Rattle.std.specs.Prelude.{map, option_map, string_bytes};
 ghost use Rattle.mm_io.specs.Faults.{CountsChoice};
 ghost use Rattle.mm_model.specs.Places.Limits.{IsWithinLimits};
+ghost use Rattle.mmgc.specs.declared.extras.Extras.{Extras};
+ghost use Rattle.mmgc.specs.Appending.{IsPrepared};
 ghost use Rattle.mmgc.specs.Completing.{IsComplete};
 ghost use Rattle.mm_io.specs.Told.{NamedFile};
 ghost use Rattle.mmgc.specs.Generator.{most_generated};
@@ -11,6 +14,8 @@ ghost use Rattle.mmgc.specs.Requests.{IsAllowed, asked_by};
 ghost use Rattle.mmgc.specs.Run.{Input};
 ghost use Rattle.mmgc.specs.Telling.{IsTold, Takes, end_text, line_text};
 
+use crate::appendix::Appendix;
+use crate::extras::Extras;
 use crate::generating::carry_out_generated;
 use crate::generator::GeneratedTrace;
 use crate::replay::{End, carry_out};
@@ -19,7 +24,7 @@ use mm_gc::{Gc, Settings};
 use mm_io::{ChooseFault, Failed, Sink, Source, write_all};
 use mm_model::LineFault;
 use mm_trace::fault_text;
-use std::alloc::Global;
+use std::alloc::{AllocError, Global};
 
 /// What a run leaves: its exit status, and the heap where one was made.
 pub struct Outcome {
@@ -125,16 +130,27 @@ fn open_input<S: Source>(source: &mut S, file: Option<&str>) -> Result<(), Choos
     }
 }
 
+/// A heap, and what stands behind its log, with all the memory that they need.
+fn prepare(alloc: Global, settings: Settings, extras: Extras) -> Result<(Gc, Appendix), AllocError>
+    requires { IsWithinLimits settings }
+    ensures { IfOk result (λ made. IsPrepared settings extras made.0 made.1) }
+{
+    let appendix = Appendix::make(alloc, extras, settings.max)?;
+    let heap = Gc::make(alloc, settings)?;
+    Ok((heap, appendix))
+}
+
 /// Replays the input of `source` on a new heap.
 fn replay<S: Source, K: Sink, E: Sink>(
     alloc: Global,
     settings: Settings,
+    extras: Extras,
     source: &mut S,
     out: &mut K,
     err: &mut E,
 ) -> Outcome
     requires { IsWithinLimits settings }
-    ensures served { Serves (record { settings = settings; file = None; generated = None })
+    ensures served { Serves (record { settings = settings; file = None; generated = None; extras = extras })
         (record {
           named = S.named source.old;
           input = record {
@@ -158,10 +174,10 @@ fn replay<S: Source, K: Sink, E: Sink>(
     ensures out { K.faults out.old ≤ K.faults out.new }
     ensures err { E.faults err.old ≤ E.faults err.new }
 {
-    match Gc::make(alloc, settings) {
+    match prepare(alloc, settings, extras) {
         Err(_) => no_memory(err),
-        Ok(mut heap) => {
-            let end = carry_out(&mut heap, source, out);
+        Ok((mut heap, mut appendix)) => {
+            let end = carry_out(&mut heap, source, out, &mut appendix);
             tell_end(err, end);
             Outcome {
                 status: end.status(),
@@ -194,13 +210,19 @@ fn open_and_replay<S: Source, K: Sink, E: Sink>(
     alloc: Global,
     settings: Settings,
     file: Option<&str>,
+    extras: Extras,
     source: &mut S,
     out: &mut K,
     err: &mut E,
 ) -> Outcome
     requires { IsWithinLimits settings }
     ensures served { Serves
-        (record { settings = settings; file = option_map (λ name. name.now) file.entry; generated = None })
+        (record {
+          settings = settings;
+          file = option_map (λ name. name.now) file.entry;
+          generated = None;
+          extras = extras;
+        })
         (record {
           named = S.named source.old;
           input = record {
@@ -225,7 +247,7 @@ fn open_and_replay<S: Source, K: Sink, E: Sink>(
     ensures err { E.faults err.old ≤ E.faults err.new }
 {
     match open_input(source, file) {
-        Ok(()) => replay(alloc, settings, source, out, err),
+        Ok(()) => replay(alloc, settings, extras, source, out, err),
         Err(ChooseFault::NoMemory) => no_memory(err),
         Err(ChooseFault::Failed) => {
             let end = end_unwritten(out);
@@ -248,8 +270,9 @@ fn generate<K: Sink, E: Sink>(
 ) -> Outcome
     requires settings { IsWithinLimits settings }
     requires count { trace.count ≤ most_generated }
-    ensures served { (file : Option (List ℕ)) (named : Option NamedFile) (input : Input) → IsUnread input →
-        Serves (record { settings = settings; file = file; generated = Some trace })
+    ensures served { (file : Option (List ℕ)) (extras : Extras) (named : Option NamedFile) (input : Input) →
+        IsUnread input →
+        Serves (record { settings = settings; file = file; generated = Some trace; extras = extras })
         (record {
           named = named;
           input = input;
@@ -315,7 +338,15 @@ fn serve<S: Source, K: Sink, E: Sink>(
 {
     match request.generated {
         Some(trace) => generate(alloc, request.settings, trace, out, err),
-        None => open_and_replay(alloc, request.settings, request.file, source, out, err),
+        None => open_and_replay(
+            alloc,
+            request.settings,
+            request.file,
+            request.extras,
+            source,
+            out,
+            err,
+        ),
     }
 }
 

@@ -8,11 +8,13 @@ ghost use Rattle.mm_trace.specs.Lines.{IsWithinLine};
 ghost use Rattle.mm_model.specs.declared.refusal.LineFault.TheVariants.{LineTooLong};
 ghost use Rattle.mm_model.specs.declared.settings.Settings.{Settings};
 ghost use Rattle.mm_model.specs.Logs.Trace.{complete_lines, line_reading, lines_of, FaultAt};
+ghost use Rattle.mmgc.specs.Appending.{HasPages, IsReadyFor, asked_of};
 ghost use Rattle.mmgc.specs.Logging.{kept_by, moment_of, KeepsOn};
 ghost use Rattle.mmgc.specs.Replaying.{CarriesOut, DoesLine, GoesOn, Grew, IsNew, IsUnderWay, Progress, Start, Stopped};
 ghost use Rattle.mmgc.specs.Replaying.{most_bytes};
 ghost use Rattle.mmgc.specs.Run.{Ended, Input, IsFaultOf, Logged, NothingLeft, Reach, Replayed, Turns, lines_in};
 
+use crate::appendix::Appendix;
 use crate::log::LogWriter;
 use mm_gc::Gc;
 use mm_io::{Sink, Source};
@@ -384,14 +386,16 @@ impl Replay {
         heap: &mut Gc,
         log: &mut LogWriter<'_, K>,
         source: &mut S,
+        appendix: &mut Appendix,
     ) -> End
         requires heap { (settings : Settings) × IsNew settings heap.old }
         requires cutter { self.old.cutter ≡ [] }
         requires lines { self.old.lines ≡ 0 }
         requires whole { log.old.broken ≡ false }
         requires pending { log.old.pending.items ≡ [] }
+        requires ready { IsReadyFor heap.old.settings.max appendix.old }
         ensures replayed { (settings : Settings) → IsNew settings heap.old →
-            Replayed result settings
+            Replayed result (record { settings = settings; extras = asked_of appendix.old })
             (record {
               left = S.left source.old;
               left_after = S.left source.new;
@@ -410,19 +414,24 @@ impl Replay {
         ensures same_sink { log.new.sink.ghost_name ≡ log.old.sink.ghost_name }
     {
         let read = self.read_all(heap, log, source);
-        finish(heap, log, read)
+        finish(heap, log, appendix, read)
     }
 }
 
-/// Writes the total line after a whole log.
-fn total<K: Sink>(heap: &Gc, log: &mut LogWriter<'_, K>, end: End)
-    ensures totalled { (start : Start) (reach : Reach) (fault : Option FaultAt) →
+/// Writes the total line after a whole log, and what stands behind it.
+fn total<K: Sink>(heap: &Gc, log: &mut LogWriter<'_, K>, appendix: &mut Appendix, end: End)
+    requires shows { HasPages (view_of_gc heap.now) }
+    requires ready { IsReadyFor heap.now.settings.max appendix.old }
+    ensures totalled { (start : Start) (reach : Reach) (fault : Option FaultAt) → start.extras ≡ asked_of appendix.old →
         IsFaultOf end fault → Stopped start (lines_in reach) fault heap.now (kept_by K.taken log.old) →
         Logged end start reach heap.now (kept_by K.taken log.new) }
     ensures kept { KeepsOn K.faults K.taken log.old log.new }
 {
     match end {
-        End::Whole => log.line(&Line::Total(heap.totals())),
+        End::Whole => {
+            log.line(&Line::Total(heap.totals()));
+            appendix.write(log, heap);
+        }
         _ => {}
     }
 }
@@ -442,8 +451,10 @@ pub(crate) fn finish_log<K: Sink>(log: &mut LogWriter<'_, K>, end: End) -> End
 }
 
 /// Writes the rest of the log, and says how the replay ended.
-fn finish<K: Sink>(heap: &Gc, log: &mut LogWriter<'_, K>, end: End) -> End
-    ensures finished { (start : Start) (reach : Reach) (fault : Option FaultAt) →
+fn finish<K: Sink>(heap: &Gc, log: &mut LogWriter<'_, K>, appendix: &mut Appendix, end: End) -> End
+    requires shows { HasPages (view_of_gc heap.now) }
+    requires ready { IsReadyFor heap.now.settings.max appendix.old }
+    ensures finished { (start : Start) (reach : Reach) (fault : Option FaultAt) → start.extras ≡ asked_of appendix.old →
         IsFaultOf end fault → Stopped start (lines_in reach) fault heap.now (kept_by K.taken log.old) →
         Logged end start reach heap.now (kept_by K.taken log.new) }
     ensures ends { result ≡ cond log.new.broken End.WriteFailed end }
@@ -452,15 +463,21 @@ fn finish<K: Sink>(heap: &Gc, log: &mut LogWriter<'_, K>, end: End) -> End
     ensures kept { KeepsOn K.faults K.taken log.old log.new }
     ensures same_sink { log.new.sink.ghost_name ≡ log.old.sink.ghost_name }
 {
-    total(heap, log, end);
+    total(heap, log, appendix, end);
     finish_log(log, end)
 }
 
 /// Carries out a whole trace on a heap that nothing was done with yet.
-pub(crate) fn carry_out<S: Source, K: Sink>(heap: &mut Gc, source: &mut S, out: &mut K) -> End
-    requires { (settings : Settings) × IsNew settings heap.old }
+pub(crate) fn carry_out<S: Source, K: Sink>(
+    heap: &mut Gc,
+    source: &mut S,
+    out: &mut K,
+    appendix: &mut Appendix,
+) -> End
+    requires heap { (settings : Settings) × IsNew settings heap.old }
+    requires ready { IsReadyFor heap.old.settings.max appendix.old }
     ensures replayed { (settings : Settings) → IsNew settings heap.old →
-        Replayed result settings
+        Replayed result (record { settings = settings; extras = asked_of appendix.old })
         (record {
           left = S.left source.old;
           left_after = S.left source.new;
@@ -479,5 +496,5 @@ pub(crate) fn carry_out<S: Source, K: Sink>(heap: &mut Gc, source: &mut S, out: 
 {
     let mut log = LogWriter::make(out);
     let mut replay = Replay::make();
-    replay.run(heap, &mut log, source)
+    replay.run(heap, &mut log, source, appendix)
 }

@@ -3,11 +3,12 @@ ghost use Rattle.std.specs.Prelude.{◌≡◌, ◌≤◌, ◌∷◌, List, ℕ, 
 ghost use Rattle.std.specs.Prelude.{IfOk, IfSome, IsErrOf};
 ghost use Rattle.clap.specs.Words.{app_of, found_of, kind_of, matches_of, rows_of, rule_of, takes};
 ghost use Rattle.mm_model.specs.Places.Limits.{IsWithinLimits};
-ghost use Rattle.mmgc.specs.Words.{choice_from, choice_in, choice_taken, choice_with, file_of, generating, trace_of};
-ghost use Rattle.mmgc.specs.Words.{limits, mmgc_app, option_rule, setting_of, settings_app, settings_of, values_in};
-ghost use Rattle.mmgc.specs.Words.{with_option};
+ghost use Rattle.mmgc.specs.Words.{choice_from, choice_in, choice_taken, extras_of, file_of, generating, reading};
+ghost use Rattle.mmgc.specs.Words.{limits, mmgc_app, option_rule, setting_of, settings_app, settings_of, trace_of};
+ghost use Rattle.mmgc.specs.Words.{values_in, with_option};
 ghost use Rattle.mmgc.specs.Requests.{IsAllowed, asked_by, values_by};
 
+use crate::extras::Extras;
 use crate::generator::GeneratedTrace;
 use clap::error::ErrorKind;
 use clap::{Arg, ArgMatches, Command, Error};
@@ -23,6 +24,8 @@ pub(crate) struct Request<'a> {
     pub(crate) file: Option<&'a str>,
     /// The trace to carry out in place of one that is read.
     pub(crate) generated: Option<GeneratedTrace>,
+    /// What is to stand behind the log.
+    pub(crate) extras: Extras,
 }
 
 /// Why the words ask for nothing.
@@ -44,6 +47,7 @@ struct Given<'a> {
     stack: Option<&'a str>,
     generated: Option<&'a str>,
     count: Option<&'a str>,
+    why: Option<&'a str>,
     file: Option<&'a str>,
 }
 
@@ -81,6 +85,7 @@ fn command<'a>(alloc: Global) -> Result<Command<'a>, AllocError>
     let command = settings_command(alloc)?;
     let command = with(command, alloc, "gen")?;
     let command = with(command, alloc, "count")?;
+    let command = with(command, alloc, "why")?;
     command.arg(Arg::new(alloc, "FILE"))
 }
 
@@ -96,6 +101,7 @@ impl<'a> Given<'a> {
             stack: matches.get_str("stack"),
             generated: matches.get_str("gen"),
             count: matches.get_str("count"),
+            why: matches.get_str("why"),
             file: matches.get_str("FILE"),
         }
     }
@@ -118,15 +124,15 @@ impl<'a> Given<'a> {
         })
     }
 
-    /// `--gen` and `--count` stand together or not at all, and neither stands beside FILE.
+    /// `--gen` and `--count` stand together or not at all, and neither stands beside FILE or `--why`.
     fn request(&self) -> Option<Request<'a>>
         ensures asked { option_map asked_by result ≡ choice_from (values_by self.now) }
         ensures allowed { IfSome result IsAllowed }
     {
         let settings = self.settings()?;
-        match (self.generated, self.count, self.file) {
-            (None, None, file) => Some(replay_request(settings, file)),
-            (Some(seed), Some(count), None) => generated_request(settings, seed, count),
+        match (self.generated, self.count, self.file, self.why) {
+            (None, None, file, why) => replay_request(settings, file, why),
+            (Some(seed), Some(count), None, None) => generated_request(settings, seed, count),
             _ => None,
         }
     }
@@ -154,15 +160,34 @@ fn number_within(text: &str, least: u32, most: u32) -> Option<u32>
     }
 }
 
-fn replay_request<'a>(settings: Settings, file: Option<&'a str>) -> Request<'a>
+fn replay_request<'a>(
+    settings: Settings,
+    file: Option<&'a str>,
+    why: Option<&str>,
+) -> Option<Request<'a>>
     requires { IsWithinLimits settings }
-    ensures asked { Some (asked_by result) ≡ choice_with settings None None (option_map (λ name. name.now) file.entry) }
-    ensures allowed { IsAllowed result }
+    ensures asked { option_map asked_by result ≡ reading settings (option_map (λ name. name.now) file.entry)
+        (extras_of (option_map (λ text. text.now) why.entry)) }
+    ensures allowed { IfSome result IsAllowed }
 {
-    Request {
+    let extras = read_extras(why)?;
+    Some(Request {
         settings,
         file: file_name(file),
         generated: None,
+        extras,
+    })
+}
+
+fn read_extras(why: Option<&str>) -> Option<Extras>
+    ensures { result ≡ extras_of (option_map (λ text. text.now) why.entry) }
+{
+    match why {
+        Some(text) => {
+            let word = number_within(text, 0, u32::MAX)?;
+            Some(Extras { why: Some(word) })
+        }
+        None => Some(Extras { why: None }),
     }
 }
 
@@ -177,6 +202,7 @@ fn generated_request<'a>(settings: Settings, seed: &str, count: &str) -> Option<
         settings,
         file: None,
         generated: Some(GeneratedTrace { seed, count }),
+        extras: Extras { why: None },
     })
 }
 

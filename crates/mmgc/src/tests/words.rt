@@ -45,10 +45,13 @@ fn check_file<'a>(
 
 #[test]
 fn words_that_cannot_be_read_are_refused(rt: HostRuntime) -> Result<(), Fail> {
-    let refused: [&[&str]; 23] = [
+    let refused: [&[&str]; 26] = [
         &["--count", "2"],
         &["--gen", "2"],
         &["--gen", "1", "--count", "4000001"],
+        &["--gen", "1", "--count", "1", "--why", "1"],
+        &["--why", "x"],
+        &["--why", "1", "--why", "2"],
         &["--gen", "2", "--count", "2", "FILE"],
         &["--gen", "2", "--count", "2", "-"],
         &["--gen", "4294967296", "--count", "2"],
@@ -96,6 +99,53 @@ fn options_set_the_heap(rt: HostRuntime) -> Result<(), Fail> {
     ];
     for (words, trace, log) in rows {
         check_words(&rt, rt.alloc(), words, trace, log)?;
+    }
+    Ok(())
+}
+
+// The second object is found from the area alone, and the first one from a slot of it.
+#[test]
+fn what_keeps_an_object_stands_behind_the_totals(rt: HostRuntime) -> Result<(), Fail> {
+    let rows: [(&str, &str, &str); 8] = [
+        (
+            "8200",
+            "root 0 1\nnew t 0 4\nnew t 0 4\nput 0 2 1\naput 0 0 0\npop 2\n",
+            "area 0 4096\nnew 8192\nnew 8224\nok\nok\nok\ntotal 6 2 0 2\npath 2\n area 0 0 8224\n slot 2 8192\n",
+        ),
+        (
+            "4096",
+            "new l 0 0\npop 1\n",
+            "new 4096\nok\ntotal 2 1 0 1\nnone\n",
+        ),
+        ("0", "new l 0 0\n", "new 4096\ntotal 1 1 0 1\nno object\n"),
+        (
+            "4127",
+            "new t 0 4\ndup 0\n",
+            "new 4096\nok\ntotal 2 1 0 1\npath 1\n stack 0 4096\n",
+        ),
+        (
+            "4128",
+            "new t 0 4\n",
+            "new 4096\ntotal 1 1 0 1\nno object\n",
+        ),
+        (
+            "4096",
+            "root 0 1\nnew t 0 4\n",
+            "area 0 4096\nnew 8192\ntotal 2 1 0 1\nno object\n",
+        ),
+        (
+            "4096",
+            "new t 0 4\npop 1\ncollect\n",
+            "new 4096\nok\n collect 1\n free 4096\nok\ntotal 3 1 1 0\nno object\n",
+        ),
+        (
+            "8192",
+            "root 0 1\nnew t 0 4\naput 0 0 0\n",
+            "area 0 4096\nnew 8192\nok\ntotal 3 1 0 1\npath 1\n stack 0 8192\n",
+        ),
+    ];
+    for (word, trace, log) in rows {
+        check_words(&rt, rt.alloc(), &["--why", word], trace, log)?;
     }
     Ok(())
 }

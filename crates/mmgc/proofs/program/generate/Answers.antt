@@ -8,7 +8,7 @@ carry_out_generated-end-requires-clause-heap g c =
     (c.args.settings, record { limits = c.requires.settings; shows = c.in-Ok.ensures })
 
 pub returns-in-Err-clause-served : goal.returns-in-Err-clause-served
-returns-in-Err-clause-served g c file named input unread =
+returns-in-Err-clause-served g c file extras named input unread =
     inl (record {
       status = c.no_memory.ensures.status;
       no_heap = c.no_memory.ensures.heap;
@@ -18,7 +18,7 @@ returns-in-Err-clause-served g c file named input unread =
     })
 
 pub returns-in-Ok-clause-served : goal.returns-in-Ok-clause-served
-returns-in-Ok-clause-served g c file named input unread =
+returns-in-Ok-clause-served g c file extras named input unread =
     let generated = c.carry_out_generated-end.ensures.generated c.args.settings
     (record { limits = c.requires.settings; shows = c.in-Ok.ensures }) in
     inr (inr (inr (record {

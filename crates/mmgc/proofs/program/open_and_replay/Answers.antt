@@ -5,7 +5,8 @@ use Rattle.mmgc.proofs.program.open_and_replay.Goals as goal
 pub returns-in-Ok-clause-served : goal.returns-in-Ok-clause-served
 returns-in-Ok-clause-served g c =
     let opened = c.in-Ok.ensures in
-    serves-opened c.args.settings (option_map (λ name. name.now) c.args.file)
+    serves-opened (record { settings = c.args.settings; extras = c.args.extras })
+    (option_map (λ name. name.now) c.args.file)
     (g.S.Source.named c.args.source.now) (g.S.Source.left c.args.source.now) (g.S.Source.faults c.args.source.now)
     _ c.replay.result _ opened.same_file opened.opened opened.faults.unraised c.replay.ensures.served
 

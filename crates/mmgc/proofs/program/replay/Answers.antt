@@ -1,10 +1,18 @@
-use Rattle.std.proofs.Common.{refl, inl, inr}
+use Rattle.std.proofs.Common.{refl, inl, inr, subst, sym}
 use Rattle.mm_laws.proofs.Turning.Faithful.{legal_log_is_faithful}
-use Rattle.mmgc.specs.Run.{commands_in}
+use Rattle.mm_model.specs.declared.settings.Settings.{Settings}
+use Rattle.mmgc.specs.Appending.{IsReadyFor}
+use Rattle.mmgc.specs.Run.{Replayed, commands_in}
 use Rattle.mmgc.proofs.program.replay.Goals as goal
 
-pub carry_out-end-requires : goal.carry_out-end-requires
-carry_out-end-requires g c = (c.args.settings, record { limits = c.requires; shows = c.in-Ok.ensures })
+pub carry_out-end-requires-clause-heap : goal.carry_out-end-requires-clause-heap
+carry_out-end-requires-clause-heap g c =
+    (c.args.settings, record { limits = c.requires; shows = c.in-Ok.ensures.shows })
+
+pub carry_out-end-requires-clause-ready : goal.carry_out-end-requires-clause-ready
+carry_out-end-requires-clause-ready g c =
+    subst (λ (s : Settings). IsReadyFor s.max c.in-Ok.appendix) (sym c.in-Ok.ensures.shows.settings)
+    c.in-Ok.ensures.ready
 
 pub returns-in-Err-clause-served : goal.returns-in-Err-clause-served
 returns-in-Err-clause-served g c =
@@ -18,8 +26,25 @@ returns-in-Err-clause-served g c =
 
 pub returns-in-Ok-clause-served : goal.returns-in-Ok-clause-served
 returns-in-Ok-clause-served g c =
-    let replayed = c.carry_out-end.ensures.replayed c.args.settings
-    (record { limits = c.requires; shows = c.in-Ok.ensures }) in
+    let source = c.carry_out-end.new.source in
+    let out = c.carry_out-end.new.out in
+    let replayed = subst (λ extras. Replayed c.carry_out-end.result
+    (record { settings = c.args.settings; extras = extras })
+    (record {
+      left = g.S.Source.left c.args.source.now;
+      left_after = g.S.Source.left source;
+      faults = g.S.Source.faults c.args.source.now;
+      faults_after = g.S.Source.faults source;
+    })
+    (record {
+      taken = g.K.Sink.taken c.args.out.now;
+      taken_after = g.K.Sink.taken out;
+      passed_after = g.K.Sink.passed out;
+      faults = g.K.Sink.faults c.args.out.now;
+      faults_after = g.K.Sink.faults out;
+    }) c.carry_out-end.new.heap) c.in-Ok.ensures.asked
+    (c.carry_out-end.ensures.replayed c.args.settings
+    (record { limits = c.requires; shows = c.in-Ok.ensures.shows })) in
     inr (inr (inl (record {
       replays = refl;
       end = c.carry_out-end.result;

@@ -1,7 +1,9 @@
-use Rattle.std.proofs.Common.{ap, ◌∙◌}
+use Rattle.std.proofs.Common.{ap, refl, subst, sym, ◌∙◌}
+use Rattle.mmgc.specs.Appending.{IsReadyFor, asked_of}
 use Rattle.mmgc.specs.Keeping.{keeps-trans}
 use Rattle.mmgc.specs.Logging.{kept_by}
-use Rattle.mmgc.specs.Replaying.{Start}
+use Rattle.mm_model.specs.declared.settings.Settings.{Settings}
+use Rattle.mmgc.specs.Replaying.{start_with}
 use Rattle.mmgc.specs.Writing.{kept_bytes}
 use Rattle.mmgc.proofs.Replays.{progress-began}
 use Rattle.mmgc.proofs.Ends.{replayed, was_whole}
@@ -9,11 +11,32 @@ use Rattle.mmgc.proofs.replay.Replay.run.Goals as goal
 
 pub read_all-read-requires : goal.read_all-read-requires
 read_all-read-requires g c =
-    let log = c.args.log.now in (
-      record { settings = c.requires.heap.0; kept = (kept_by g.K.Sink.taken log).bytes },
-      progress-began c.requires.heap.0 c.args.heap.now c.args.self.now.cutter c.args.self.now.lines
-          (kept_by g.K.Sink.taken log) c.requires.cutter c.requires.lines c.requires.whole c.requires.heap.1,
+    let kept = kept_by g.K.Sink.taken c.args.log.now in
+    let extras = asked_of c.args.appendix.now in (
+      start_with c.requires.heap.0 extras kept,
+      progress-began c.requires.heap.0 extras kept c.requires.cutter c.requires.lines c.requires.whole
+          c.requires.heap.1,
     )
+
+-- the heap shows a state behind what was read, whose settings are those with which it was made
+pub finish-requires-clause-shows : goal.finish-requires-clause-shows
+finish-requires-clause-shows g c =
+    let kept = kept_by g.K.Sink.taken c.args.log.now in
+    let extras = asked_of c.args.appendix.now in
+    let carried = (c.read_all-read.ensures.ended (start_with c.requires.heap.0 extras kept)
+    (progress-began c.requires.heap.0 extras kept c.requires.cutter c.requires.lines c.requires.whole
+    c.requires.heap.1)).stopped.carried in
+    (carried.state, carried.shows)
+
+pub finish-requires-clause-ready : goal.finish-requires-clause-ready
+finish-requires-clause-ready g c =
+    let kept = kept_by g.K.Sink.taken c.args.log.now in
+    let extras = asked_of c.args.appendix.now in
+    let carried = (c.read_all-read.ensures.ended (start_with c.requires.heap.0 extras kept)
+    (progress-began c.requires.heap.0 extras kept c.requires.cutter c.requires.lines c.requires.whole
+    c.requires.heap.1)).stopped.carried in
+    subst (λ (s : Settings). IsReadyFor s.max c.args.appendix.now)
+    (c.requires.heap.1.shows.settings ∙ sym (carried.shows.settings ∙ carried.settings_stay)) c.requires.ready
 
 pub returns-clause-replayed : goal.returns-clause-replayed
 returns-clause-replayed g c settings shows =
@@ -21,12 +44,13 @@ returns-clause-replayed g c settings shows =
     let faults = g.K.Sink.faults in
     let first = c.args.log.now in
     let last = c.finish.new.log in
-    let start : Start = record { settings = settings; kept = (kept_by taken first).bytes } in
-    let began = progress-began settings c.args.heap.now c.args.self.now.cutter c.args.self.now.lines
-    (kept_by taken first) c.requires.cutter c.requires.lines c.requires.whole shows in
-    let ended = c.read_all-read.ensures.ended start began in
+    let extras = asked_of c.args.appendix.now in
+    let start = start_with settings extras (kept_by taken first) in
+    let ended = c.read_all-read.ensures.ended start
+    (progress-began settings extras (kept_by taken first) c.requires.cutter c.requires.lines c.requires.whole
+    shows) in
     let kept = keeps-trans c.read_all-read.ensures.kept c.finish.ensures.kept in
-    let logged = c.finish.ensures.finished start ended.reach ended.fault ended.fault_is ended.stopped in
+    let logged = c.finish.ensures.finished start ended.reach ended.fault refl ended.fault_is ended.stopped in
     replayed
     (record {
       taken = taken first.sink.now;

@@ -1,0 +1,5 @@
+use Rattle.mmgc.specs.Keeping.{keeps-trans}
+use Rattle.mmgc.proofs.answer.write_named.Goals as goal
+
+pub returns-clause-kept : goal.returns-clause-kept
+returns-clause-kept g c = keeps-trans c.text.ensures.kept c.write_number.ensures.kept

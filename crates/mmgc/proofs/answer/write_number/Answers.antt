@@ -1,0 +1,5 @@
+use Rattle.mmgc.specs.Keeping.{keeps-trans}
+use Rattle.mmgc.proofs.answer.write_number.Goals as goal
+
+pub returns-clause-kept : goal.returns-clause-kept
+returns-clause-kept g c = keeps-trans c.text.ensures.kept c.text-2.ensures.kept
