@@ -119,7 +119,7 @@ impl ZeroTable {
         ensures listed { AllListedBut base heap.old.objects → AllListed heap.new.objects }
         ensures right { IsRight self.new heap.new }
         ensures sound { IsSound heap.new }
-        ensures cost { steps.new ≤ steps.old + 8 }
+        ensures cost { steps.new ≡ steps.old + 2 }
     {
         let composite = composite_of(heap, base, steps);
         self.enter(heap, base, composite, steps);
@@ -217,7 +217,7 @@ impl ZeroTable {
         requires { IsCountedAt heap.now.objects base }
         ensures count { result ≡ count_in (composite_at heap.now.objects base) }
         ensures sound { IsSound heap.now }
-        ensures cost { steps.new ≤ steps.old + 8 }
+        ensures cost { steps.new ≡ steps.old + 1 }
     {
         composite_of(heap, base, steps).counted()
     }
