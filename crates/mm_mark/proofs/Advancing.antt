@@ -150,7 +150,7 @@ entry-kept objects base other old new object here begins apart =
 
 -- once the object is black the marker knows the others without it
 pub known-blackened : (old new : Marker) (objects : ObjectsByBase) (base : ℕ) (object : ObjectView)
-    → Begins objects base object → new.queue ≡ old.queue → new.overflowed ≡ old.overflowed
+    → Begins objects base object → new.queue ≡ old.queue → new.left_out ≡ old.left_out
     → IfSome old.partly (λ p. p.base ≡ base) → AreKnown old objects
     → AreKnown new (with_entry base (Some (record object { colour = Black })) objects)
 known-blackened old new objects base object here queue left own known other entry begins gray =
@@ -166,7 +166,7 @@ known-blackened old new objects base object here queue left own known other entr
 
 -- and where it is scanned in part it is known by that
 pub known-partly : (old new : Marker) (objects : ObjectsByBase) (p : PartlyScannedView) → new.queue ≡ old.queue
-    → new.overflowed ≡ old.overflowed → new.partly ≡ Some p → IfSome old.partly (λ q. q.base ≡ p.base)
+    → new.left_out ≡ old.left_out → new.partly ≡ Some p → IfSome old.partly (λ q. q.base ≡ p.base)
     → AreKnown old objects → AreKnown new objects
 known-partly old new objects p queue left is own known base object begins gray = elim (cases_eq base p.base) [
   | inl e ↦ known-told new base (IsKnown.Is_partly_scanned p is (sym e))

@@ -20,44 +20,23 @@ use Rattle.mm_mark.specs.Parts.{NoneIsGray, AreOthersKnown, IsTaken, IsChosen}
 use Rattle.mm_mark.proofs.Told.{stored-viewed}
 use Rattle.mm_mark.proofs.Reading.{seen-coloured}
 
--- no gray object is stored where none is seen
-pub none-seen : (h : Heap) → NoneOfFrom h Gray 0 → NoneIsGray (views_of h.objects)
-none-seen h none base object begins gray =
-    let has = seen-coloured h base object begins in
-    let below = none base has.object has.begins (has.is ∙ gray) in
-    omega arith
-
--- what a walk from the first object on tells
-pub walked : (h : Heap) (r : Option ℕ) → MatchOption r (NoneOfFrom h Gray 0) (λ base. IsNextOf h Gray 0 base)
-    → MatchOption r (NoneIsGray (views_of h.objects)) (λ base. HasColour h base Gray)
-walked h None none = none-seen h none
-walked h (Some base) next = record { object = next.object; begins = next.begins; is = next.is }
-
 -- where the queue is empty, nothing is scanned in part and no entry was left out, nothing is known
 pub none-known : (marker : Marker) (base : ℕ) → marker.queue ≡ [] → marker.partly ≡ None
-    → marker.overflowed ≡ false → IsKnown marker base → ⊥
+    → marker.left_out ≡ None → IsKnown marker base → ⊥
 none-known marker base empty none whole (IsKnown.Is_queued q) =
     let no : ◌≡◌ {A = Bool} false true = sym (ap (list_any (λ entry. entry == base)) empty) ∙ q in
     cc
 none-known marker base empty none whole (IsKnown.Is_partly_scanned p is at) =
     let no : ◌≡◌ {A = Option PartlyScannedView} None (Some p) = sym none ∙ is in
     cc
-none-known marker base empty none whole (IsKnown.Is_left_out is) =
-    let no : ◌≡◌ {A = Bool} false true = sym whole ∙ is in
+none-known marker base empty none whole (IsKnown.Is_left_out next is from) =
+    let no : ◌≡◌ {A = Option ℕ} None (Some next) = sym whole ∙ is in
     cc
 
 pub none-gray_known : (marker : Marker) (objects : ObjectsByBase) → marker.queue ≡ [] → marker.partly ≡ None
-    → marker.overflowed ≡ false → AreKnown marker objects → NoneIsGray objects
+    → marker.left_out ≡ None → AreKnown marker objects → NoneIsGray objects
 none-gray_known marker objects empty none whole known base object begins gray =
     none-known marker base empty none whole (told-known marker base (known base object begins gray))
-
--- where an entry was left out each object is known
-pub left_out-taken : (h : Heap) (marker : Marker) (base : ℕ) → marker.overflowed ≡ true → HasColour h base Gray
-    → IsTaken h marker base
-left_out-taken h marker base left gray = record {
-  gray = gray;
-  others = λ other object begins is apart. IsKnown.Is_left_out left;
-}
 
 module _ (old new : Marker) (entry : ℕ) (some : 0 < length old.queue) (first : entry ≡ slice_index old.queue 0)
     (rest : new ≡ record old { queue = drop 1 old.queue }) where
@@ -77,8 +56,8 @@ module _ (old new : Marker) (entry : ℕ) (some : 0 < length old.queue) (first :
       split (x ∷ xs) h f t = later (x == base) xs (λ e. apart (sym (eqb-true x base e) ∙ sym f)) t
   others-known base apart (IsKnown.Is_partly_scanned p is at) =
       subst (λ (m : Marker). IsKnown m base) (sym rest) (IsKnown.Is_partly_scanned p is at)
-  others-known base apart (IsKnown.Is_left_out is) =
-      subst (λ (m : Marker). IsKnown m base) (sym rest) (IsKnown.Is_left_out is)
+  others-known base apart (IsKnown.Is_left_out next is from) =
+      subst (λ (m : Marker). IsKnown m base) (sym rest) (IsKnown.Is_left_out next is from)
 
   -- the newest entry is taken off the queue, and a gray object begins there
   pub entry-taken : (h : Heap) → HasColour h entry Gray → AreKnown old (views_of h.objects) → IsTaken h new entry
@@ -128,14 +107,15 @@ taken-chosen h before marker base none taken = record {
 }
 
 -- what a marker knows stays known where it is scanned in part from now on, or isn't what was
-pub known-elsewhere : (old new : Marker) (base : ℕ) → new.queue ≡ old.queue → new.overflowed ≡ old.overflowed
+pub known-elsewhere : (old new : Marker) (base : ℕ) → new.queue ≡ old.queue → new.left_out ≡ old.left_out
     → IfSome old.partly (λ p. p.base ≡ base) → (other : ℕ) → other ≢ base → IsKnown old other → IsKnown new other
 known-elsewhere old new base queue left own other apart (IsKnown.Is_queued q) =
     IsKnown.Is_queued (ap (list_any (λ e. e == other)) queue ∙ q)
 known-elsewhere old new base queue left own other apart (IsKnown.Is_partly_scanned p is at) =
     let same : p.base ≡ base = subst (λ (o : Option PartlyScannedView). IfSome o (λ p. p.base ≡ base)) is own in
     absurd (apart (sym at ∙ same))
-known-elsewhere old new base queue left own other apart (IsKnown.Is_left_out is) = IsKnown.Is_left_out (left ∙ is)
+known-elsewhere old new base queue left own other apart (IsKnown.Is_left_out next is from) =
+    IsKnown.Is_left_out next (left ∙ is) from
 
 -- a marker knows all once it knows the others and scans this one in part
 pub known-once_partly : (marker : Marker) (objects : ObjectsByBase) (p : PartlyScannedView) → marker.partly ≡ Some p
@@ -147,7 +127,7 @@ known-once_partly marker objects p is others base object begins gray = elim (cas
 
 -- the same of one that is taken
 pub known-once_taken : (h : Heap) (old new : Marker) (p : PartlyScannedView) → old.partly ≡ None
-    → new.queue ≡ old.queue → new.overflowed ≡ old.overflowed → new.partly ≡ Some p → IsTaken h old p.base
+    → new.queue ≡ old.queue → new.left_out ≡ old.left_out → new.partly ≡ Some p → IsTaken h old p.base
     → AreKnown new (views_of h.objects)
 known-once_taken h old new p none queue left is taken =
     known-once_partly new (views_of h.objects) p is

@@ -42,7 +42,7 @@ forgotten-known old new objects freed is known base object begins gray =
   where
     split : IsKnown old base → IsKnown (record old { partly = None }) base
     split (IsKnown.Is_queued q) = IsKnown.Is_queued q
-    split (IsKnown.Is_left_out left) = IsKnown.Is_left_out left
+    split (IsKnown.Is_left_out next left from) = IsKnown.Is_left_out next left from
     split (IsKnown.Is_partly_scanned p e at) =
         let both : ◌≡◌ {A = Option PartlyScannedView} (Some p) (Some freed.partly) = sym e ∙ freed.is in
         let same : p ≡ freed.partly = cc in

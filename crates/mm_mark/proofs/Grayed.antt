@@ -210,7 +210,7 @@ take-next words i below =
 pub queue-then : (first second third : Marker) → IsSameButQueue first second → IsSameButQueue second third
     → IsSameButQueue first third
 queue-then first second third one two =
-    two ∙ ap (λ (m : Marker). record m { queue = third.queue; overflowed = third.overflowed }) one
+    two ∙ ap (λ (m : Marker). record m { queue = third.queue; left_out = third.left_out }) one
 
 -- the order of the words doesn't tell
 pub grayed-in_order : (before after : Heap) (words : List ℕ) → IsGrayed before after (reverse words)

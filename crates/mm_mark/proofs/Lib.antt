@@ -10,6 +10,7 @@ pub mod Known
 pub mod PartsDone
 pub mod Potential
 pub mod Reading
+pub mod Refilled
 pub mod RootWords
 pub mod Shaded
 pub mod Tidied

@@ -162,7 +162,7 @@ pub cycle-then : (first second third : Marker) → IsSameCycle first second → 
     → IsSameCycle first third
 cycle-then first second third one two =
     two ∙ ap (λ (m : Marker).
-    record m { queue = third.queue; overflowed = third.overflowed; partly = third.partly }) one
+    record m { queue = third.queue; left_out = third.left_out; partly = third.partly }) one
 
 pub none-slots : (r : Option Part) → is_some r ≡ false → slots_of r ≡ 0
 none-slots None e = refl

@@ -19,7 +19,7 @@ use Rattle.mm_model.proofs.View.ByBase.Entries.{get-changed, same_entries}
 use Rattle.mm_object.specs.Object.{StoredObject, view_of_stored, views_of}
 use Rattle.mm_object.specs.Heap.{Heap, Covers, IsSound}
 use Rattle.mm_object.specs.Colours.{NoWhite, Shades, all_whitened, white_object}
-use Rattle.mm_mark.specs.Marker.{Marker, IsNoted, AreKnown, is_known}
+use Rattle.mm_mark.specs.Marker.{Marker, IsNoted, AreKnown, is_known, with_left_out}
 use Rattle.mm_mark.specs.Parts.{IsKnown}
 use Rattle.mm_mark.proofs.Known.{known-told, told-known}
 use Rattle.mm_mark.specs.Colours.{IsGrayed}
@@ -157,14 +157,26 @@ module _ (before after : Heap) (word base : ℕ) (s : Shades before after word b
           subst (λ (m : Marker). IsKnown m b) (sym e) (IsKnown.Is_queued (later b (base == b) h))
       still b (IsNoted.Is_newest e) (IsKnown.Is_partly_scanned p f at) =
           subst (λ (m : Marker). IsKnown m b) (sym e) (IsKnown.Is_partly_scanned p f at)
-      still b (IsNoted.Is_newest e) (IsKnown.Is_left_out f) =
-          subst (λ (m : Marker). IsKnown m b) (sym e) (IsKnown.Is_left_out f)
-      still b (IsNoted.Is_left_out full e) k = subst (λ (m : Marker). IsKnown m b) (sym e) (IsKnown.Is_left_out refl)
+      still b (IsNoted.Is_newest e) (IsKnown.Is_left_out next f from) =
+          subst (λ (m : Marker). IsKnown m b) (sym e) (IsKnown.Is_left_out next f from)
+      still b (IsNoted.Is_left_out full e) (IsKnown.Is_queued h) =
+          subst (λ (m : Marker). IsKnown m b) (sym e) (IsKnown.Is_queued h)
+      still b (IsNoted.Is_left_out full e) (IsKnown.Is_partly_scanned p f at) =
+          subst (λ (m : Marker). IsKnown m b) (sym e) (IsKnown.Is_partly_scanned p f at)
+      still b (IsNoted.Is_left_out full e) (IsKnown.Is_left_out next f from) =
+          subst (λ (m : Marker). IsKnown m b) (sym e)
+          (IsKnown.Is_left_out (with_left_out old.left_out base) refl
+          (subst (λ (o : Option ℕ). with_left_out o base ≤ b) (sym f) (omega arith)))
 
       now : (b : ℕ) → b ≡ base → IsNoted old new base → IsKnown new b
       now b e (IsNoted.Is_newest f) = subst (λ (m : Marker). IsKnown m b) (sym f)
           (IsKnown.Is_queued (first b (eq-eqb base b (sym e))))
-      now b e (IsNoted.Is_left_out full f) = subst (λ (m : Marker). IsKnown m b) (sym f) (IsKnown.Is_left_out refl)
+      now b e (IsNoted.Is_left_out full f) = subst (λ (m : Marker). IsKnown m b) (sym f)
+          (IsKnown.Is_left_out (with_left_out old.left_out base) refl (reached old.left_out))
+        where
+          reached : (o : Option ℕ) → with_left_out o base ≤ b
+          reached None = omega arith
+          reached (Some next) = omega arith
 
       known : (b : ℕ) (view : ObjectView) → Begins (views_of after.objects) b view → view.colour ≡ Gray
           → IsTrue (is_known new b)

@@ -46,7 +46,7 @@ shaded-few before after word base s sound old new noted stale h =
     seen = ap (λ (h : Heap). views_of h.objects) s.now ∙ recoloured-seen before base s.object Gray s.covers.begins
 
 -- a cycle begins with an empty queue
-pub begun-few : (started : Marker) (h : Heap) → length h.objects ≤ started.room + 256 → started.overflowed ≡ false
+pub begun-few : (started : Marker) (h : Heap) → length h.objects ≤ started.room + 256 → started.left_out ≡ None
     → started.queue ≡ [] → started.partly ≡ None → HasFewStale (marking started h) 0
 begun-few started h room whole empty none =
     let size : length (views_of h.objects) ≡ length h.objects = length-map h.objects (option_map view_of_stored) in

@@ -398,7 +398,7 @@ forgotten-tidy old objects t = record {
 
 -- an empty queue with room is tidy
 pub empty-tidy : (marker : Marker) (objects : ObjectsByBase) → length objects ≤ marker.room + 256
-    → marker.overflowed ≡ false → marker.queue ≡ [] → marker.partly ≡ None
+    → marker.left_out ≡ None → marker.queue ≡ [] → marker.partly ≡ None
     → HasFewStale (record { marker = marker; objects = objects }) 0
 empty-tidy marker objects room whole empty none = record {
   tidy = record {

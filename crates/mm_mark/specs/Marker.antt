@@ -1,6 +1,6 @@
 -- What callers see of a marker, and what it knows of the gray objects of a heap.
 use Rattle.std.specs.Prelude.{◌≡◌, ◌≤◌, ◌<◌, ◌==◌, ◌&&◌, ◌||◌, ℕ, Bool, true, false, not, IsTrue, List, [], ◌∷◌, length}
-use Rattle.std.specs.Prelude.{Option, Some, None, IfSome, ◌*◌, ◌/◌, slice_get}
+use Rattle.std.specs.Prelude.{Option, Some, None, IfSome, ◌*◌, ◌/◌, slice_get, nat_le, min}
 use Rattle.std.specs.List.{list_any}
 use Rattle.std.specs.Option.{option_map}
 use Rattle.mm_model.specs.declared.object.Colour.TheVariants.{Gray}
@@ -17,13 +17,13 @@ use Rattle.mm_object.specs.Heap.{Heap}
 use Rattle.mm_roots.specs.Stack.{Cells}
 use Rattle.mm_mark.specs.declared.marker.PartlyScanned.{PartlyScanned}
 
--- Where its queue lies, and how many entries it may have; the entries, the newest first; whether one was left out
--- for want of room; whether a cycle runs; and the object that is scanned in part.
+-- Where its queue lies, and how many entries it may have; the entries, the newest first; whether some were left
+-- out for want of room, and from which base on; whether a cycle runs; and the object that is scanned in part.
 pub record Marker : Type 0 where
   pub location : Location
   pub room : ℕ
   pub queue : List ℕ
-  pub overflowed : Bool
+  pub left_out : Option ℕ
   pub running : Bool
   pub partly : Option PartlyScannedView
 
@@ -31,20 +31,20 @@ abbrev pub view_of_partly : PartlyScanned → PartlyScannedView
 view_of_partly partly = record { base = partly.base; slots_done = partly.slots_done }
 
 -- what callers see of one with this queue
-abbrev pub marker_of : Cells → Bool → Bool → Option PartlyScanned → Marker
-marker_of queue overflowed running partly =
+abbrev pub marker_of : Cells → Option ℕ → Bool → Option PartlyScanned → Marker
+marker_of queue left_out running partly =
     record {
       location = queue.location;
       room = queue.limit;
       queue = queue.words;
-      overflowed = overflowed;
+      left_out = left_out;
       running = running;
       partly = option_map view_of_partly partly;
     }
 
--- the queue alone differs, and whether an entry was left out
+-- the queue alone differs, and what was left out of it
 abbrev pub IsSameButQueue : Marker → Marker → Type 0
-IsSameButQueue before after = after ≡ record before { queue = after.queue; overflowed = after.overflowed }
+IsSameButQueue before after = after ≡ record before { queue = after.queue; left_out = after.left_out }
 
 -- a gray object begins at a base
 abbrev pub is_gray_entry : Option (Option ObjectView) → Bool
@@ -63,14 +63,19 @@ pub record IsUnderScan (objects : ObjectsByBase) (partly : PartlyScannedView) : 
   pub some_left : (object : ObjectView) → Begins objects partly.base object
       → partly.slots_done < length (scanned_words_of object)
 
--- the marker can come to the gray object at a base: it is in the queue or scanned in part, or an entry was left out
+-- the marker can come to the gray object at a base: it is in the queue or scanned in part, or begins where objects
+-- may be left out
 abbrev pub is_partly_at : Option PartlyScannedView → ℕ → Bool
 is_partly_at None base = false
 is_partly_at (Some partly) base = partly.base == base
 
+abbrev pub is_left_out : Option ℕ → ℕ → Bool
+is_left_out None base = false
+is_left_out (Some next) base = nat_le next base
+
 abbrev pub is_known : Marker → ℕ → Bool
 is_known marker base =
-    list_any (λ entry. entry == base) marker.queue || (is_partly_at marker.partly base || marker.overflowed)
+    list_any (λ entry. entry == base) marker.queue || (is_partly_at marker.partly base || is_left_out marker.left_out base)
 
 -- each gray object is known
 abbrev pub AreKnown : Marker → ObjectsByBase → Type 0
@@ -78,7 +83,7 @@ AreKnown marker objects =
     (base : ℕ) (object : ObjectView) → Begins objects base object → object.colour ≡ Gray
     → IsTrue (is_known marker base)
 
--- Each gray object is in the queue, or is scanned in part, or an overflow is noted. An entry of the queue counts only
+-- Each gray object is in the queue, or is scanned in part, or begins where objects may be left out. An entry of the queue counts only
 -- where a gray object begins there. This holds between the calls of a cycle.
 pub record KeepsGray (marker : Marker) (objects : ObjectsByBase) : Type 0 where
   pub known : AreKnown marker objects
@@ -125,15 +130,20 @@ idle location =
       location = location;
       room = location.size;
       queue = [];
-      overflowed = false;
+      left_out = None;
       running = false;
       partly = None;
     }
 
--- a base is the newest entry of the queue now, or the queue is full and an overflow is noted
+-- from which base on objects are left out, once the one at a base is
+abbrev pub with_left_out : Option ℕ → ℕ → ℕ
+with_left_out None base = base
+with_left_out (Some next) base = min next base
+
+-- a base is the newest entry of the queue now, or the queue is full and the object there is left out
 pub data IsNoted (before after : Marker) (base : ℕ) : Type 0 where
   Is_newest : after ≡ record before { queue = base ∷ before.queue } → IsNoted before after base
-  Is_left_out : length before.queue ≡ before.room → after ≡ record before { overflowed = true }
+  Is_left_out : length before.queue ≡ before.room → after ≡ record before { left_out = Some (with_left_out before.left_out base) }
       → IsNoted before after base
 
 -- a cycle runs from now on, and nothing is scanned in part
@@ -141,7 +151,7 @@ abbrev pub HasBegun : Marker → Marker → Type 0
 HasBegun before after =
     after ≡ record before {
       queue = after.queue;
-      overflowed = after.overflowed;
+      left_out = after.left_out;
       running = true;
       partly = None;
     }
@@ -151,7 +161,7 @@ abbrev pub HasStarted : Marker → Marker → Type 0
 HasStarted before after =
     after ≡ record before {
       queue = [];
-      overflowed = false;
+      left_out = None;
       running = true;
       partly = None;
     }

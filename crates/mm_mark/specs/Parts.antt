@@ -23,7 +23,7 @@ pub data IsKnown (marker : Marker) (base : ℕ) : Type 0 where
   Is_queued : IsTrue (list_any (λ entry. entry == base) marker.queue) → IsKnown marker base
   Is_partly_scanned : (partly : PartlyScannedView) → marker.partly ≡ Some partly → partly.base ≡ base
       → IsKnown marker base
-  Is_left_out : marker.overflowed ≡ true → IsKnown marker base
+  Is_left_out : (next : ℕ) → marker.left_out ≡ Some next → next ≤ base → IsKnown marker base
 
 -- an object is under scan, with the object
 pub record UnderScan (objects : ObjectsByBase) (partly : PartlyScannedView) : Type 0 where
@@ -81,10 +81,10 @@ pub record IsScanned (before after : Marking) (part : Part) : Type 0 where
   pub slots : part.slots ≡ length (part_words from chosen.object)
   pub advanced : IsAdvanced before.objects from chosen.object after
 
--- the queue alone differs, whether an entry was left out, and what is scanned in part
+-- the queue alone differs, what was left out of it, and what is scanned in part
 abbrev pub IsSameCycle : Marker → Marker → Type 0
 IsSameCycle before after =
-    after ≡ record before { queue = after.queue; overflowed = after.overflowed; partly = after.partly }
+    after ≡ record before { queue = after.queue; left_out = after.left_out; partly = after.partly }
 
 -- The object there is black now if so many of its slots are all, and else it is known how many are done.
 pub data IsEnded (before : Marking) (to : PartlyScannedView) (count : ℕ) (after : Marking) : Type 0 where

@@ -1,11 +1,12 @@
 // Which gray object is scanned next. The choice is inlined into the scan: its results would go through memory else.
-ghost use Rattle.std.specs.Prelude.{◌≡◌, ◌+◌, ◌*◌, ◌≤◌, length, MatchOption, None, []};
+ghost use Rattle.std.specs.Prelude.{◌≡◌, ◌+◌, ◌-◌, ◌*◌, ◌/◌, ◌≤◌, length, MatchOption, MatchBool, Some, None, []};
 ghost use Rattle.std.specs.Option.{option_map};
 ghost use Rattle.mm_model.specs.declared.object.Colour.TheVariants.{Gray};
 ghost use Rattle.mm_object.specs.Object.{views_of};
 ghost use Rattle.mm_mark.specs.Marker.{view_of_partly, IsSameButQueue, AreKnown, KeepsGray, marking};
 ghost use Rattle.mm_mark.specs.Stale.{IsTidy, stale_of, with_partly_at};
 ghost use Rattle.mm_mark.specs.Colours.{HasColour};
+ghost use Rattle.mm_mark.specs.Refill.{NoneGrayBefore, IsRefilled, IsPut, IsStopped, IsWalked, IsChoiceCost};
 ghost use Rattle.mm_mark.specs.Parts.{NoneIsGray, IsTaken, IsChosen, IsSameCycle};
 
 use crate::colours::is_gray_at;
@@ -123,7 +124,7 @@ impl Marker {
         None
     }
 
-    /// After an overflow the gray objects are found by their colour.
+    /// The first gray object that was left out, where some were: those behind it fill the queue again.
     #[cold]
     fn next_left_out<L: Ledger>(&mut self, heap: &Heap, steps: &mut Steps<L>) -> Option<u32>
         requires none { self.old.partly ≡ None }
@@ -134,30 +135,68 @@ impl Marker {
         ensures cycle { IsSameButQueue self.old self.new }
         ensures tidy { IsTidy (marking self.old heap.now)
             → (result ≡ None) × (self.new ≡ self.old) × (steps.new ≡ steps.old) }
+        ensures cost { IsChoiceCost self.old self.new heap.now.pages steps.old steps.new }
     {
-        if !self.overflowed {
-            return None;
+        match self.left_out {
+            Some(next) => self.walk(heap, next, steps),
+            None => None,
         }
-        match self.walk(heap, steps) {
+    }
+
+    /// Walks the heap from where on objects are left out.
+    fn walk<L: Ledger>(&mut self, heap: &Heap, next: u32, steps: &mut Steps<L>) -> Option<u32>
+        requires none { self.old.partly ≡ None }
+        requires empty { self.old.queue ≡ [] }
+        requires left { self.old.left_out ≡ Some next }
+        requires known { AreKnown self.old (views_of heap.now.objects) }
+        ensures base { MatchOption result (NoneIsGray (views_of heap.now.objects))
+            (λ base. IsTaken heap.now self.new base) }
+        ensures cycle { IsSameButQueue self.old self.new }
+        ensures walked { IsWalked self.old self.new heap.now.pages steps.old steps.new }
+    {
+        match heap.next_of(next, Colour::Gray, steps) {
             Some(base) => {
-                self.next = base;
+                self.refill(heap, base, steps);
                 Some(base)
             }
             None => {
-                self.overflowed = false;
+                self.left_out = None;
                 None
             }
         }
     }
 
-    /// The base of a gray object, from where the last walk ended on.
-    fn walk<L: Ledger>(&self, heap: &Heap, steps: &mut Steps<L>) -> Option<u32>
-        ensures { MatchOption result (NoneIsGray (views_of heap.now.objects))
-            (λ base. HasColour heap.now base Gray) }
+    /// Fills the queue with the gray objects behind `first`, until it's full or the heap is through.
+    fn refill<L: Ledger>(&mut self, heap: &Heap, first: u32, steps: &mut Steps<L>)
+        requires none { self.old.partly ≡ None }
+        requires empty { self.old.queue ≡ [] }
+        requires gray { HasColour heap.now first Gray }
+        requires before { NoneGrayBefore (views_of heap.now.objects) first }
+        ensures taken { IsTaken heap.now self.new first }
+        ensures cycle { IsSameButQueue self.old self.new }
+        ensures refilled { IsRefilled self.new }
+        ensures cost { steps.new ≤ steps.old + 2 * (1 + length self.new.queue) + (heap.now.pages - first / 4096) }
     {
-        match heap.next_of(self.next, Colour::Gray, steps) {
-            Some(base) => Some(base),
-            None => heap.next_of(0, Colour::Gray, steps),
+        let mut from = first + 1;
+        while let Some(base) = heap.next_of(from, Colour::Gray, steps) {
+            if !self.put(base) {
+                return;
+            }
+            from = base + 1;
+        }
+        self.left_out = None;
+    }
+
+    /// Puts an object in the queue, or leaves it out with all behind it: whether the queue had room.
+    fn put(&mut self, base: u32) -> bool
+        ensures { MatchBool result (IsPut self.old self.new base) (IsStopped self.old self.new base) }
+    {
+        match self.queue.push(base) {
+            Ok(()) => true,
+            Err(_) => {
+                self.left_out = Some(base);
+                false
+            }
         }
     }
 }

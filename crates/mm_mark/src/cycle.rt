@@ -88,10 +88,9 @@ impl Marker {
         ensures { HasStarted self.old self.new }
     {
         self.queue.pop(self.queue.depth());
-        self.overflowed = false;
+        self.left_out = None;
         self.running = true;
         self.partly = None;
-        self.next = 0;
     }
 
     /// Forgets the object that is scanned in part if it isn't there any more, after a phase freed objects.

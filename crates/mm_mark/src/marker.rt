@@ -22,11 +22,10 @@ pub(crate) struct PartlyScanned {
 pub struct Marker {
     // The newest entry is on top and is taken first.
     pub(crate) queue: Stack,
-    pub(crate) overflowed: bool,
+    // Each gray object that the queue had no room for begins there or behind it.
+    pub(crate) left_out: Option<u32>,
     pub(crate) running: bool,
     pub(crate) partly: Option<PartlyScanned>,
-    // Where the walk for gray objects goes on after an overflow.
-    pub(crate) next: u32,
 }
 
 impl Model for Marker {
@@ -34,7 +33,7 @@ impl Model for Marker {
 
     ghost Value = { markers.Marker };
 
-    ghost view = { λ m. markers.marker_of m.queue m.overflowed m.running m.partly };
+    ghost view = { λ m. markers.marker_of m.queue m.left_out m.running m.partly };
 }
 
 impl Marker {
@@ -46,10 +45,9 @@ impl Marker {
         let room = queue.len();
         Marker {
             queue: Stack::make(queue, room),
-            overflowed: false,
+            left_out: None,
             running: false,
             partly: None,
-            next: 0,
         }
     }
 
@@ -60,10 +58,9 @@ impl Marker {
     {
         let Marker {
             queue,
-            overflowed: _,
+            left_out: _,
             running: _,
             partly: _,
-            next: _,
         } = self;
         queue.close()
     }

@@ -8,6 +8,7 @@ ghost use Rattle.mm_model.specs.Views.ViewStore.{is_slot_done, view_barrier};
 ghost use Rattle.mm_object.specs.Object.{StoredObject, view_of_stored, views_of};
 ghost use Rattle.mm_object.specs.Heap.{HasSlot, IsSound};
 ghost use Rattle.mm_mark.specs.Marker.{IsSameButQueue, AreKnown, KeepsGray, marking, IsNoted, ShowsMarking, is_passed};
+ghost use Rattle.mm_mark.specs.Marker.{with_left_out};
 ghost use Rattle.mm_mark.specs.Stale.{KeepsFewStale};
 ghost use Rattle.mm_mark.specs.Colours.{IsGrayed, IsSameButColours};
 
@@ -16,6 +17,16 @@ use crate::marker::Marker;
 use mm_object::{Heap, Slot};
 use mm_steps::Steps;
 use std::sync::ledger::Ledger;
+
+/// From where on objects are left out, once the one at `base` is.
+fn earliest(left_out: Option<u32>, base: u32) -> u32
+    ensures { result ≡ with_left_out left_out base }
+{
+    match left_out {
+        Some(next) => if next < base { next } else { base },
+        None => base,
+    }
+}
 
 impl Marker {
     /// Makes the white object gray in which a word falls, and notes it.
@@ -54,13 +65,13 @@ impl Marker {
         }
     }
 
-    /// Puts an object in the queue, or notes that it has no room.
+    /// Puts an object in the queue, or notes that it had no room for it.
     fn note(&mut self, base: u32)
         ensures { IsNoted self.old self.new base }
     {
         match self.queue.push(base) {
             Ok(()) => {}
-            Err(_) => self.overflowed = true,
+            Err(_) => self.left_out = Some(earliest(self.left_out, base)),
         }
     }
 

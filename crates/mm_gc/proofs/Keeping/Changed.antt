@@ -1,5 +1,5 @@
 -- What is kept between calls stays where objects are changed in their places, with counts and queue.
-use Rattle.std.proofs.Common.{◌≡◌, ℕ, Bool, List, refl, sym, ap, ◌∙◌, subst}
+use Rattle.std.proofs.Common.{◌≡◌, ℕ, Option, List, refl, sym, ap, ◌∙◌, subst}
 use Rattle.mm_model.specs.Views.ObjectView.{pieces_of_objects}
 use Rattle.mm_model.specs.Views.ViewWords.{outside_references}
 use Rattle.mm_object.specs.Object.{StoredObjects, views_of}
@@ -21,23 +21,23 @@ with_parts gc heap table marker =
 abbrev with_objects : Heap → StoredObjects → Heap
 with_objects h objects = record h { objects = objects }
 
-abbrev with_queue : Marker → List ℕ → Bool → Marker
-with_queue marker queue overflowed = record marker { queue = queue; overflowed = overflowed }
+abbrev with_queue : Marker → List ℕ → Option ℕ → Marker
+with_queue marker queue left_out = record marker { queue = queue; left_out = left_out }
 
 module _ (gc : Gc) (keeps : KeepsGc gc) where
-  keeps-literal : (objects : StoredObjects) (entries queue : List ℕ) (overflowed : Bool)
+  keeps-literal : (objects : StoredObjects) (entries queue : List ℕ) (left_out : Option ℕ)
       → pieces_of_objects (views_of objects) ≡ pieces_of_objects (objects_in gc.region)
       → IsSound (with_objects gc.region.heap objects)
       → HasCounts (with_entries gc.table entries) (with_objects gc.region.heap objects)
       (outside_references (view_of_gc gc))
-      → AreKnown (with_queue gc.marker queue overflowed) (views_of objects)
+      → AreKnown (with_queue gc.marker queue left_out) (views_of objects)
       → KeepsFewStale (marking gc.marker gc.region.heap)
-      (marking (with_queue gc.marker queue overflowed) (with_objects gc.region.heap objects))
+      (marking (with_queue gc.marker queue left_out) (with_objects gc.region.heap objects))
       → IsShowing (view_of_gc (with_parts gc (with_objects gc.region.heap objects) (with_entries gc.table entries)
-      (with_queue gc.marker queue overflowed)))
+      (with_queue gc.marker queue left_out)))
       → KeepsGc (with_parts gc (with_objects gc.region.heap objects) (with_entries gc.table entries)
-      (with_queue gc.marker queue overflowed))
-  keeps-literal objects entries queue overflowed pieces sound counts known few shown =
+      (with_queue gc.marker queue left_out))
+  keeps-literal objects entries queue left_out pieces sound counts known few shown =
       record {
         shown = shown;
         settled = settled-objects gc.region (with_objects gc.region.heap objects) refl keeps.settled pieces sound;
@@ -88,7 +88,7 @@ module _ (gc : Gc) (keeps : KeepsGc gc) where
       subst (λ (h : Heap). KeepsGc (with_parts gc h table marker)) (sym rest)
       (subst (λ (t : Table). KeepsGc (with_parts gc literal t marker)) (sym entries)
       (subst (λ (m : Marker). KeepsGc (with_parts gc literal (with_entries gc.table table.entries) m)) (sym queue)
-      (keeps-literal heap.objects table.entries marker.queue marker.overflowed pieces (subst IsSound rest sound)
+      (keeps-literal heap.objects table.entries marker.queue marker.left_out pieces (subst IsSound rest sound)
       (subst (λ (t : Table). HasCounts t literal (outside_references (view_of_gc gc))) entries
       (subst (λ (h : Heap). HasCounts table h (outside_references (view_of_gc gc))) rest counts))
       (subst (λ (m : Marker). AreKnown m (views_of heap.objects)) queue known)

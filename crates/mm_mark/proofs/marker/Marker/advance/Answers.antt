@@ -35,29 +35,29 @@ returns-then-to-count-clause-known g c =
     let begins = c.requires.object.1 in
     let own : IfSome c.args.self.now.partly (λ p. p.base ≡ c.args.to.base) =
     subst (λ (o : Option PartlyScannedView). IfSome o (λ p. p.base ≡ c.args.to.base)) (sym c.requires.own.is) refl in
-    let now : Marker = marker_of c.self.inside.queue c.self.inside.overflowed c.self.inside.running None in
+    let now : Marker = marker_of c.self.inside.queue c.self.inside.left_out c.self.inside.running None in
     subst (λ (os : ObjectsByBase). AreKnown now os)
     (sym (ap (λ (h : Heap). views_of h.objects) (c.set_colour.ensures.colour object begins)
     ∙ recoloured-seen c.args.heap.now c.args.to.base object Black begins))
     (known-blackened c.args.self.now now (views_of c.args.heap.now.objects) c.args.to.base (view_of_stored object)
     (stored-viewed c.args.heap.now.objects c.args.to.base object begins)
-    (ap (λ (m : Marker). m.queue) c.self.view_is) (ap (λ (m : Marker). m.overflowed) c.self.view_is) own
+    (ap (λ (m : Marker). m.queue) c.self.view_is) (ap (λ (m : Marker). m.left_out) c.self.view_is) own
     c.requires.known)
 
 pub returns-else-to-count-clause-known : goal.returns-else-to-count-clause-known
 returns-else-to-count-clause-known g c =
     let own : IfSome c.args.self.now.partly (λ p. p.base ≡ c.args.to.base) =
     subst (λ (o : Option PartlyScannedView). IfSome o (λ p. p.base ≡ c.args.to.base)) (sym c.requires.own.is) refl in
-    let now : Marker = marker_of c.self.inside.queue c.self.inside.overflowed c.self.inside.running (Some c.args.to) in
+    let now : Marker = marker_of c.self.inside.queue c.self.inside.left_out c.self.inside.running (Some c.args.to) in
     known-partly c.args.self.now now (views_of c.args.heap.now.objects) (view_of_partly c.args.to)
-    (ap (λ (m : Marker). m.queue) c.self.view_is) (ap (λ (m : Marker). m.overflowed) c.self.view_is) refl own
+    (ap (λ (m : Marker). m.queue) c.self.view_is) (ap (λ (m : Marker). m.left_out) c.self.view_is) refl own
     c.requires.known
 
 pub returns-then-to-count-clause-few : goal.returns-then-to-count-clause-few
 returns-then-to-count-clause-few g c =
     let object = c.requires.object.0 in
     let begins = c.requires.object.1 in
-    let now : Marker = marker_of c.self.inside.queue c.self.inside.overflowed c.self.inside.running None in
+    let now : Marker = marker_of c.self.inside.queue c.self.inside.left_out c.self.inside.running None in
     ended-few c.args.self.now now (views_of c.args.heap.now.objects) (views_of c.set_colour.new.self.objects)
     c.args.to.base
     c.requires.own.done c.args.to.slots_done c.args.count c.requires.own.is
@@ -69,7 +69,7 @@ returns-then-to-count-clause-few g c =
 
 pub returns-else-to-count-clause-few : goal.returns-else-to-count-clause-few
 returns-else-to-count-clause-few g c =
-    let now : Marker = marker_of c.self.inside.queue c.self.inside.overflowed c.self.inside.running (Some c.args.to) in
+    let now : Marker = marker_of c.self.inside.queue c.self.inside.left_out c.self.inside.running (Some c.args.to) in
     ended-few c.args.self.now now (views_of c.args.heap.now.objects) (views_of c.args.heap.now.objects) c.args.to.base
     c.requires.own.done c.args.to.slots_done c.args.count c.requires.own.is
     (ap (λ (m : Marker). record m { partly = Some (view_of_partly c.args.to) }) c.self.view_is)

@@ -13,5 +13,5 @@ returns-clause-few g c = λ room.
     let same = ap (λ (m : Marker). m.room) c.start.ensures in
     c.shade_roots.ensures.few 0
     (begun-few c.start.new.self c.args.heap.now (omega (arith, room, same))
-    (ap (λ (m : Marker). m.overflowed) c.start.ensures)
+    (ap (λ (m : Marker). m.left_out) c.start.ensures)
     (ap (λ (m : Marker). m.queue) c.start.ensures) (ap (λ (m : Marker). m.partly) c.start.ensures))

@@ -12,10 +12,10 @@ returns-in-Some-clause-next g c =
 pub returns-in-Some-clause-known : goal.returns-in-Some-clause-known
 returns-in-Some-clause-known g c =
     let next : PartlyScanned = record { base = c.in-Some.base; slots_done = 0 } in
-    let now : Marker = marker_of c.self.inside.queue c.self.inside.overflowed c.self.inside.running (Some next) in
+    let now : Marker = marker_of c.self.inside.queue c.self.inside.left_out c.self.inside.running (Some next) in
     known-once_taken c.args.heap.now c.next_base.new.self now (view_of_partly next)
     (ap (λ (m : Marker). m.partly) c.next_base.ensures.cycle ∙ c.requires.none)
-    (ap (λ (m : Marker). m.queue) c.self.view_is) (ap (λ (m : Marker). m.overflowed) c.self.view_is) refl
+    (ap (λ (m : Marker). m.queue) c.self.view_is) (ap (λ (m : Marker). m.left_out) c.self.view_is) refl
     c.in-Some.ensures.base
 
 pub returns-in-None-clause-known : goal.returns-in-None-clause-known

@@ -16,7 +16,7 @@ returns-then-is_freed-clause-keeps g c =
     subst (λ (b : Bool). MatchBool b (IsFreed c.args.self.now objects)
     (IfSome c.args.self.now.partly (IsUnderScan objects)))
     c.if-is_freed.true c.is_freed.ensures.freed in
-    let now : Marker = marker_of c.self.inside.queue c.self.inside.overflowed c.self.inside.running None in
+    let now : Marker = marker_of c.self.inside.queue c.self.inside.left_out c.self.inside.running None in
     record {
       known =
           forgotten-known c.args.self.now now objects freed (ap (λ (m : Marker). record m { partly = None })

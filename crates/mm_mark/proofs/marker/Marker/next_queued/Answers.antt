@@ -29,7 +29,7 @@ entries-preserved g c =
     let some : 0 < length c.entries.self.queue = omega (arith, c.depth.ensures.value, c.entries-test.true) in
     let step : IsSameButQueue c.entries.self c.take-base.new.self =
     c.take-base.ensures.rest
-    ∙ sym (ap (λ (m : Marker). record c.entries.self { queue = m.queue; overflowed = m.overflowed })
+    ∙ sym (ap (λ (m : Marker). record c.entries.self { queue = m.queue; left_out = m.left_out })
     c.take-base.ensures.rest) in
     let none = ap (λ (m : Marker). m.partly) c.entries.invariant.cycle ∙ c.requires.none in
     let dark : IsNoneGrayAt c.args.heap.now c.take-base.result =
