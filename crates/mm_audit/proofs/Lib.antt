@@ -1,0 +1,4 @@
+pub mod Spellings
+pub mod Lines
+pub mod Fitting
+pub mod Answers

@@ -1,0 +1,54 @@
+// Laws of what an audit answers: there is one answer for each log, and it means what it says.
+ghost use Rattle.std.specs.Prelude.{◌≡◌, ℕ, ◌≤◌, ◌<◌, List, map, length};
+ghost use Rattle.std.specs.List.{concat};
+ghost use Rattle.mm_model.specs.declared.command.Command.{Command};
+ghost use Rattle.mm_model.specs.declared.line.Line.{Line};
+ghost use Rattle.mm_model.specs.declared.settings.Settings.{Settings};
+ghost use Rattle.mm_model.specs.Logs.Spelling.{spelling, spelling_of};
+ghost use Rattle.mm_model.specs.Logs.Trace.{rest_of, pieces_of, ended_lines};
+ghost use Rattle.mm_audit.specs.declared.answer.Answer.{Answer};
+ghost use Rattle.mm_audit.specs.declared.answer.Answer.TheVariants as answers;
+ghost use Rattle.mm_audit.specs.Audit.{log_lines, IsWholeLog, Fits, IsAudited};
+
+/// Settings, commands and bytes determine the answer. So where it is `Yes`, it isn't `No`.
+pub fn an_answer_is_determined()
+    ensures same { (settings : Settings) (commands : List Command) (bytes : List ℕ) (answer other : Answer) →
+        IsAudited settings commands bytes answer → IsAudited settings commands bytes other → answer ≡ other }
+    ensures excluded { (settings : Settings) (commands : List Command) (bytes : List ℕ) (n : ℕ) →
+        IsAudited settings commands bytes answers.Yes → IsAudited settings commands bytes (answers.No n) → ⊥ }
+{}
+
+/// No log is without an answer, where the least number of pages isn't above the greatest.
+pub fn every_log_has_an_answer()
+    ensures { (settings : Settings) (commands : List Command) (bytes : List ℕ) → settings.pages ≤ settings.max
+        → ((answer : Answer) → IsAudited settings commands bytes answer → ⊥) → ⊥ }
+{}
+
+/// Where lines fit, so do fewer of them. So each line before the one that `No` names fits, and it doesn't.
+pub fn each_front_fits()
+    ensures fewer { (settings : Settings) (commands : List Command) (bytes : List ℕ) (count fewer : ℕ) →
+        Fits settings commands bytes count → fewer ≤ count → Fits settings commands bytes fewer }
+    ensures before { (settings : Settings) (commands : List Command) (bytes : List ℕ) (n count : ℕ) →
+        IsAudited settings commands bytes (answers.No n) → count < n → Fits settings commands bytes count }
+    ensures not_this { (settings : Settings) (commands : List Command) (bytes : List ℕ) (n : ℕ) →
+        IsAudited settings commands bytes (answers.No n) → Fits settings commands bytes n → ⊥ }
+{}
+
+/// The lines of a log are all of its bytes in order.
+pub fn lines_make_up_a_log()
+    ensures { (bytes : List ℕ) → concat (log_lines bytes) ≡ bytes }
+{}
+
+/// The lines of a spelled log are the spellings of its lines. So all lines of a whole log fit.
+pub fn spellings_are_lines()
+    ensures lines { (log : List Line) → log_lines (spelling_of log) ≡ map spelling log }
+    ensures fits { (settings : Settings) (commands : List Command) (bytes : List ℕ) →
+        IsWholeLog settings commands bytes → Fits settings commands bytes (length (log_lines bytes)) }
+{}
+
+/// What stands behind the last newline byte is no spelling of a line. So only lines that have ended fit.
+pub fn a_rest_is_no_spelling()
+    ensures rest { (line : Line) (bytes : List ℕ) → spelling line ≡ rest_of bytes → ⊥ }
+    ensures ended { (settings : Settings) (commands : List Command) (bytes : List ℕ) (count : ℕ) →
+        Fits settings commands bytes count → count ≤ length (ended_lines (pieces_of bytes)) }
+{}

@@ -1,0 +1,12 @@
+//! Whether bytes that anybody wrote are the log of given commands, and where they aren't, the first line that doesn't
+//! fit.
+#![tactic(auto)]
+
+mod answer;
+mod laws;
+
+pub use answer::Answer;
+pub use laws::{
+    a_rest_is_no_spelling, an_answer_is_determined, each_front_fits, every_log_has_an_answer,
+    lines_make_up_a_log, spellings_are_lines,
+};
