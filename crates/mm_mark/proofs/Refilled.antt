@@ -65,7 +65,8 @@ module _ (h : Heap) (marker : Marker) (first from : ℕ)
       → new ≡ record marker { queue = base ∷ marker.queue }
       → AreOthersKnown (walking new (base + 1)) (views_of h.objects) first
   walk-queues new base found is other object begins gray apart =
-      subst (λ (m : Marker). IsKnown (walking m (base + 1)) other) (sym is) (split (others other object begins gray apart))
+      subst (λ (m : Marker). IsKnown (walking m (base + 1)) other) (sym is)
+      (split (others other object begins gray apart))
     where
       later : (own : Bool) → IsTrue (list_any (λ entry. entry == other) marker.queue)
           → IsTrue (own || list_any (λ entry. entry == other) marker.queue)
@@ -89,7 +90,8 @@ module _ (h : Heap) (marker : Marker) (first from : ℕ)
       ]
 
   -- or is left out, and all behind it
-  pub walk-stops : (base : ℕ) → IsNextOf h Gray from base → AreOthersKnown (walking marker base) (views_of h.objects) first
+  pub walk-stops : (base : ℕ) → IsNextOf h Gray from base →
+      AreOthersKnown (walking marker base) (views_of h.objects) first
   walk-stops base found other object begins gray apart = split (others other object begins gray apart)
     where
       split : IsKnown (walking marker from) other → IsKnown (walking marker base) other

@@ -75,7 +75,8 @@ is_left_out (Some next) base = nat_le next base
 
 abbrev pub is_known : Marker → ℕ → Bool
 is_known marker base =
-    list_any (λ entry. entry == base) marker.queue || (is_partly_at marker.partly base || is_left_out marker.left_out base)
+    list_any (λ entry. entry == base) marker.queue ||
+    (is_partly_at marker.partly base || is_left_out marker.left_out base)
 
 -- each gray object is known
 abbrev pub AreKnown : Marker → ObjectsByBase → Type 0
@@ -83,8 +84,8 @@ AreKnown marker objects =
     (base : ℕ) (object : ObjectView) → Begins objects base object → object.colour ≡ Gray
     → IsTrue (is_known marker base)
 
--- Each gray object is in the queue, or is scanned in part, or begins where objects may be left out. An entry of the queue counts only
--- where a gray object begins there. This holds between the calls of a cycle.
+-- Each gray object is in the queue, or is scanned in part, or begins where objects may be left out. An entry of the
+-- queue counts only where a gray object begins there. This holds between the calls of a cycle.
 pub record KeepsGray (marker : Marker) (objects : ObjectsByBase) : Type 0 where
   pub known : AreKnown marker objects
   pub partly : IfSome marker.partly (IsUnderScan objects)
@@ -143,7 +144,8 @@ with_left_out (Some next) base = min next base
 -- a base is the newest entry of the queue now, or the queue is full and the object there is left out
 pub data IsNoted (before after : Marker) (base : ℕ) : Type 0 where
   Is_newest : after ≡ record before { queue = base ∷ before.queue } → IsNoted before after base
-  Is_left_out : length before.queue ≡ before.room → after ≡ record before { left_out = Some (with_left_out before.left_out base) }
+  Is_left_out : length before.queue ≡ before.room
+      → after ≡ record before { left_out = Some (with_left_out before.left_out base) }
       → IsNoted before after base
 
 -- a cycle runs from now on, and nothing is scanned in part

@@ -33,8 +33,8 @@ abbrev pub known_bases : Option PartlyScannedView → List ℕ → List ℕ
 known_bases None queue = queue
 known_bases (Some partly) queue = partly.base ∷ queue
 
--- The queue has room for an entry for each place of an object, and nothing is left out of it. The entries and the base of
--- what is scanned in part differ, and none is the base of a white object.
+-- The queue has room for an entry for each place of an object, and nothing is left out of it. The entries and the base
+-- of what is scanned in part differ, and none is the base of a white object.
 pub record IsTidy (now : Marking) : Type 0 where
   pub room : length now.objects ≤ now.marker.room + 256
   pub whole : now.marker.left_out ≡ None
