@@ -1,5 +1,5 @@
 -- Texts that are written behind a log, and how they are spelled.
-use Rattle.std.proofs.Common.{◌≡◌, ℕ, ◌*◌, ◌≤◌, List, [], ◌∷◌, ◌++◌, length, Option, Some, None, refl, ap, sym, ◌∙◌}
+use Rattle.std.proofs.Common.{◌≡◌, ℕ, ◌*◌, ◌≤◌, List, [], ◌∷◌, ◌++◌, length, Option, Some, None, ap, sym, ◌∙◌}
 use Rattle.std.proofs.Common.{subst}
 use Rattle.std.proofs.Common.{append_assoc, append-nil, codes, take, ◌+◌, arith}
 use Rattle.std.proofs.lemmas.List.{length-map, take_more}
@@ -21,9 +21,9 @@ use Rattle.mm_gc.specs.Gc.{Gc, view_of_gc}
 use Rattle.mm_why.specs.declared.hop.Via.{Via}
 use Rattle.mm_why.specs.declared.hop.Via.TheVariants.{Stack, Area, Slot}
 use Rattle.mm_why.specs.declared.hop.Hop.{Hop}
-use Rattle.mm_why.specs.Path.{Shown, shown_in, IsPath, IsPathOf, IsLeastLength, HasNoPath}
-use Rattle.mmgc.specs.Added.{hop_spelling, IsShortest}
-use Rattle.mmgc.specs.Appending.{named, numbered, via_spelling, IsFoundIn, IsPathFound, IsSearched}
+use Rattle.mm_why.specs.Path.{Shown, shown_in, IsPathOf, IsLeastLength, HasNoPath}
+use Rattle.mmgc.specs.Added.{hop_spelling}
+use Rattle.mmgc.specs.Appending.{named, numbered, via_spelling, IsFoundIn, IsSearched}
 
 -- what a heap shows of objects, stack and areas is what each of its states shows
 pub shown_same : (heap : Gc) (a : State) → Shows (view_of_gc heap) a →

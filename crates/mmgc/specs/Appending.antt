@@ -1,5 +1,5 @@
 -- What is written behind a log, as contracts see it.
-use Rattle.std.specs.Prelude.{◌≡◌, ℕ, List, [], ◌∷◌, ◌++◌, Option, IfSome, MatchOption, length, codes, decimal}
+use Rattle.std.specs.Prelude.{◌≡◌, ℕ, List, ◌∷◌, ◌++◌, Option, IfSome, MatchOption, length, codes, decimal}
 use Rattle.std.specs.Option.{option_map}
 use Rattle.mm_model.specs.declared.settings.Settings.{Settings}
 use Rattle.mm_model.specs.State.{State, empty_state}

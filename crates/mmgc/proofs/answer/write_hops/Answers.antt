@@ -1,4 +1,4 @@
-use Rattle.std.proofs.Common.{[], subst, sym, ap, ◌∙◌, take, take_all, arith}
+use Rattle.std.proofs.Common.{subst, take}
 use Rattle.std.specs.List.{flat_map}
 use Rattle.mm_model.proofs.Text.Journals.{writes-none, writes-append}
 use Rattle.mmgc.specs.Added.{hop_spelling}
