@@ -1,7 +1,7 @@
 -- Which gray object is taken, and that the others stay known.
 use Rattle.std.proofs.Common.{◌≡◌, ◌≢◌, ℕ, ◌<◌, Bool, true, false, List, [], ◌∷◌, length, drop, Option, Some, None, inl}
 use Rattle.std.proofs.Common.{inr, refl, sym, ap, subst, ◌∙◌, arith, eqb-true}
-use Rattle.std.specs.Prelude.{IfSome, IsTrue, MatchOption, ◌||◌, ◌==◌, if◌then◌else◌, slice_index}
+use Rattle.std.specs.Prelude.{IfSome, IsTrue, ◌||◌, ◌==◌, if◌then◌else◌, slice_index}
 use Rattle.std.specs.List.{list_any}
 use Rattle.std.proofs.lemmas.Bool.{cases_eq, eq-eqb}
 use Rattle.mm_model.specs.declared.object.Colour.TheVariants.{Gray}
@@ -11,7 +11,6 @@ use Rattle.mm_model.specs.Views.View.{PartlyScannedView}
 use Rattle.mm_model.specs.Views.ViewStep.{slots_done_of, may_go_on}
 use Rattle.mm_object.specs.Object.{view_of_stored, views_of}
 use Rattle.mm_object.specs.Heap.{Heap}
-use Rattle.mm_object.specs.Colours.{IsNextOf, NoneOfFrom}
 use Rattle.mm_mark.specs.Marker.{Marker, IsUnderScan, AreKnown}
 use Rattle.mm_mark.specs.Parts.{IsKnown, UnderScan}
 use Rattle.mm_mark.proofs.Known.{known-told, told-known, told-under}

@@ -1,5 +1,6 @@
 pub mod Advancing
 pub mod Barred
+pub mod Choices
 pub mod Chosen
 pub mod Drained
 pub mod Forgotten

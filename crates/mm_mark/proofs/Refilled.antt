@@ -1,12 +1,11 @@
 -- A walk that fills the queue again: which gray objects are known on the way.
-use Rattle.std.proofs.Common.{◌≡◌, ◌≢◌, ℕ, ◌+◌, ◌*◌, ◌-◌, ◌/◌, ◌<◌, ◌≤◌, Bool, true, false, List, [], ◌∷◌, Option, Some}
+use Rattle.std.proofs.Common.{◌≡◌, ℕ, ◌+◌, ◌≤◌, Bool, true, false, [], ◌∷◌, Option, Some}
 use Rattle.std.proofs.Common.{None, inl, inr, refl, sym, ap, subst, ◌∙◌, arith}
 use Rattle.std.specs.Prelude.{IsTrue, ◌||◌, ◌==◌}
 use Rattle.std.specs.List.{list_any}
 use Rattle.std.proofs.lemmas.Bool.{cases_eq, eq-eqb}
 use Rattle.mm_model.specs.declared.object.Colour.TheVariants.{Gray}
 use Rattle.mm_model.specs.Views.View.{PartlyScannedView}
-use Rattle.mm_model.proofs.Lists.Truth.{or_true}
 use Rattle.mm_object.specs.Object.{views_of}
 use Rattle.mm_object.specs.Heap.{Heap}
 use Rattle.mm_object.specs.Colours.{IsNextOf, NoneOfFrom}

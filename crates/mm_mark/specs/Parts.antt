@@ -1,6 +1,6 @@
 -- One part of the scan of a gray object: which object's turn it is, and what the part does.
 use Rattle.std.specs.Prelude.{◌≡◌, ◌≢◌, ◌+◌, ◌≤◌, ◌<◌, ℕ, IsTrue, List, length, take, drop, Option, Some, None, IfSome}
-use Rattle.std.specs.Prelude.{true, ◌==◌}
+use Rattle.std.specs.Prelude.{◌==◌}
 use Rattle.std.specs.List.{list_any}
 use Rattle.mm_model.specs.declared.object.Colour.TheVariants.{Gray, Black}
 use Rattle.mm_model.specs.declared.object.Part.{Part}

@@ -37,3 +37,10 @@ pub data IsChoiceCost (before after : Marker) (pages old new : ℕ) : Type 0 whe
       → new + 2 * length after.queue ≤ old + 2 * length before.queue → IsChoiceCost before after pages old new
   Is_walked : IsWalked before after pages (old + 2 * length before.queue) new
       → IsChoiceCost before after pages old new
+
+-- and each slot that is scanned then costs two
+pub record IsScanCost (before : Marker) (pages slots old new : ℕ) : Type 0 where
+  pub chosen : Marker
+  pub choice : ℕ
+  pub choosing : IsChoiceCost before chosen pages old choice
+  pub cost : new ≤ choice + 2 + 2 * slots

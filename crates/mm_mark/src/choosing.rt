@@ -36,6 +36,7 @@ impl Marker {
             ≤ steps.old + 2 + 8 * stale_of (marking self.old heap.now) }
         ensures fewer { IsTidy (marking self.old heap.now)
             → stale_of (marking self.new heap.now) ≤ stale_of (marking self.old heap.now) }
+        ensures cost { IsChoiceCost self.old self.new heap.now.pages steps.old steps.new }
     {
         match self.partly {
             Some(partly) => Some(partly),
@@ -63,6 +64,7 @@ impl Marker {
             ≤ steps.old + 2 + 8 * stale_of (marking self.old heap.now) }
         ensures fewer { IsTidy (marking self.old heap.now)
             → stale_of (marking self.new heap.now) ≤ stale_of (marking self.old heap.now) }
+        ensures cost { IsChoiceCost self.old self.new heap.now.pages steps.old steps.new }
     {
         match self.next_base(heap, steps) {
             Some(base) => {
@@ -92,6 +94,7 @@ impl Marker {
             ≤ steps.old + 2 + 8 * stale_of (marking self.old heap.now) }
         ensures fewer { IsTidy (marking self.old heap.now)
             → stale_of (marking self.new heap.now) ≤ stale_of (marking self.old heap.now) }
+        ensures cost { IsChoiceCost self.old self.new heap.now.pages steps.old steps.new }
     {
         match self.next_queued(heap, steps) {
             Some(base) => Some(base),
@@ -114,6 +117,8 @@ impl Marker {
             ≤ steps.old + 2 + 8 * stale_of (marking self.old heap.now) }
         ensures fewer { IsTidy (marking self.old heap.now)
             → stale_of (marking self.new heap.now) ≤ stale_of (marking self.old heap.now) }
+        ensures left { self.new.left_out ≡ self.old.left_out }
+        ensures cost { steps.new + 2 * length self.new.queue ≡ steps.old + 2 * length self.old.queue }
     {
         'entries: while self.queue.depth() > 0 {
             let base = self.take(steps);

@@ -35,7 +35,7 @@ impl Marker {
         ensures keeps { KeepsGray self.new (views_of heap.new.objects) }
         ensures sound { IsSound heap.old → IsSound heap.new }
         ensures few { length heap.old.objects ≤ self.old.room + 256 → HasFewStale (marking self.new heap.new) 0 }
-        ensures cost { steps.new ≤ steps.old + 16 * (1 + length (root_words stack.now areas.now heap.old)) }
+        ensures cost { steps.new ≡ steps.old + 2 * length (root_words stack.now areas.now heap.old) }
     {
         self.start();
         self.shade_roots(heap, stack, areas, steps);
@@ -57,7 +57,7 @@ impl Marker {
         ensures keeps { KeepsGray self.new (views_of heap.new.objects) }
         ensures sound { IsSound heap.old → IsSound heap.new }
         ensures few { KeepsFewStale (marking self.old heap.old) (marking self.new heap.new) }
-        ensures cost { steps.new ≤ steps.old + 16 * (1 + length (root_words stack.now areas.now heap.old)) }
+        ensures cost { steps.new ≡ steps.old + 2 * length (root_words stack.now areas.now heap.old) }
     {
         self.shade_roots(heap, stack, areas, steps);
     }

@@ -9,6 +9,7 @@ ghost use Rattle.mm_mark.specs.Marker.{view_of_partly, IsSameButQueue, AreKnown,
 ghost use Rattle.mm_mark.specs.Marker.{IsPartDone, HasNoGray};
 ghost use Rattle.mm_mark.specs.Colours.{IsGrayed, IsSameButColours, HasColour};
 ghost use Rattle.mm_mark.specs.Parts.{NoneIsGray, IsScanned, IsAdvanced, part_words, IsSameCycle, IsEnded, IsOfPartly};
+ghost use Rattle.mm_mark.specs.Refill.{IsScanCost};
 ghost use Rattle.mm_mark.specs.Stale.{IsTidy, HasFewStale, KeepsFewStale, IsPaid, stale_of, slots_of};
 
 use crate::marker::{Marker, PartlyScanned};
@@ -44,6 +45,7 @@ impl Marker {
         ensures few { (stale : ℕ) → HasFewStale (marking self.old heap.old) stale
             → IsPaid (marking self.new heap.new) steps.new (steps.old + 16 * (1 + slots_of result) + 8 * stale) }
         ensures fewer { KeepsFewStale (marking self.old heap.old) (marking self.new heap.new) }
+        ensures cost { IsScanCost self.old heap.old.pages (slots_of result) steps.old steps.new }
     {
         self.scan_next(heap, steps)
     }
@@ -69,6 +71,7 @@ impl Marker {
             ≤ steps.old + 4 + 2 * slots_of result + 8 * stale_of (marking self.old heap.old) }
         ensures fewer { IsTidy (marking self.old heap.old)
             → stale_of (marking self.new heap.new) ≤ stale_of (marking self.old heap.old) }
+        ensures cost { IsScanCost self.old heap.old.pages (slots_of result) steps.old steps.new }
     {
         match self.choose(heap, steps) {
             Some(next) => Some(self.scan_from(heap, next, steps)),

@@ -88,3 +88,9 @@ pub final_slots-true : (objects : StoredObjects) (base : ℕ) (object : StoredOb
 final_slots-true objects base object begins flag =
     ap final_slots (stored_at-begins objects base object begins)
     ∙ ap (λ (b : Bool). if b then length object.words else 0) flag
+
+pub final_slots-false : (objects : StoredObjects) (base : ℕ) (object : StoredObject) → Begins objects base object
+    → object.finalize ≡ false → final_slots (object_at (views_of objects) base) ≡ 0
+final_slots-false objects base object begins flag =
+    ap final_slots (stored_at-begins objects base object begins)
+    ∙ ap (λ (b : Bool). if b then length object.words else 0) flag

@@ -41,7 +41,7 @@ fn run_finalizer<J: Journal, L: Ledger>(
         (J.kept journal.new) (J.is_broken journal.new)
         (spelling_of (view_final_lines (object_at (views_of heap.now.objects) base))) }
     ensures kept { J.keeps journal.old journal.new }
-    ensures cost { steps.new ≤ steps.old + 1 + final_slots (object_at (views_of heap.now.objects) base) }
+    ensures cost { steps.new ≡ steps.old + 1 + final_slots (object_at (views_of heap.now.objects) base) }
 {
     if has_finalizer(heap, cells, base, steps) {
         journal.finalize(base, heap.slots(base, steps));
@@ -63,7 +63,7 @@ pub(crate) fn run_finalizers<J: Journal, L: Ledger>(
         (spelling_of (final_lines_at (views_of heap.now.objects) (take k dead.now.words))) }
     ensures kept { J.keeps journal.old journal.new }
     ensures sound { IsSound heap.now }
-    ensures cost { steps.new ≤ steps.old + k + finalized_slots (views_of heap.now.objects) (take k dead.now.words) }
+    ensures cost { steps.new ≡ steps.old + k + finalized_slots (views_of heap.now.objects) (take k dead.now.words) }
 {
     let cells = heap.cells();
     for i in 0..k {

@@ -3,7 +3,7 @@ use Rattle.mm_model.specs.declared.line.Line.TheVariants as lines
 use Rattle.mm_model.specs.Logs.Journal.{Writes}
 use Rattle.mm_model.specs.Logs.Spelling.{spelling, spelling_of}
 use Rattle.mm_model.proofs.Text.Journals.{writes-none}
-use Rattle.mm_sweep.proofs.Finals.{final_lines-true, final_lines-false, final_slots-true}
+use Rattle.mm_sweep.proofs.Finals.{final_lines-true, final_lines-false, final_slots-true, final_slots-false}
 use Rattle.mm_sweep.proofs.finalizing.run_finalizer.Goals as goal
 
 pub finalize-requires : goal.finalize-requires
@@ -43,3 +43,10 @@ returns-else-has_finalizer-clause-written g c =
     (g.J.Finalizer.kept c.args.journal.now) (g.J.Finalizer.is_broken c.args.journal.now) bytes)
     (ap spelling_of (sym (final_lines-false c.args.heap.now.objects c.args.base o.0 o.1 flag)))
     (writes-none (g.J.Finalizer.kept c.args.journal.now) (g.J.Finalizer.is_broken c.args.journal.now))
+
+pub returns-else-has_finalizer-clause-cost : goal.returns-else-has_finalizer-clause-cost
+returns-else-has_finalizer-clause-cost g c =
+    let o = c.requires.object in
+    let flag = sym (c.has_finalizer.ensures.flag o.0 o.1) ∙ c.if-has_finalizer.false in
+    let none = final_slots-false c.args.heap.now.objects c.args.base o.0 o.1 flag in
+    omega (arith, none, c.has_finalizer.ensures.cost)

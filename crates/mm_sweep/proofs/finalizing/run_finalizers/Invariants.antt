@@ -1,4 +1,4 @@
-use Rattle.std.proofs.Common.{◌+◌, ◌≤◌, take}
+use Rattle.std.proofs.Common.{◌≡◌, ◌+◌, take}
 use Rattle.mm_model.specs.Logs.Journal.{Writes}
 use Rattle.mm_model.specs.Logs.Spelling.{spelling_of}
 use Rattle.mm_object.specs.Object.{views_of}
@@ -12,5 +12,5 @@ invariant-loop-i g l =
           (g.J.Finalizer.kept l.journal) (g.J.Finalizer.is_broken l.journal)
           (spelling_of (final_lines_at (views_of l.heap.objects) (take l.i l.dead.words)));
       kept : g.J.Finalizer.keeps l.fn.journal l.journal;
-      cost : l.steps ≤ l.fn.steps + l.i + finalized_slots (views_of l.heap.objects) (take l.i l.dead.words);
+      cost : l.steps ≡ l.fn.steps + l.i + finalized_slots (views_of l.heap.objects) (take l.i l.dead.words);
     }

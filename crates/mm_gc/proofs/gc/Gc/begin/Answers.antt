@@ -45,7 +45,10 @@ returns-clause-row g c =
     (answers-begun old c.self.invariant c.begin.new.heap c.begin.new.self
     (sym c.running.ensures ∙ c.if-running.false) c.begin.ensures.grayed c.begin.ensures.runs)
 
+at_most : (old new words : ℕ) → new ≡ old + 2 * words → new ≤ old + 16 * (1 + words)
+at_most old new words is = omega arith
+
 pub returns-clause-cost : goal.returns-clause-cost
 returns-clause-cost g c =
     subst (λ (gc : Gc). c.begin.new.steps ≤ c.args.steps.now + 16 * (1 + length (marking_words (view_of_gc gc))))
-    c.self.view_is c.begin.ensures.cost
+    c.self.view_is (at_most c.args.steps.now c.begin.new.steps _ c.begin.ensures.cost)

@@ -1,5 +1,6 @@
 use Rattle.std.proofs.Common.{◌<◌, Bool, length, sym, ap, subst, ◌∙◌, arith}
 use Rattle.std.specs.Prelude.{MatchBool}
+use Rattle.std.proofs.lemmas.List.{length-drop}
 use Rattle.mm_model.specs.declared.object.Colour.TheVariants.{Gray}
 use Rattle.mm_object.specs.Object.{view_of_stored, views_of}
 use Rattle.mm_mark.specs.Marker.{Marker, IsSameButQueue, marking}
@@ -31,6 +32,7 @@ entries-preserved g c =
     c.take-base.ensures.rest
     ∙ sym (ap (λ (m : Marker). record c.entries.self { queue = m.queue; left_out = m.left_out })
     c.take-base.ensures.rest) in
+    let shorter = ap (λ (m : Marker). length m.queue) c.take-base.ensures.rest ∙ length-drop 1 c.entries.self.queue in
     let none = ap (λ (m : Marker). m.partly) c.entries.invariant.cycle ∙ c.requires.none in
     let dark : IsNoneGrayAt c.args.heap.now c.take-base.result =
     subst (λ (b : Bool). MatchBool b (HasColour c.args.heap.now c.take-base.result Gray)
@@ -61,7 +63,21 @@ entries-preserved g c =
           c.take-base.ensures.rest c.args.heap.now
           dark
           c.entries.invariant.known;
+      left = ap (λ (m : Marker). m.left_out) c.take-base.ensures.rest ∙ c.entries.invariant.left;
+      cost =
+          omega (arith, some, shorter, c.entries.invariant.cost, c.take-base.ensures.cost, c.is_gray_at.ensures.cost);
     }
+
+pub returns-then-is_gray_at-clause-left : goal.returns-then-is_gray_at-clause-left
+returns-then-is_gray_at-clause-left g c =
+    ap (λ (m : Marker). m.left_out) c.take-base.ensures.rest ∙ c.entries.invariant.left
+
+pub returns-then-is_gray_at-clause-cost : goal.returns-then-is_gray_at-clause-cost
+returns-then-is_gray_at-clause-cost g c =
+    let seen = ap (λ (m : Marker). length m.queue) c.self.view_is in
+    let some : 0 < length c.entries.self.queue = omega (arith, c.depth.ensures.value, c.entries-test.true) in
+    let shorter = ap (λ (m : Marker). length m.queue) c.take-base.ensures.rest ∙ length-drop 1 c.entries.self.queue in
+    omega (arith, some, shorter, c.entries.invariant.cost, c.take-base.ensures.cost, c.is_gray_at.ensures.cost)
 
 pub returns-then-is_gray_at-clause-tidy : goal.returns-then-is_gray_at-clause-tidy
 returns-then-is_gray_at-clause-tidy g c = λ tidy.

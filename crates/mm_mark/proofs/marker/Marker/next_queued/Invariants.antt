@@ -1,4 +1,4 @@
-use Rattle.std.proofs.Common.{◌+◌, ◌*◌, ◌≤◌, length}
+use Rattle.std.proofs.Common.{◌≡◌, ◌+◌, ◌*◌, ◌≤◌, length}
 use Rattle.mm_object.specs.Object.{views_of}
 use Rattle.mm_mark.specs.Marker.{IsSameButQueue, AreKnown, marking}
 use Rattle.mm_mark.specs.Stale.{IsTidy, stale_of}
@@ -12,6 +12,8 @@ invariant-entries g l = record {
       → l.steps + 8 * stale_of (marking l.self l.heap) ≤ l.fn.steps + 8 * stale_of (marking l.fn.self l.heap);
   fewer : IsTidy (marking l.fn.self l.heap) → stale_of (marking l.self l.heap) ≤ stale_of (marking l.fn.self l.heap);
   known : AreKnown l.self (views_of l.heap.objects);
+  left : l.self.left_out ≡ l.fn.self.left_out;
+  cost : l.steps + 2 * length l.self.queue ≡ l.fn.steps + 2 * length l.fn.self.queue;
 }
 
 abbrev pub decreases-entries : goal.decreases-entries

@@ -1,12 +1,10 @@
-use Rattle.std.proofs.Common.{◌≡◌, ◌+◌, ◌-◌, ◌*◌, ◌/◌, ◌≤◌, ◌<◌, ℕ, Bool, None, length, refl, sym, ap, subst, ◌∙◌}
-use Rattle.std.proofs.Common.{arith}
-use Rattle.std.specs.Prelude.{MatchBool}
+use Rattle.std.proofs.Common.{◌+◌, ◌-◌, ◌*◌, ◌/◌, ◌≤◌, ◌<◌, ℕ, None, length, refl, sym, ap, subst, ◌∙◌, arith}
 use Rattle.mm_object.specs.Object.{views_of}
-use Rattle.mm_mark.specs.Marker.{Marker, IsSameButQueue}
+use Rattle.mm_mark.specs.Marker.{Marker}
 use Rattle.mm_mark.specs.Parts.{AreOthersKnown}
 use Rattle.mm_mark.specs.Refill.{IsPut, IsStopped}
 use Rattle.mm_mark.proofs.Grayed.{queue-then}
-use Rattle.mm_mark.proofs.Refilled.{walking, walk-begins, walk-queues, walk-stops, walk-ends}
+use Rattle.mm_mark.proofs.Refilled.{walk-begins, walk-queues, walk-stops, walk-ends}
 use Rattle.mm_mark.proofs.marker.Marker.refill.Goals as goal
 
 next_cost : (start before after first k from base : ℕ) → before + first / 4096 ≤ start + 2 * k + from / 4096

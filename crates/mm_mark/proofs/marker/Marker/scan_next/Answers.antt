@@ -54,3 +54,21 @@ returns-in-Some-clause-paid g c = λ tidy.
     let few = (c.scan_from.ensures.few (stale_of mid) chosen).few in
     let paid = c.choose.ensures.paid tidy in
     omega (arith, few, paid, c.scan_from.ensures.cost)
+
+pub returns-in-Some-clause-cost : goal.returns-in-Some-clause-cost
+returns-in-Some-clause-cost g c =
+    record {
+      chosen = c.choose.new.self;
+      choice = c.choose.new.steps;
+      choosing = c.choose.ensures.cost;
+      cost = c.scan_from.ensures.cost;
+    }
+
+pub returns-in-None-clause-cost : goal.returns-in-None-clause-cost
+returns-in-None-clause-cost g c =
+    record {
+      chosen = c.choose.new.self;
+      choice = c.choose.new.steps;
+      choosing = c.choose.ensures.cost;
+      cost = omega arith;
+    }

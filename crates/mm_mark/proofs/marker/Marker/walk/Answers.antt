@@ -1,5 +1,4 @@
-use Rattle.std.proofs.Common.{◌+◌, ◌*◌, ◌-◌, ◌/◌, ◌<◌, ◌≤◌, ℕ, length, sym, ap, ◌∙◌, arith}
-use Rattle.mm_mark.specs.Refill.{IsRefilled}
+use Rattle.std.proofs.Common.{◌+◌, ◌*◌, ◌-◌, ◌/◌, ◌<◌, ◌≤◌, ℕ, length, arith}
 use Rattle.mm_mark.proofs.Refilled.{walked-none, walked-first}
 use Rattle.mm_mark.proofs.marker.Marker.walk.Goals as goal
 
