@@ -1,4 +1,5 @@
 pub mod Beginning
+pub mod Births
 pub mod Bound
 pub mod Determined
 pub mod Growing

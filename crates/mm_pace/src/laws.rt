@@ -5,7 +5,7 @@ ghost use Rattle.mm_model.specs.declared.command.Command.{Command};
 ghost use Rattle.mm_model.specs.declared.line.Line.{Line};
 ghost use Rattle.mm_model.specs.declared.settings.Settings.{Settings};
 ghost use Rattle.mm_model.specs.State.{State, empty_state};
-ghost use Rattle.mm_model.specs.Logs.Turns.{Turn, AreSteps, births_of, begins};
+ghost use Rattle.mm_model.specs.Logs.Turns.{Turn, AreSteps, births_of, births_in, begins};
 ghost use Rattle.mm_pace.specs.Work.{work_of, is_running};
 ghost use Rattle.mm_pace.specs.Recent.{extent_born, changes_cycle, since, work_begun};
 ghost use Rattle.mm_pace.specs.Rules.{rules_at};
@@ -56,4 +56,10 @@ pub fn paced_lists_can_be_carried_on()
     ensures more { (rate : ℕ) (settings : Settings) (trace more : List Command) (turns own : List Turn) (a : State)
         → settings.pages ≤ settings.max → IsPaced rate trace turns own → AreSteps (empty_state settings) turns a
         → GoesOn rate settings (trace ++ more) turns }
+{}
+
+/// The commands that the rules add bear nothing: what is born, is born by the trace's own commands, in their order.
+pub fn added_commands_bear_nothing()
+    ensures { (rate : ℕ) (trace : List Command) (turns own : List Turn)
+        → IsPaced rate trace turns own → births_in turns ≡ births_in own }
 {}

@@ -7,7 +7,7 @@ mod pace;
 mod tests;
 
 pub use laws::{
-    a_paced_list_is_determined, a_trace_is_at_most_quadrupled, bytes_and_work_are_counted_on,
-    cycles_end_in_time, paced_lists_can_be_carried_on,
+    a_paced_list_is_determined, a_trace_is_at_most_quadrupled, added_commands_bear_nothing,
+    bytes_and_work_are_counted_on, cycles_end_in_time, paced_lists_can_be_carried_on,
 };
 pub use pace::Pace;
