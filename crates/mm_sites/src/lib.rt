@@ -3,15 +3,22 @@
 
 mod entry;
 mod laws;
+mod line;
 mod site_total;
 mod sites;
 #[cfg(test)]
 mod tests;
+mod text;
 
 pub use entry::Entry;
-pub use laws::{each_birth_has_a_site, each_command_has_a_site, lines_of_sites_are_passed_over};
+pub use laws::{
+    each_birth_has_a_site, each_command_has_a_site, lines_of_sites_are_passed_over,
+    totals_are_those_of_the_living,
+};
+pub use line::site_named;
 pub use site_total::SiteTotal;
 pub use sites::Sites;
+pub use text::site_text;
 
 /// Want of memory, the one refusal of this crate.
 pub type NoMemory = std::alloc::AllocError;

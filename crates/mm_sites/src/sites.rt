@@ -12,7 +12,7 @@ use std::alloc::Global;
 use std::marker::Model;
 
 // How many sites there are.
-const SITES: u32 = 4096;
+pub(crate) const SITES: u32 = 4096;
 
 // Objects begin at its multiples.
 const GRAIN: u32 = 16;

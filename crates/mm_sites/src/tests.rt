@@ -1,7 +1,7 @@
 // Births and frees worked out by hand, and against sums from scratch.
 ghost use Rattle.std.specs.Prelude.{◌≡◌, length};
 
-use crate::{Entry, SiteTotal, Sites};
+use crate::{Entry, SiteTotal, Sites, site_named, site_text};
 use std::test::Fail;
 
 fn total(objects: u32, bytes: u64) -> SiteTotal {
@@ -125,5 +125,50 @@ fn moves_over_eight_bases_agree_with_sums_from_scratch(rt: HostRuntime) -> Resul
         );
         assert!(&rt; make_move(&mut sites, &mut plain, code / 3), "at {code}");
     }
+    Ok(())
+}
+
+#[test]
+fn a_line_names_a_site_where_it_is_the_mark_and_a_number(rt: HostRuntime) -> Result<(), Fail> {
+    assert_eq!(&rt; site_named(b"#site 5"), Some(5));
+    assert_eq!(&rt; site_named(b"#site 0"), Some(0));
+    assert_eq!(&rt; site_named(b"#site 4095"), Some(4095));
+    assert_eq!(&rt; site_named(b"#site 00003"), Some(3));
+    assert_eq!(&rt; site_named(b"#site 0000000003"), Some(3));
+    Ok(())
+}
+
+#[test]
+fn no_other_line_names_a_site(rt: HostRuntime) -> Result<(), Fail> {
+    assert_eq!(&rt; site_named(b"#site 5 "), None);
+    assert_eq!(&rt; site_named(b"#site  5"), None);
+    assert_eq!(&rt; site_named(b" #site 5"), None);
+    assert_eq!(&rt; site_named(b"#site 4096"), None);
+    assert_eq!(&rt; site_named(b"#site 4294967299"), None);
+    assert_eq!(&rt; site_named(b"#site 00000000003"), None);
+    assert_eq!(&rt; site_named(b"#site 3x"), None);
+    assert_eq!(&rt; site_named(b"#site "), None);
+    assert_eq!(&rt; site_named(b"#site"), None);
+    assert_eq!(&rt; site_named(b"#sites 3"), None);
+    assert_eq!(&rt; site_named(b"site 3"), None);
+    assert_eq!(&rt; site_named(b""), None);
+    Ok(())
+}
+
+#[test]
+fn a_site_with_objects_has_a_line(rt: HostRuntime) -> Result<(), Fail> {
+    assert_eq!(&rt;
+        site_text(5, total(1, 16)).as_slice(),
+        b"site 5 1 16\n".as_slice()
+    );
+    assert_eq!(&rt; site_text(5, total(0, 0)).as_slice(), b"".as_slice());
+    assert_eq!(&rt;
+        site_text(4095, total(1_000_000, 16_777_216)).as_slice(),
+        b"site 4095 1000000 16777216\n".as_slice()
+    );
+    assert_eq!(&rt;
+        site_text(4095, total(u32::MAX, u64::MAX)).as_slice(),
+        b"site 4095 4294967295 18446744073709551615\n".as_slice()
+    );
     Ok(())
 }
