@@ -1,4 +1,5 @@
 pub mod Adding
+pub mod Auditing
 pub mod Breaking
 pub mod Ending
 pub mod Freeing

@@ -3,6 +3,7 @@
 
 mod answers;
 mod areas;
+mod audited;
 mod broken;
 mod collecting;
 mod counting;
