@@ -1,4 +1,5 @@
-pub mod Spellings
-pub mod Lines
-pub mod Fitting
 pub mod Answers
+pub mod Fitting
+pub mod Lines
+pub mod Spellings
+pub mod Zeros

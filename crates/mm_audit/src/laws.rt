@@ -1,4 +1,4 @@
-// Laws of what an audit answers: there is one answer for each log, and it means what it says.
+// Laws of what an audit answers, that there is one answer for each log and it means what it says, and of counts.
 ghost use Rattle.std.specs.Prelude.{◌≡◌, ℕ, ◌≤◌, ◌<◌, List, map, length};
 ghost use Rattle.std.specs.List.{concat};
 ghost use Rattle.mm_model.specs.declared.command.Command.{Command};
@@ -6,6 +6,9 @@ ghost use Rattle.mm_model.specs.declared.line.Line.{Line};
 ghost use Rattle.mm_model.specs.declared.settings.Settings.{Settings};
 ghost use Rattle.mm_model.specs.Logs.Spelling.{spelling, spelling_of};
 ghost use Rattle.mm_model.specs.Logs.Trace.{rest_of, pieces_of, ended_lines};
+ghost use Rattle.mm_model.specs.Views.ObjectView.{ObjectsByBase};
+ghost use Rattle.mm_model.specs.Views.SetsByBase.{zero_count_of};
+ghost use Rattle.mm_audit.specs.Counts.{counts_of, zeros_in};
 ghost use Rattle.mm_audit.specs.declared.answer.Answer.{Answer};
 ghost use Rattle.mm_audit.specs.declared.answer.Answer.TheVariants as answers;
 ghost use Rattle.mm_audit.specs.Audit.{log_lines, IsWholeLog, Fits, IsAudited};
@@ -51,4 +54,10 @@ pub fn a_rest_is_no_spelling()
     ensures rest { (line : Line) (bytes : List ℕ) → spelling line ≡ rest_of bytes → ⊥ }
     ensures ended { (settings : Settings) (commands : List Command) (bytes : List ℕ) (count : ℕ) →
         Fits settings commands bytes count → count ≤ length (ended_lines (pieces_of bytes)) }
+{}
+
+/// Where the counts of objects are right, the number of zeros is that of the zero-count objects.
+pub fn zeros_are_zero_count_objects()
+    ensures { (objects : ObjectsByBase) (outside : ℕ → ℕ) →
+        zeros_in (counts_of objects outside) ≡ zero_count_of objects outside }
 {}

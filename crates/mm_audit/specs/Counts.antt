@@ -1,0 +1,64 @@
+-- The counts of references by base, as they are kept beside the objects.
+use Rattle.std.specs.Prelude.{◌≡◌, ◌≢◌, ℕ, ◌+◌, ◌-◌, ◌^◌, ◌≤◌, Bool, false, ◌==◌, nat_lt, if◌then◌else◌, List, [], ◌∷◌}
+use Rattle.std.specs.Prelude.{length, Option, Some, None}
+use Rattle.std.specs.List.{count_by}
+use Rattle.std.specs.Option.{option_map_or}
+use Rattle.mm_model.specs.Object.{is_counted}
+use Rattle.mm_model.specs.Views.ByBase.{Begins}
+use Rattle.mm_model.specs.Views.ObjectView.{ObjectView, ObjectsByBase}
+use Rattle.mm_model.specs.Views.SetsByBase.{count_at}
+use Rattle.mm_audit.specs.declared.count.Count.{Count}
+use Rattle.mm_audit.specs.declared.count.Count.TheVariants.{Exact, Sticky}
+
+-- the count of each counted object, at its base
+abbrev pub CountsByBase : Type 0
+CountsByBase = List (Option Count)
+
+-- the 255th place makes it sticky, for good
+abbrev pub one_more : Count → Count
+one_more (Exact places) = if nat_lt places 254 then Exact (places + 1) else Sticky
+one_more Sticky = Sticky
+
+abbrev pub one_less : Count → Count
+one_less (Exact places) = Exact (places - 1)
+one_less Sticky = Sticky
+
+abbrev pub is_zero : Count → Bool
+is_zero (Exact places) = places == 0
+is_zero Sticky = false
+
+-- a zero-count object has this entry
+abbrev pub is_zero_entry : Option Count → Bool
+is_zero_entry entry = option_map_or is_zero entry false
+
+-- how many zero-count objects there are
+abbrev pub zeros_in : CountsByBase → ℕ
+zeros_in counts = count_by is_zero_entry counts
+
+-- something is counted at this base, and a place holds it, as far as is known
+pub record IsHeld (counts : CountsByBase) (base : ℕ) : Type 0 where
+  pub count : Count
+  pub begins : Begins counts base count
+  pub held : count ≢ Exact 0
+
+-- what the count of an object is: as often as counted places hold its base, unless it is sticky
+abbrev pub count_of : ObjectsByBase → (ℕ → ℕ) → ℕ → ObjectView → Option Count
+count_of objects outside base object =
+    if is_counted object.kind then Some (if object.sticky then Sticky else Exact (count_at objects outside base))
+    else None
+
+-- the same of some of the objects, the first of which would begin at this base
+abbrev pub counts_from : ObjectsByBase → (ℕ → ℕ) → ℕ → ObjectsByBase → CountsByBase
+counts_from objects outside base [] = []
+counts_from objects outside base (None ∷ rest) = None ∷ counts_from objects outside (base + 16) rest
+counts_from objects outside base (Some object ∷ rest) =
+    count_of objects outside base object ∷ counts_from objects outside (base + 16) rest
+
+-- The right counts of objects. Places outside of objects hold each base as often as the number for it says.
+abbrev pub counts_of : ObjectsByBase → (ℕ → ℕ) → CountsByBase
+counts_of objects outside = counts_from objects outside 0 objects
+
+-- Inner: the running number beside the counts.
+pub record KeepsZeros (counts : CountsByBase) (zeros : ℕ) : Type 0 where
+  pub few : length counts ≤ 2 ^ 20
+  pub right : zeros ≡ zeros_in counts
