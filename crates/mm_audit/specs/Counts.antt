@@ -1,6 +1,6 @@
 -- The counts of references by base, as they are kept beside the objects.
 use Rattle.std.specs.Prelude.{◌≡◌, ◌≢◌, ℕ, ◌+◌, ◌-◌, ◌^◌, ◌≤◌, Bool, false, ◌==◌, nat_lt, if◌then◌else◌, List, [], ◌∷◌}
-use Rattle.std.specs.Prelude.{length, Option, Some, None}
+use Rattle.std.specs.Prelude.{length, Option, Some, None, slice_set}
 use Rattle.std.specs.List.{count_by}
 use Rattle.std.specs.Option.{option_map_or}
 use Rattle.mm_model.specs.Object.{is_counted}
@@ -57,6 +57,14 @@ counts_from objects outside base (Some object ∷ rest) =
 -- The right counts of objects. Places outside of objects hold each base as often as the number for it says.
 abbrev pub counts_of : ObjectsByBase → (ℕ → ℕ) → CountsByBase
 counts_of objects outside = counts_from objects outside 0 objects
+
+-- one where it is so, and else none
+abbrev pub one_if : Bool → ℕ
+one_if so = if so then 1 else 0
+
+-- an object with another word in a slot
+abbrev pub with_word : ℕ → ℕ → ObjectView → ObjectView
+with_word slot word object = record object { words = slice_set object.words slot word }
 
 -- Inner: the running number beside the counts.
 pub record KeepsZeros (counts : CountsByBase) (zeros : ℕ) : Type 0 where

@@ -1,14 +1,16 @@
 // Laws of what an audit answers, that there is one answer for each log and it means what it says, and of counts.
-ghost use Rattle.std.specs.Prelude.{◌≡◌, ℕ, ◌≤◌, ◌<◌, List, map, length};
+ghost use Rattle.std.specs.Prelude.{◌≡◌, ℕ, ◌+◌, ◌≤◌, ◌<◌, ◌==◌, IsTrue, List, map, length, Some, slice_get};
 ghost use Rattle.std.specs.List.{concat};
 ghost use Rattle.mm_model.specs.declared.command.Command.{Command};
 ghost use Rattle.mm_model.specs.declared.line.Line.{Line};
 ghost use Rattle.mm_model.specs.declared.settings.Settings.{Settings};
 ghost use Rattle.mm_model.specs.Logs.Spelling.{spelling, spelling_of};
 ghost use Rattle.mm_model.specs.Logs.Trace.{rest_of, pieces_of, ended_lines};
-ghost use Rattle.mm_model.specs.Views.ObjectView.{ObjectsByBase};
-ghost use Rattle.mm_model.specs.Views.SetsByBase.{zero_count_of};
-ghost use Rattle.mm_audit.specs.Counts.{counts_of, zeros_in};
+ghost use Rattle.mm_model.specs.Views.ObjectView.{ObjectView, ObjectsByBase};
+ghost use Rattle.mm_model.specs.Object.{is_scanned};
+ghost use Rattle.mm_model.specs.Views.ByBase.{Begins, with_entry};
+ghost use Rattle.mm_model.specs.Views.SetsByBase.{count_at, zero_count_of};
+ghost use Rattle.mm_audit.specs.Counts.{counts_of, zeros_in, one_if, with_word};
 ghost use Rattle.mm_audit.specs.declared.answer.Answer.{Answer};
 ghost use Rattle.mm_audit.specs.declared.answer.Answer.TheVariants as answers;
 ghost use Rattle.mm_audit.specs.Audit.{log_lines, IsWholeLog, Fits, IsAudited};
@@ -60,4 +62,13 @@ pub fn a_rest_is_no_spelling()
 pub fn zeros_are_zero_count_objects()
     ensures { (objects : ObjectsByBase) (outside : ℕ → ℕ) →
         zeros_in (counts_of objects outside) ≡ zero_count_of objects outside }
+{}
+
+/// Where a counted slot is written, the base that stood there is held once less, and the one that is written once more.
+pub fn a_write_moves_one_reference()
+    ensures { (base : ℕ) (objects : ObjectsByBase) (outside : ℕ → ℕ) (by : ℕ) (holder : ObjectView)
+        (slot word old : ℕ) → Begins objects by holder → IsTrue (is_scanned holder.kind) → slot < holder.counted
+        → slice_get holder.words slot ≡ Some old
+        → count_at (with_entry by (Some (with_word slot word holder)) objects) outside base + one_if (old == base)
+        ≡ count_at objects outside base + one_if (word == base) }
 {}
