@@ -1,6 +1,7 @@
 -- Words that are taken from the top of a stack.
 use Rattle.std.proofs.Common.{◌≡◌, ℕ, ◌-◌, ◌≤◌, List, ◌++◌, reverse, length, take, drop, sym, ap, ◌∙◌, arith}
-use Rattle.std.proofs.lemmas.List.{reverse-append, length-reverse, take-append-drop, length-drop, drop-append-le, drop_all}
+use Rattle.std.proofs.lemmas.List.{reverse-append, length-reverse, take-append-drop, length-drop, drop-append-le}
+use Rattle.std.proofs.lemmas.List.{drop_all}
 
 pub popped : (cells : List ℕ) (count : ℕ) → count ≤ length cells
     → reverse (take (length cells - count) cells) ≡ drop count (reverse cells)
