@@ -1,11 +1,13 @@
 -- The paced list of a trace: its commands, with those among them that the rules add.
-use Rattle.std.specs.Prelude.{◌≡◌, ℕ, List, [], ◌∷◌, ◌++◌, map, Option, Some, None, ⊤}
+use Rattle.std.specs.Prelude.{◌≡◌, ℕ, ◌*◌, ◌<◌, IsTrue, List, [], ◌∷◌, ◌++◌, map, Option, Some, None, ⊤}
 use Rattle.std.specs.List.{flat_map}
 use Rattle.mm_model.specs.declared.command.Command.{Command}
 use Rattle.mm_model.specs.declared.line.Line.{Line}
 use Rattle.mm_model.specs.declared.settings.Settings.{Settings}
 use Rattle.mm_model.specs.State.{State, empty_state}
 use Rattle.mm_model.specs.Logs.Turns.{Turn, AreTurns, AreSteps}
+use Rattle.mm_pace.specs.Work.{is_running}
+use Rattle.mm_pace.specs.Recent.{since, work_begun}
 use Rattle.mm_pace.specs.Rules.{Rule, rules_at}
 
 -- A command of the trace as it is carried out: its own turn, and those of the commands that are added after it.
@@ -65,6 +67,15 @@ abbrev pub EachOwn : List Stretch → (List Turn → Turn → Type 0) → Type 0
 EachOwn stretches P =
     (front : List Stretch) (stretch : Stretch) (later : List Stretch) → front ++ stretch ∷ later ≡ stretches
     → P (flat_map turns_in front) stretch.own
+
+-- Whenever a command of the trace begins while a cycle runs, the bytes since the cycle began, times the rate, are below
+-- 16 times the work that it had as it began. Without a rate nothing is said.
+abbrev pub AreInTime : (rate : Option ℕ) (settings : Settings) (trace : List Command) (log : List Line)
+    (commands : List Command) → AreCommandsOf rate settings trace log commands → Type 0
+AreInTime None settings trace log commands are = ⊤
+AreInTime (Some rate) settings trace log commands list =
+    EachOwn list.paced.stretches
+    (λ earlier turn. IsTrue (is_running turn.before) → rate * since earlier < 16 * work_begun earlier)
 
 -- Turns behind these ones, with which they are paced from a trace, and are steps from the empty state on.
 pub record GoesOn (rate : ℕ) (settings : Settings) (trace : List Command) (turns : List Turn) : Type 0 where

@@ -1,14 +1,18 @@
 // Laws of paced lists: what follows from the rules, and that there is a paced list for each trace.
 ghost use Rattle.std.specs.Prelude.{◌≡◌, ℕ, ◌+◌, ◌*◌, ◌≤◌, ◌<◌, ◌++◌, ◌∷◌, [], List, IsTrue, length, if◌then◌else◌};
 ghost use Rattle.std.specs.List.{sum_by};
+ghost use Rattle.std.specs.Prelude.{true, false, Some};
 ghost use Rattle.mm_model.specs.declared.command.Command.{Command};
+ghost use Rattle.mm_model.specs.declared.command.Command.TheVariants as commands;
 ghost use Rattle.mm_model.specs.declared.line.Line.{Line};
+ghost use Rattle.mm_model.specs.declared.reply.Reply.TheVariants as replies;
 ghost use Rattle.mm_model.specs.declared.settings.Settings.{Settings};
 ghost use Rattle.mm_model.specs.State.{State, empty_state};
-ghost use Rattle.mm_model.specs.Logs.Turns.{Turn, AreSteps, births_of, births_in, begins};
+ghost use Rattle.mm_model.specs.Logs.Turns.{Turn, AreSteps, births_of, births_in, begins, reply_in};
+ghost use Rattle.mm_model.specs.Step.{IsStep};
 ghost use Rattle.mm_pace.specs.Work.{work_of, is_running};
 ghost use Rattle.mm_pace.specs.Recent.{extent_born, changes_cycle, since, work_begun};
-ghost use Rattle.mm_pace.specs.Rules.{rules_at};
+ghost use Rattle.mm_pace.specs.Rules.{rules_at, runs_after, work_after};
 ghost use Rattle.mm_pace.specs.Paced.{AreAdded, IsPaced, IsPacedList, EachOwn, GoesOn};
 
 /// Settings, rate, trace and log determine the paced list, its turns, and which of them are the trace's own.
@@ -45,6 +49,22 @@ pub fn bytes_and_work_are_counted_on()
         ≡ (if changes_cycle turn then 0 else since turns) + sum_by extent_born (births_of turn) }
     ensures work { (turns : List Turn) (turn : Turn) → work_begun (turns ++ turn ∷ [])
         ≡ (if begins turn then work_of turn.before else work_begun turns) }
+{}
+
+/// What the rules ask of the last turn is so in the state that the turns leave.
+pub fn the_last_turn_tells_of_the_state()
+    ensures runs { (settings : Settings) (turns : List Turn) (b : State) → AreSteps (empty_state settings) turns b
+        → runs_after turns ≡ is_running b }
+    ensures work { (settings : Settings) (turns : List Turn) (b : State) → AreSteps (empty_state settings) turns b
+        → work_after turns ≡ work_of b }
+{}
+
+/// Where no cycle runs, `begin` begins one.
+pub fn begin_begins_a_cycle()
+    ensures runs { (a : State) (group : List Line) (b : State) → is_running a ≡ false → IsStep a commands.Begin group b
+        → is_running b ≡ true }
+    ensures reply { (a : State) (group : List Line) (b : State) → is_running a ≡ false
+        → IsStep a commands.Begin group b → reply_in group ≡ Some replies.Done }
 {}
 
 /// A paced list goes on with one more command of the trace and what the rules add after it. Turns that are steps can be
