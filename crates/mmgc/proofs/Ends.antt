@@ -22,14 +22,16 @@ use Rattle.mmgc.specs.declared.extras.Extras.{Extras}
 use Rattle.mmgc.specs.Added.{IsAddedText, IsFollowed, with_total}
 use Rattle.mmgc.specs.Appending.{Appended}
 use Rattle.mmgc.specs.Writing.{kept_bytes, Grows}
-use Rattle.mmgc.specs.Replaying.{reading_of, most_bytes, Grew, GrewSince, Start, task_since, Moment, Stopped, Progress}
+use Rattle.mmgc.specs.Carrying.{Grew}
+use Rattle.mmgc.specs.Replaying.{reading_of, most_bytes, GrewSince, Start, task_since, Moment, Stopped, Progress}
 use Rattle.mmgc.specs.Run.{Input, Output, Reach, lines_in, NothingLeft, HasCause, IsFaultOf, IsLogOf, IsPassedOn}
 use Rattle.mmgc.specs.Run.{IsWritten}
 use Rattle.mmgc.specs.Run.{IsWithinTrace, Replayed, Ended, Logged}
 use Rattle.mmgc.specs.Generating.{EndsWritten}
 use Rattle.mmgc.specs.declared.replay.End.{End}
 use Rattle.mmgc.specs.declared.replay.End.TheVariants.{Whole, Fault, ReadFailed, WriteFailed, TooLong}
-use Rattle.mmgc.proofs.Replays.{spelling_of-append, progress-stopped}
+use Rattle.mmgc.proofs.Carrying.{spelling_of-append}
+use Rattle.mmgc.proofs.Replays.{progress-stopped}
 use Rattle.mmgc.proofs.WritingLemmas.{all_taken, broken_front}
 
 -- all that was read is carried out, and is no more than a trace has
@@ -41,7 +43,7 @@ all_within bytes at_end fits = record { fits = fits; one_read = omega arith; non
 module _ {start : Start} {bytes : List ℕ} {input : Input} {now : Moment} (fits : length bytes ≤ most_bytes)
     (given : Gives input.left input.left_after []) (nothing_left : NothingLeft input.left_after)
     (clean : input.faults_after ≡ input.faults) where
-  pub ended-whole : Stopped start (lines_of bytes) None now.heap now.kept → Ended Whole start bytes input now
+  pub ended-whole : Stopped start (lines_of bytes) None now.driver.heap now.kept → Ended Whole start bytes input now
   ended-whole s =
       record {
         reach = record { read = bytes; over = []; at_end = true };
@@ -57,7 +59,7 @@ module _ {start : Start} {bytes : List ℕ} {input : Input} {now : Moment} (fits
         stopped = s;
       }
 
-  pub ended-last_fault : (fault : FaultAt) → Stopped start (lines_of bytes) (Some fault) now.heap now.kept →
+  pub ended-last_fault : (fault : FaultAt) → Stopped start (lines_of bytes) (Some fault) now.driver.heap now.kept →
       Ended (Fault fault.line fault.fault) start bytes input now
   ended-last_fault fault s =
       record {
@@ -78,7 +80,7 @@ module _ {start : Start} {bytes : List ℕ} {input : Input} {now : Moment} (fits
 module _ {start : Start} {bytes : List ℕ} {input : Input} {now : Moment} (piece : List ℕ)
     (given : Gives input.left input.left_after piece) (clean : input.faults_after ≡ input.faults) where
   pub ended-fault : length (bytes ++ piece) ≤ most_bytes → (fault : FaultAt) →
-      Stopped start (complete_lines (bytes ++ piece)) (Some fault) now.heap now.kept →
+      Stopped start (complete_lines (bytes ++ piece)) (Some fault) now.driver.heap now.kept →
       Ended (Fault fault.line fault.fault) start bytes input now
   ended-fault fits fault s =
       record {
@@ -225,7 +227,9 @@ logged-whole {start} reach {between = between} {after = after} totals s t w adds
     ap (λ x. spelling_of s.log ++ x) (sym (append-nil (spelling line)))
     ∙ sym (spelling_of-append s.log (line ∷ [])) in
     record {
+      commands = s.commands;
       groups = s.log;
+      carried = s.listed;
       state = state;
       legal = s.carried.legal;
       good = s.carried.good;
@@ -254,7 +258,9 @@ pub logged-other : (end : End) {start : Start} (reach : Reach) {fault : Option F
     Logged end start reach heap kept
 logged-other end {start} reach {kept = kept} other s =
     record {
+      commands = s.commands;
       groups = s.log;
+      carried = s.listed;
       state = s.carried.state;
       legal = s.carried.legal;
       good = s.carried.good;
@@ -271,7 +277,9 @@ pub logged-written_out : {end : End} {start : Start} {reach : Reach} {heap : Gc}
     Logged end start reach heap kept → Grew kept after [] → Logged end start reach heap after
 logged-written_out {start = start} {after = after} l w =
     record {
+      commands = l.commands;
       groups = l.groups;
+      carried = l.carried;
       state = l.state;
       legal = l.legal;
       good = l.good;
@@ -342,7 +350,9 @@ module _ {end : End} {start : Start} {input : Input} {now : Moment} (output : Ou
         nothing_left = ended.nothing_left;
         cause = ended.cause;
         fault_is = fault_is;
+        commands = l.commands;
         groups = l.groups;
+        carried = l.carried;
         state = l.state;
         legal = l.legal;
         good = l.good;
@@ -364,7 +374,9 @@ module _ {end : End} {start : Start} {input : Input} {now : Moment} (output : Ou
         nothing_left = ended.nothing_left;
         cause = tt;
         fault_is = tt;
+        commands = l.commands;
         groups = l.groups;
+        carried = l.carried;
         state = l.state;
         legal = l.legal;
         good = l.good;

@@ -14,7 +14,7 @@ use Rattle.mmgc.specs.Generator.{commands_of, generated_command, generated_comma
 use Rattle.mmgc.specs.Generating.{CarriesOutQuietly, HasCarriedOut, EndsWritten, Generated}
 use Rattle.mmgc.specs.Replaying.{IsNew}
 use Rattle.mmgc.specs.Run.{Output}
-use Rattle.mmgc.proofs.Replays.{carried_out-push, counted}
+use Rattle.mmgc.proofs.Carrying.{carried_out-push, counted}
 
 -- so many commands are asked for
 generated_few : (seed n : ℕ) → length (generated_commands seed n) ≡ n

@@ -1,9 +1,11 @@
 pub mod AddedLines
+pub mod Carrying
 pub mod Completing
 pub mod Ends
 pub mod Examples
 pub mod FrontFaults
 pub mod GeneratedTraces
+pub mod Pacing
 pub mod Reading
 pub mod Replays
 pub mod StepNumbers

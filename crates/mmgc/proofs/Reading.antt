@@ -8,8 +8,8 @@ use Rattle.mmgc.specs.Words.{Choice, Values, mmgc_app}
 -- values that are the same one by one
 pub values_same : {v w : Values} → v.pages ≡ w.pages → v.max ≡ w.max → v.zct ≡ w.zct → v.queue ≡ w.queue →
     v.stack ≡ w.stack → v.generated ≡ w.generated → v.count ≡ w.count → v.why ≡ w.why →
-    v.file ≡ w.file → v ≡ w
-values_same p m z q s g n y f =
+    v.pace ≡ w.pace → v.file ≡ w.file → v ≡ w
+values_same p m z q s g n y r f =
     λ i. record {
       pages = p i;
       max = m i;
@@ -19,6 +19,7 @@ values_same p m z q s g n y f =
       generated = g i;
       count = n i;
       why = y i;
+      pace = r i;
       file = f i;
     }
 

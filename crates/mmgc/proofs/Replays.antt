@@ -4,27 +4,16 @@ use Rattle.std.proofs.Common.{length-append, lt-ltb, Option, Some, None, Result,
 use Rattle.std.proofs.Common.{append-nil, append_assoc, arith}
 use mathlib.Core.Path.{subst₃}
 use Rattle.std.proofs.lemmas.List.{length_push, length-take-le, take-append-drop, take_rest}
-use Rattle.std.proofs.lemmas.List.Concat.{flat_map-append}
 use Rattle.std.proofs.lemmas.List.Elements.{All-append}
 use Rattle.std.specs.List.{flat_map}
 use Rattle.std.specs.Prelude.{◌-◌, OnOk, IfErr}
 use Rattle.mm_model.specs.declared.command.Command.{Command}
 use Rattle.mm_model.specs.declared.refusal.LineFault.{LineFault}
 use Rattle.mm_model.specs.declared.refusal.LineFault.TheVariants.{LineTooLong}
-use Rattle.mm_model.specs.declared.reply.Reply.{Reply}
-use Rattle.mm_model.specs.declared.line.Line.{Line}
-use Rattle.mm_model.specs.declared.line.Line.TheVariants as lines
-use Rattle.mm_model.specs.declared.line.Totals.{Totals}
-use Rattle.mm_model.specs.State.{State, empty_state}
-use Rattle.mm_model.specs.Good.{IsGood}
-use Rattle.mm_model.specs.Logs.Log.{Steps, IsRun}
-use Rattle.mm_model.specs.Views.View.{Shows}
-use Rattle.mm_model.specs.Step.{IsStep}
 use Rattle.mm_model.specs.After.{after}
-use Rattle.mm_model.specs.Logs.Spelling.{spelling, spelling_of}
+use Rattle.mm_model.specs.Logs.Spelling.{spelling_of}
 use Rattle.mm_model.specs.Logs.Trace.{line_reading, complete_lines, lines_of, line_if}
 use Rattle.mm_model.specs.Logs.Trace.{Reading, FaultAt}
-use Rattle.mm_model.proofs.Good.Starting.{empty_is_good}
 use Rattle.mm_model.proofs.Text.Journals.{writes-none, writes-append}
 use Rattle.mm_model.proofs.Text.Traces.{Cuts, Cuts-none, Cuts-newline, with_newline, complete_lines-cuts}
 use Rattle.mm_model.proofs.Text.Traces.{line_reading-too_long, reading_from-stops}
@@ -32,89 +21,19 @@ use Rattle.mm_model.proofs.Text.Faults.{fault_at_end, reading-end-none, reading-
 use Rattle.mm_model.proofs.Text.Faults.{complete_lines-held, fault_at_newline, reading-next-nothing}
 use Rattle.mm_model.proofs.Text.Faults.{reading-next-command, lines-fewer, commands-fewer}
 use Rattle.mm_trace.specs.Lines.{IsWithinLine}
-use Rattle.mm_gc.specs.Gc.{Gc, view_of_gc, totals_in}
-use Rattle.mm_gc.specs.Rows.{IsStepOf, Executes, Kept}
+use Rattle.mm_gc.specs.Gc.{Gc}
+use Rattle.mm_gc.specs.Rows.{Kept}
 use Rattle.mm_model.specs.declared.settings.Settings.{Settings}
 use Rattle.mmgc.specs.declared.extras.Extras.{Extras}
-use Rattle.mmgc.specs.Replaying.{reading_of, CarriedOut, Stopped, Progress, DoesLine, CarriesOut, GoesOn, IsUnderWay}
-use Rattle.mmgc.specs.Replaying.{most_bytes, Grew, GrewSince, Start, start_with, Moment, IsNew}
-use Rattle.mmgc.proofs.StepNumbers.{step_counts_one}
-
--- one log after another
-pub spelling_of-append : (xs ys : List Line) → spelling_of (xs ++ ys) ≡ spelling_of xs ++ spelling_of ys
-spelling_of-append xs ys = flat_map-append spelling xs ys
-
--- a command was executed, and its reply was written
-pub carries_out : {old new : Gc} {command : Command} {reply : Reply} {before between after : Kept} →
-    Executes old new command reply before between →
-    Grew between after (spelling (lines.Reply reply)) → CarriesOut old new command before after
-carries_out {reply = reply} {before = before} {after = after} e w =
-    let text : spelling_of e.before_reply ++ spelling (lines.Reply reply) ≡ spelling_of
-    (e.before_reply ++ lines.Reply reply ∷ []) =
-    ap (λ t. spelling_of e.before_reply ++ t) (sym (append-nil (spelling (lines.Reply reply))))
-    ∙ sym (spelling_of-append e.before_reply (lines.Reply reply ∷ [])) in
-    record {
-      group = e.before_reply ++ lines.Reply reply ∷ [];
-      step = e.step;
-      written = subst (Grew before after) text (writes-append (spelling_of e.before_reply)
-          (spelling (lines.Reply reply)) e.written w);
-    }
-
--- a run goes on by one step
-run-push : (Step : Steps) (a : State) (commands : List Command) (log : List Line) (b : State) (command : Command)
-    (group : List Line) (d : State) →
-    IsRun Step a commands log b → Step b command group d → IsRun Step a (commands ++ command ∷ []) (log ++ group) d
-run-push Step a [] log b command group d run step = (
-  group,
-  [],
-  d,
-  ap (λ l. l ++ group) run.0 ∙ sym (append-nil group),
-  subst (λ s. Step s command group d) run.1 step,
-  (refl, refl),
-)
-run-push Step a (c ∷ commands) log b command group d run step = (
-  run.0,
-  run.1 ++ group,
-  run.2,
-  ap (λ l. l ++ group) run.3 ∙ append_assoc run.0 run.1 group,
-  run.4,
-  run-push Step run.2 commands run.1 b command group d run.5 step,
-)
-
--- the commands so far and one more
-pub carried_out-push : {settings : Settings} {commands : List Command} {log : List Line} {old new : Gc}
-    {command : Command} {group : List Line} →
-    CarriedOut settings commands log old →
-    ((a : State) → IsGood a → Shows (view_of_gc old) a → IsStepOf (view_of_gc new) command group a) →
-    CarriedOut settings (commands ++ command ∷ []) (log ++ group) new
-carried_out-push {settings} {commands} {log} {command = command} {group = group} c step =
-    let s = step c.state c.good c.shows in
-    let more = length_push commands command in
-    let few = step_counts_one c.state command group (after c.state command group) s.step in
-    record {
-      state = after c.state command group;
-      legal = run-push IsStep (empty_state settings) commands log c.state command group
-          (after c.state command group) c.legal s.step;
-      good = s.good;
-      shows = s.shows;
-      settings_stay = few.settings ∙ c.settings_stay;
-      counted = omega (arith, more, few.commands, c.counted);
-      births = omega (arith, more, few.births, c.births);
-    }
-
--- how the numbers of a heap stand to its commands
-pub record Counted (heap : Gc) (commands : List Command) : Type 0 where
-  pub commands_are : (totals_in heap).commands ≡ length commands
-  pub births_are : (totals_in heap).born ≤ length commands
-
-pub counted : {settings : Settings} {commands : List Command} {log : List Line} {heap : Gc} →
-    CarriedOut settings commands log heap → Counted heap commands
-counted {commands = commands} c =
-    record {
-      commands_are = ap (λ (totals : Totals). totals.commands) c.shows.totals ∙ c.counted;
-      births_are = subst (λ n. n ≤ length commands) (sym
-          (ap (λ (totals : Totals). totals.born) c.shows.totals)) c.births;
-    }
+use Rattle.mm_pace.specs.Paced.{AreCommandsOf}
+use Rattle.mmgc.specs.Carrying.{Grew}
+use Rattle.mmgc.specs.declared.pacer.Pacer.{Pacer}
+use Rattle.mmgc.specs.Logging.{driver_of}
+use Rattle.mmgc.specs.Pacing.{Advances, Carried, Driver, IsFresh, IsReady}
+use Rattle.mmgc.specs.Replaying.{reading_of, Stopped, Went, Progress, DoesLine, GoesOn, IsUnderWay}
+use Rattle.mmgc.specs.Replaying.{most_bytes, GrewSince, Start, start_with, Moment, IsNew}
+use Rattle.mmgc.proofs.Carrying.{spelling_of-append}
+use Rattle.mmgc.proofs.Pacing.Carried.{AreQuadrupled, carried-none, few_commands, has_commands}
 
 -- the bytes so far are cut into the lines that were carried out and what is held
 pub cuts : {start : Start} {bytes : List ℕ} {now : Moment} (p : Progress start bytes now) →
@@ -123,35 +42,63 @@ cuts p = record { whole = p.whole; lines_clean = p.done_clean; held_clean = p.he
 
 -- the numbers that a replay counts have room for what may still come
 pub record HasRoom (now : Moment) (more : ℕ) : Type 0 where
-  pub commands : (totals_in now.heap).commands + more ≤ most_bytes
-  pub births : (totals_in now.heap).born + more ≤ most_bytes
+  pub ready : IsReady now.driver
   pub lines : now.lines + more ≤ most_bytes
 
-pub has_room : {now : Moment} {more : ℕ} → IsUnderWay now more → HasRoom now more
-has_room {now} {more} way =
+-- a trace has too few lines to fill the counts, also where commands are added to it
+room_of : AreQuadrupled → {start : Start} {bytes : List ℕ} {now : Moment} → Progress start bytes now →
+    length bytes ≤ most_bytes → IsReady now.driver
+room_of most {start} {bytes} {now} p fits =
+    let few = lines-fewer bytes p.done now.held (cuts p) in
+    let fewer = commands-fewer line_reading 1 p.done in
+    let counted = few_commands most start.extras.rate start.settings (reading_of p.done).commands p.went.log now.driver
+    p.went.carried in
+    record {
+      rate = start.extras.rate;
+      settings = start.settings;
+      trace = (reading_of p.done).commands;
+      log = p.went.log;
+      carried = p.went.carried;
+      room = omega (arith, few, fewer, counted, fits);
+    }
+
+pub has_room : AreQuadrupled → {now : Moment} {more : ℕ} → IsUnderWay now more → HasRoom now more
+has_room most {now} {more} way =
     let p = way.progress in
     let few = lines-fewer way.bytes p.done now.held (cuts p) in
-    let fewer = commands-fewer line_reading 1 p.done in
-    let c = counted p.stopped.carried in
     record {
-      commands = omega (arith, few, fewer, c.commands_are, way.room);
-      births = omega (arith, few, fewer, c.births_are, way.room);
+      ready = room_of most p (omega (arith, way.room));
       lines = omega (arith, few, p.lines_are, way.room);
     }
 
 -- the same log for the same reading
-stopped-reading : {start : Start} {lines more : List (List ℕ)} {fault : Option FaultAt} {heap : Gc}
+went-stopped : {start : Start} {lines more : List (List ℕ)} {fault : Option FaultAt} {driver : Driver}
     {kept : Kept} →
-    Stopped start lines None heap kept →
+    Went start lines driver kept →
     reading_of more ≡ record { commands = (reading_of lines).commands; fault = fault } →
-    Stopped start more fault heap kept
-stopped-reading {start} {heap = heap} s e =
+    Stopped start more fault driver.heap kept
+went-stopped {start} {lines} {driver = driver} w e =
+    let all = has_commands start.extras.rate start.settings (reading_of lines).commands w.log driver w.carried in
     record {
       fault_is = ap (λ (r : Reading). r.fault) e;
-      log = s.log;
-      carried = subst (λ commands. CarriedOut start.settings commands s.log heap)
-          (sym (ap (λ (r : Reading). r.commands) e)) s.carried;
-      written = s.written;
+      log = w.log;
+      commands = all.commands;
+      listed = subst (λ trace. AreCommandsOf start.extras.rate start.settings trace w.log all.commands)
+          (sym (ap (λ (r : Reading). r.commands) e)) all.are;
+      carried = all.carried;
+      written = w.written;
+    }
+
+went-reading : {start : Start} {lines more : List (List ℕ)} {driver : Driver} {kept : Kept} →
+    Went start lines driver kept →
+    reading_of more ≡ record { commands = (reading_of lines).commands; fault = None } → Went start more driver kept
+went-reading {start} {driver = driver} w e =
+    record {
+      clean = ap (λ (r : Reading). r.fault) e;
+      log = w.log;
+      carried = subst (λ trace. Carried start.extras.rate start.settings trace w.log driver)
+          (sym (ap (λ (r : Reading). r.commands) e)) w.carried;
+      written = w.written;
     }
 
 -- the reading of lines that stops at a fault
@@ -187,7 +134,7 @@ progress-more {bytes = bytes} {now = now} more p clean room =
       held_clean = cut.held_clean;
       fits = omega (arith, longer, room);
       lines_are = p.lines_are;
-      stopped = p.stopped;
+      went = p.went;
     }
 
 -- nothing was done with a line that is too long
@@ -200,15 +147,15 @@ does-too_long {Unchanged} carried line long unchanged =
 stopped-too_long : {start : Start} {bytes : List ℕ} {now : Moment} (more : List ℕ) →
     Progress start bytes now → IsWithinLine more → 1024 < length now.held + length more →
     Stopped start (complete_lines (bytes ++ more))
-    (Some (record { line = now.lines + 1; fault = LineTooLong })) now.heap now.kept
+    (Some (record { line = now.lines + 1; fault = LineTooLong })) now.driver.heap now.kept
 stopped-too_long {bytes = bytes} {now = now} more p clean long =
     let line = now.held ++ more in
     let longer : 1024 < length line = omega (arith, length-append now.held more, long) in
     let turned : 1 + length p.done ≡ length p.done + 1 = omega arith in
-    stopped-reading p.stopped (ap reading_of
+    went-stopped p.went (ap reading_of
     (complete_lines-cuts (bytes ++ more) p.done line (Cuts-more bytes p.done now.held more (cuts p) clean)
     ∙ ap (λ b. p.done ++ line_if b line) (lt-ltb 1024 (length line) longer))
-    ∙ reading_from-stops line_reading 1 p.done line [] LineTooLong p.stopped.fault_is
+    ∙ reading_from-stops line_reading 1 p.done line [] LineTooLong p.went.clean
     (line_reading-too_long line longer)
     ∙ ap (λ n. faulty (reading_of p.done).commands n LineTooLong) turned
     ∙ fault_next LineTooLong p)
@@ -217,19 +164,19 @@ stopped-too_long {bytes = bytes} {now = now} more p clean long =
 stopped-line : {start : Start} {bytes : List ℕ} {now : Moment} (more : List ℕ) (fault : LineFault) (rest : List ℕ) →
     Progress start bytes now → IsWithinLine more → line_reading (now.held ++ more) ≡ Err fault →
     Stopped start (complete_lines ((bytes ++ more) ++ 10 ∷ rest))
-    (Some (record { line = now.lines + 1; fault = fault })) now.heap now.kept
+    (Some (record { line = now.lines + 1; fault = fault })) now.driver.heap now.kept
 stopped-line {bytes = bytes} {now = now} more fault rest p clean e =
-    stopped-reading p.stopped (fault_at_newline line_reading (bytes ++ more) p.done (now.held ++ more) rest fault
-    (Cuts-more bytes p.done now.held more (cuts p) clean) p.stopped.fault_is e
+    went-stopped p.went (fault_at_newline line_reading (bytes ++ more) p.done (now.held ++ more) rest fault
+    (Cuts-more bytes p.done now.held more (cuts p) clean) p.went.clean e
     ∙ fault_next fault p)
 
 -- one more line that went well
-next_line : {start : Start} {bytes : List ℕ} {now : Moment} {heap : Gc} {kept : Kept} (more : List ℕ)
+next_line : {start : Start} {bytes : List ℕ} {now : Moment} {driver : Driver} {kept : Kept} (more : List ℕ)
     (p : Progress start bytes now) → IsWithinLine more →
-    Stopped start (p.done ++ (now.held ++ more) ∷ []) None heap kept →
+    Went start (p.done ++ (now.held ++ more) ∷ []) driver kept →
     Progress start ((bytes ++ more) ++ 10 ∷ [])
-    (record { heap = heap; held = []; lines = now.lines + 1; kept = kept })
-next_line {bytes = bytes} {now = now} more p clean s =
+    (record { driver = driver; held = []; lines = now.lines + 1; kept = kept })
+next_line {bytes = bytes} {now = now} more p clean w =
     let line = now.held ++ more in
     let one_more = length_push p.done line in
     let cut = Cuts-newline (bytes ++ more) p.done line (Cuts-more bytes p.done now.held more (cuts p) clean) in
@@ -240,53 +187,71 @@ next_line {bytes = bytes} {now = now} more p clean s =
       held_clean = cut.held_clean;
       fits = omega arith;
       lines_are = omega (arith, one_more, p.lines_are);
-      stopped = s;
+      went = w;
     }
 
 -- a command was carried out after these lines
-pub stopped-command : {start : Start} {lines more : List (List ℕ)} {command : Command} {heap new : Gc}
+went-command : {start : Start} {lines more : List (List ℕ)} {command : Command} {driver new : Driver}
     {kept after : Kept} →
-    Stopped start lines None heap kept → CarriesOut heap new command kept after →
+    Went start lines driver kept → Advances driver new command kept after →
     reading_of more ≡ record { commands = (reading_of lines).commands ++ command ∷ []; fault = None } →
-    Stopped start more None new after
-stopped-command {start} {new = new} {after = after} s c e =
+    Went start more new after
+went-command {start} {lines} {new = new} {after = after} w c e =
+    let one = c start.extras.rate start.settings (reading_of lines).commands w.log w.carried in
     record {
-      fault_is = ap (λ (r : Reading). r.fault) e;
-      log = s.log ++ c.group;
-      carried = subst (λ commands. CarriedOut start.settings commands (s.log ++ c.group) new)
-          (sym (ap (λ (r : Reading). r.commands) e)) (carried_out-push s.carried c.step);
-      written = subst (GrewSince start after) (sym (spelling_of-append s.log c.group))
-          (writes-append (spelling_of s.log) (spelling_of c.group) s.written c.written);
+      clean = ap (λ (r : Reading). r.fault) e;
+      log = w.log ++ one.0;
+      carried = subst (λ trace. Carried start.extras.rate start.settings trace (w.log ++ one.0) new)
+          (sym (ap (λ (r : Reading). r.commands) e)) one.1;
+      written = subst (GrewSince start after) (sym (spelling_of-append w.log one.0))
+          (writes-append (spelling_of w.log) (spelling_of one.0) w.written one.2);
     }
+
+-- lines without a fault, at the end
+went-whole : {start : Start} {lines : List (List ℕ)} {driver : Driver} {kept : Kept} → Went start lines driver kept →
+    Stopped start lines None driver.heap kept
+went-whole {lines = lines} w =
+    went-stopped w (ap (λ fault. record { commands = (reading_of lines).commands; fault = fault }) w.clean)
 
 -- what holds in any case holds at Ok
 pub on_ok_always : {T E P : Type 0} (result : Result T E) → P → OnOk result P
 on_ok_always (Ok x) p = p
 on_ok_always (Err e) p = tt
 
+-- heap and pacer as they were
+pub unmoved : {heap new : Gc} {pacer next : Pacer} → new ≡ heap → next ≡ pacer →
+    driver_of new next ≡ driver_of heap pacer
+unmoved {new = new} {pacer = pacer} same still =
+    ap (driver_of new) still ∙ ap (λ (h : Gc). driver_of h pacer) same
+
 -- What a whole line, or the rest of the input as a line, came to.
-module _ {start : Start} {bytes : List ℕ} {now : Moment} {heap : Gc} {kept : Kept}
-    {Unchanged : Type 0} (same : Unchanged → (heap ≡ now.heap) × (kept ≡ now.kept))
+module _ {start : Start} {bytes : List ℕ} {now : Moment} {driver : Driver} {kept : Kept}
+    {Unchanged : Type 0} (same : Unchanged → (driver ≡ now.driver) × (kept ≡ now.kept))
     (p : Progress start bytes now) (result : Result (Unit {0}) LineFault) where
   abbrev Did : Result (Option Command) LineFault → Type 0
-  Did reading = DoesLine reading result Unchanged (λ command. CarriesOut now.heap heap command now.kept kept)
+  Did reading = DoesLine reading result Unchanged (λ command. Advances now.driver driver command now.kept kept)
 
   -- where a fault leaves all as it was
   unchanged : {lines : List (List ℕ)} {fault : Option FaultAt} → Unchanged →
-      Stopped start lines fault now.heap now.kept → Stopped start lines fault heap kept
+      Stopped start lines fault now.driver.heap now.kept → Stopped start lines fault driver.heap kept
   unchanged {lines} {fault} u s =
       let e = same u in
-      subst (λ v. Stopped start lines fault v kept) (sym e.0)
-      (subst (Stopped start lines fault now.heap) (sym e.1) s)
+      subst (λ (v : Driver). Stopped start lines fault v.heap kept) (sym e.0)
+      (subst (Stopped start lines fault now.driver.heap) (sym e.1) s)
+
+  still : {lines : List (List ℕ)} → Unchanged → Went start lines now.driver now.kept → Went start lines driver kept
+  still {lines} u w =
+      let e = same u in
+      subst (λ (v : Driver). Went start lines v kept) (sym e.0) (subst (Went start lines now.driver) (sym e.1) w)
 
   abbrev More : List ℕ → List ℕ → ℕ → Type 0
   More line held lines = Progress start ((bytes ++ line) ++ 10 ∷ [])
-      (record { heap = heap; held = held; lines = lines; kept = kept })
+      (record { driver = driver; held = held; lines = lines; kept = kept })
 
   abbrev Fault : List ℕ → ℕ → LineFault → Type 0
   Fault line lines fault = (rest : List ℕ) →
       Stopped start (complete_lines ((bytes ++ line) ++ 10 ∷ rest))
-      (Some (record { line = lines; fault = fault })) heap kept
+      (Some (record { line = lines; fault = fault })) driver.heap kept
 
   went_well : (line held : List ℕ) → OnOk result (held ≡ []) → result ≡ Ok tt → More line [] (now.lines + 1) →
       GoesOn result (More line held (now.lines + 1)) (Fault line (now.lines + 1))
@@ -302,11 +267,11 @@ module _ {start : Start} {bytes : List ℕ} {now : Moment} {heap : Gc} {kept : K
       subst (λ r. GoesOn r (More line held (now.lines + 1)) (Fault line (now.lines + 1))) (sym d.0)
       (λ rest. unchanged d.1 (stopped-line line fault rest p clean is))
   line_read line held clean none (Ok None) is d =
-      went_well line held none d.0 (next_line line p clean (unchanged d.1 (stopped-reading p.stopped
-      (reading-next-nothing line_reading p.done (now.held ++ line) p.stopped.fault_is is))))
+      went_well line held none d.0 (next_line line p clean (still d.1 (went-reading p.went
+      (reading-next-nothing line_reading p.done (now.held ++ line) p.went.clean is))))
   line_read line held clean none (Ok (Some command)) is d =
-      went_well line held none d.0 (next_line line p clean (stopped-command p.stopped d.1
-      (reading-next-command line_reading p.done (now.held ++ line) command p.stopped.fault_is is)))
+      went_well line held none d.0 (next_line line p clean (went-command p.went d.1
+      (reading-next-command line_reading p.done (now.held ++ line) command p.went.clean is)))
 
   -- These bytes and a newline came, and nothing is held then.
   pub goes-on-line : (line held : List ℕ) (lines : ℕ) → IsWithinLine line → OnOk result (held ≡ []) →
@@ -317,26 +282,26 @@ module _ {start : Start} {bytes : List ℕ} {now : Moment} {heap : Gc} {kept : K
       (line_read line held clean none (line_reading (now.held ++ line)) refl d)
 
   abbrev AtEnd : Type 0
-  AtEnd = Stopped start (lines_of bytes) None heap kept
+  AtEnd = Stopped start (lines_of bytes) None driver.heap kept
 
   abbrev FaultAtEnd : ℕ → LineFault → Type 0
-  FaultAtEnd lines fault = Stopped start (lines_of bytes) (Some (record { line = lines; fault = fault })) heap kept
+  FaultAtEnd lines fault = Stopped start (lines_of bytes) (Some (record { line = lines; fault = fault })) driver.heap kept
 
   rest_read : 0 < length now.held → (reading : Result (Option Command) LineFault) →
       line_reading now.held ≡ reading → Did reading → GoesOn result AtEnd (FaultAtEnd (now.lines + 1))
   rest_read some (Err fault) is d =
       subst (λ r. GoesOn r AtEnd (FaultAtEnd (now.lines + 1))) (sym d.0)
-      (unchanged d.1 (stopped-reading p.stopped (fault_at_end line_reading bytes p.done now.held fault (cuts p)
-      p.stopped.fault_is some is
+      (unchanged d.1 (went-stopped p.went (fault_at_end line_reading bytes p.done now.held fault (cuts p)
+      p.went.clean some is
       ∙ fault_next fault p)))
   rest_read some (Ok None) is d =
       subst (λ r. GoesOn r AtEnd (FaultAtEnd (now.lines + 1))) (sym d.0)
-      (unchanged d.1 (stopped-reading p.stopped (reading-end-nothing line_reading bytes p.done now.held (cuts p)
-      p.stopped.fault_is some is)))
+      (unchanged d.1 (went-stopped p.went (reading-end-nothing line_reading bytes p.done now.held (cuts p)
+      p.went.clean some is)))
   rest_read some (Ok (Some command)) is d =
       subst (λ r. GoesOn r AtEnd (FaultAtEnd (now.lines + 1))) (sym d.0)
-      (stopped-command p.stopped d.1 (reading-end-command line_reading bytes p.done now.held command (cuts p)
-      p.stopped.fault_is some is))
+      (went-whole (went-command p.went d.1 (reading-end-command line_reading bytes p.done now.held command (cuts p)
+      p.went.clean some is)))
 
   pub goes-to-end : 0 < length now.held → (lines : ℕ) → lines ≡ now.lines + 1 →
       Did (line_reading now.held) → GoesOn result AtEnd (FaultAtEnd lines)
@@ -385,63 +350,64 @@ module _ (bytes front rest piece : List ℕ) (here : front ++ rest ≡ piece) wh
   front_next line = simp append_assoc
 
   -- what the rest of the piece came to, where no newline is in it
-  pub goes-on-held : {start : Start} {now : Moment} (held : List ℕ) (lines : ℕ)
+  pub goes-on-held : {start : Start} {now : Moment} (held : List ℕ) (lines : ℕ) (driver : Driver)
       (result : Result (Unit {0}) LineFault) → Progress start (bytes ++ front) now → IsWithinLine rest →
+      driver ≡ now.driver →
       OnOk result ((held ≡ now.held ++ rest) × (lines ≡ now.lines)) →
       OnOk result (length now.held + length rest ≤ 1024) →
       IfErr result (λ fault.
       (fault ≡ LineTooLong) × (1024 < length now.held + length rest) × (lines ≡ now.lines + 1)) →
-      GoesOn result (Progress start (bytes ++ piece) (record now { held = held; lines = lines }))
+      GoesOn result (Progress start (bytes ++ piece) (record now { driver = driver; held = held; lines = lines }))
       (λ fault. Stopped start (complete_lines (bytes ++ piece)) (Some (record { line = lines; fault = fault }))
-      now.heap now.kept)
-  goes-on-held {start} {now} held lines (Ok done) p clean is fits long =
-      subst (λ xs. Progress start xs (record now { held = held; lines = lines })) behind
+      driver.heap now.kept)
+  goes-on-held {start} {now} held lines driver (Ok done) p clean same is fits long =
+      subst (λ (d : Driver). Progress start (bytes ++ piece) (record now { driver = d; held = held; lines = lines }))
+      (sym same)
+      (subst (λ xs. Progress start xs (record now { held = held; lines = lines })) behind
       (subst (λ h. Progress start ((bytes ++ front) ++ rest) (record now { held = h; lines = lines })) (sym is.0)
       (subst (λ n. Progress start ((bytes ++ front) ++ rest) (record now { held = now.held ++ rest; lines = n }))
-      (sym is.1) (progress-more rest p clean fits)))
-  goes-on-held {start} {now} held lines (Err fault) p clean is fits long =
-      subst (λ xs. Stopped start (complete_lines xs) (Some (record { line = lines; fault = fault })) now.heap now.kept)
+      (sym is.1) (progress-more rest p clean fits))))
+  goes-on-held {start} {now} held lines driver (Err fault) p clean same is fits long =
+      subst (λ (d : Driver). Stopped start (complete_lines (bytes ++ piece))
+      (Some (record { line = lines; fault = fault })) d.heap now.kept) (sym same)
+      (subst (λ xs. Stopped start (complete_lines xs) (Some (record { line = lines; fault = fault })) now.driver.heap now.kept)
       behind
       (subst (λ f. Stopped start (complete_lines ((bytes ++ front) ++ rest)) (Some (record { line = lines; fault = f }))
-      now.heap now.kept) (sym long.0)
+      now.driver.heap now.kept) (sym long.0)
       (subst (λ n. Stopped start (complete_lines ((bytes ++ front) ++ rest))
-      (Some (record { line = n; fault = LineTooLong })) now.heap now.kept) (sym long.2)
-      (stopped-too_long rest p clean long.1)))
+      (Some (record { line = n; fault = LineTooLong })) now.driver.heap now.kept) (sym long.2)
+      (stopped-too_long rest p clean long.1))))
 
 -- nothing is held at the end
 pub stopped-none : {start : Start} {bytes : List ℕ} {now : Moment} →
-    Progress start bytes now → now.held ≡ [] → Stopped start (lines_of bytes) None now.heap now.kept
+    Progress start bytes now → now.held ≡ [] → Stopped start (lines_of bytes) None now.driver.heap now.kept
 stopped-none {bytes = bytes} p none =
-    stopped-reading p.stopped (reading-end-none line_reading bytes p.done (subst (Cuts bytes p.done) none (cuts p))
-    ∙ ap (λ f. record { commands = (reading_of p.done).commands; fault = f }) p.stopped.fault_is)
+    went-stopped p.went (reading-end-none line_reading bytes p.done (subst (Cuts bytes p.done) none (cuts p))
+    ∙ ap (λ f. record { commands = (reading_of p.done).commands; fault = f }) p.went.clean)
 
 -- there is room for one more line where some of it is held
-pub has_room-held : {now : Moment} → IsUnderWay now 0 → 0 < length now.held → HasRoom now 1
-has_room-held {now} way some =
+pub has_room-held : AreQuadrupled → {now : Moment} → IsUnderWay now 0 → 0 < length now.held → HasRoom now 1
+has_room-held most {now} way some =
     let p = way.progress in
     let few = lines-fewer way.bytes p.done now.held (cuts p) in
-    let fewer = commands-fewer line_reading 1 p.done in
-    let c = counted p.stopped.carried in
     record {
-      commands = omega (arith, few, fewer, c.commands_are, way.room, some);
-      births = omega (arith, few, fewer, c.births_are, way.room, some);
+      ready = room_of most p (omega (arith, way.room));
       lines = omega (arith, few, p.lines_are, way.room, some);
     }
 
 -- where more may come, what was read stops at the last whole line
 pub progress-stopped : {start : Start} {bytes : List ℕ} {now : Moment} →
-    Progress start bytes now → Stopped start (complete_lines bytes) None now.heap now.kept
+    Progress start bytes now → Stopped start (complete_lines bytes) None now.driver.heap now.kept
 progress-stopped {start} {bytes} {now} p =
-    subst (λ lines. Stopped start lines None now.heap now.kept)
-    (sym (complete_lines-held bytes p.done now.held (cuts p) p.fits)) p.stopped
+    subst (λ lines. Stopped start lines None now.driver.heap now.kept)
+    (sym (complete_lines-held bytes p.done now.held (cuts p) p.fits)) (went-whole p.went)
 
 -- a journal that writes nothing more
-pub stopped-written_out : {start : Start} {lines : List (List ℕ)} {fault : Option FaultAt} {heap : Gc}
-    {kept after : Kept} →
-    Stopped start lines fault heap kept → Grew kept after [] → Stopped start lines fault heap after
-stopped-written_out {start} {after = after} s w =
+went-written_out : {start : Start} {lines : List (List ℕ)} {driver : Driver} {kept after : Kept} →
+    Went start lines driver kept → Grew kept after [] → Went start lines driver after
+went-written_out {start} {after = after} s w =
     record {
-      fault_is = s.fault_is;
+      clean = s.clean;
       log = s.log;
       carried = s.carried;
       written = subst (GrewSince start after) (append-nil (spelling_of s.log))
@@ -458,15 +424,15 @@ progress-written_out p w =
       held_clean = p.held_clean;
       fits = p.fits;
       lines_are = p.lines_are;
-      stopped = stopped-written_out p.stopped w;
+      went = went-written_out p.went w;
     }
 
 -- nothing was read yet
-pub progress-none : (settings : Settings) (extras : Extras) (heap : Gc) (kept : Option (List ℕ)) →
-    IsNew settings heap →
+pub progress-none : (settings : Settings) (extras : Extras) (driver : Driver) (kept : Option (List ℕ)) →
+    IsFresh extras.rate driver.pace → IsNew settings driver.heap →
     Progress (record { settings = settings; extras = extras; kept = kept }) []
-    (record { heap = heap; held = []; lines = 0; kept = record { bytes = kept; broken = false } })
-progress-none settings extras heap kept shows =
+    (record { driver = driver; held = []; lines = 0; kept = record { bytes = kept; broken = false } })
+progress-none settings extras driver kept fresh new =
     record {
       done = [];
       whole = refl;
@@ -474,27 +440,20 @@ progress-none settings extras heap kept shows =
       held_clean = Cuts-none.held_clean;
       fits = omega arith;
       lines_are = refl;
-      stopped = record {
-        fault_is = refl;
+      went = record {
+        clean = refl;
         log = [];
-        carried = record {
-          state = empty_state settings;
-          legal = (refl, refl);
-          good = empty_is_good settings shows.limits.growing;
-          shows = shows.shows;
-          settings_stay = refl;
-          counted = refl;
-          births = omega arith;
-        };
+        carried = carried-none extras.rate settings driver fresh new;
         written = writes-none kept false;
       };
     }
 
 -- the same, in the words of what was made
-pub progress-began : (settings : Settings) (extras : Extras) (kept : Kept) {heap : Gc} {held : List ℕ} {lines : ℕ} →
-    held ≡ [] → lines ≡ 0 → kept.broken ≡ false → IsNew settings heap →
-    Progress (start_with settings extras kept) [] (record { heap = heap; held = held; lines = lines; kept = kept })
-progress-began settings extras kept {heap} {held} {lines} h n whole shows =
+pub progress-began : (settings : Settings) (extras : Extras) (kept : Kept) {driver : Driver} {held : List ℕ}
+    {lines : ℕ} → held ≡ [] → lines ≡ 0 → kept.broken ≡ false → IsFresh extras.rate driver.pace →
+    IsNew settings driver.heap →
+    Progress (start_with settings extras kept) [] (record { driver = driver; held = held; lines = lines; kept = kept })
+progress-began settings extras kept {driver} {held} {lines} h n whole fresh new =
     subst₃ (λ h n b. Progress (start_with settings extras kept) []
-    (record { heap = heap; held = h; lines = n; kept = record { bytes = kept.bytes; broken = b } }))
-    (sym h) (sym n) (sym whole) (progress-none settings extras heap kept.bytes shows)
+    (record { driver = driver; held = h; lines = n; kept = record { bytes = kept.bytes; broken = b } }))
+    (sym h) (sym n) (sym whole) (progress-none settings extras driver kept.bytes fresh new)

@@ -58,6 +58,7 @@ serves_there task file named left traffic outcome says i (inr (inr (inl r))) =
       text = r.text;
       replayed = r.replayed;
       faithful = r.faithful;
+      in_time = r.in_time;
     })))
 
 pub serves-opened : (task : Task) (file : Option (List ℕ)) (named : Option NamedFile)

@@ -15,7 +15,7 @@ use Rattle.mm_why.specs.Path.{Shown, FallsIn, HasNoPath}
 use Rattle.mmgc.specs.declared.appendix.Appendix.{Appendix}
 use Rattle.mmgc.specs.declared.extras.Extras.{Extras}
 use Rattle.mmgc.specs.Added.{IsShortest}
-use Rattle.mmgc.specs.Replaying.{Grew}
+use Rattle.mmgc.specs.Carrying.{Grew}
 
 -- a space and a number
 abbrev pub numbered : ℕ → List ℕ
@@ -56,9 +56,9 @@ pub record IsPathFound (shown : Shown) (base : ℕ) (hops : List Hop) (count : �
 abbrev pub IsSearched : Shown → ℕ → List Hop → Option ℕ → Type 0
 IsSearched shown base hops result = MatchOption result (HasNoPath shown base) (IsPathFound shown base hops)
 
--- what an appendix is asked for
-abbrev pub asked_of : Appendix → Extras
-asked_of appendix = record { why = option_map (λ question. question.word) appendix.why }
+-- what a replay is asked for with an appendix, at a rate
+abbrev pub asked_of : Option ℕ → Appendix → Extras
+asked_of rate appendix = record { why = option_map (λ question. question.word) appendix.why; rate = rate }
 
 -- it has room for the search of a heap of so many pages
 abbrev pub IsReadyFor : ℕ → Appendix → Type 0
@@ -67,7 +67,7 @@ IsReadyFor pages appendix = IfSome appendix.why (λ question. question.why.pages
 -- a new heap with these settings, and what is asked for, which is ready for it
 pub record IsPrepared (settings : Settings) (extras : Extras) (heap : Gc) (appendix : Appendix) : Type 0 where
   pub shows : Shows (view_of_gc heap) (empty_state settings)
-  pub asked : asked_of appendix ≡ extras
+  pub asked : asked_of extras.rate appendix ≡ extras
   pub ready : IsReadyFor settings.max appendix
 
 -- the view is that of a state, so that its lists have the entries of the greatest region

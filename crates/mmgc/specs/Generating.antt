@@ -16,7 +16,7 @@ use Rattle.mmgc.specs.declared.generator.GeneratedTrace.{GeneratedTrace}
 use Rattle.mmgc.specs.declared.replay.End.{End}
 use Rattle.mmgc.specs.declared.replay.End.TheVariants.{Whole, WriteFailed}
 use Rattle.mmgc.specs.Generator.{commands_of}
-use Rattle.mmgc.specs.Replaying.{CarriedOut}
+use Rattle.mmgc.specs.Carrying.{CarriedOut}
 use Rattle.mmgc.specs.Run.{Output, IsWritten}
 
 -- a command was carried out, and its lines are nowhere kept

@@ -3,16 +3,32 @@ use Rattle.std.specs.Prelude.{ℕ, List, Option}
 use Rattle.mm_gc.specs.Gc.{Gc}
 use Rattle.mm_gc.specs.Rows.{Kept}
 use Rattle.mmgc.specs.declared.log.LogWriter.{LogWriter}
+use Rattle.mmgc.specs.declared.pacer.Pacer.{Pacer}
 use Rattle.mmgc.specs.declared.replay.Replay.{Replay}
 use Rattle.mmgc.specs.Writing.{kept_bytes, Keeps}
+use Rattle.mm_pace.specs.declared.pace.Pace.{Pace}
+use Rattle.mmgc.specs.Pacing.{Driver, Left}
 use Rattle.mmgc.specs.Replaying.{Moment}
 
 abbrev pub kept_by : {K : Type 0} → (K → Option (List ℕ)) → LogWriter K → Kept
 kept_by taken log = record { bytes = kept_bytes (taken log.sink.now) log.broken log.pending.items; broken = log.broken }
 
+-- what a call of a pacer left, with the log before and after it
+abbrev pub left_of : {K : Type 0} → (K → Option (List ℕ)) → Pace → Gc → LogWriter K → LogWriter K → Left
+left_of taken pace heap before after =
+    record { pace = pace; heap = heap; before = kept_by taken before; after = kept_by taken after }
+
+abbrev pub driver_of : Gc → Pacer → Driver
+driver_of heap pacer = record { heap = heap; pace = pacer.pace }
+
 abbrev pub moment_of : {K : Type 0} → (K → Option (List ℕ)) → Gc → Replay → LogWriter K → Moment
 moment_of taken heap replay log =
-    record { heap = heap; held = replay.cutter; lines = replay.lines; kept = kept_by taken log }
+    record {
+      driver = driver_of heap replay.pacer;
+      held = replay.cutter;
+      lines = replay.lines;
+      kept = kept_by taken log;
+    }
 
 -- what calls of a log writer never undo
 abbrev pub KeepsOn : {K : Type 0} → (K → ℕ) → (K → Option (List ℕ)) → LogWriter K → LogWriter K → Type 0

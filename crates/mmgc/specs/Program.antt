@@ -4,6 +4,7 @@ use Rattle.mm_model.specs.Logs.Faithful.{IsFaithful}
 use Rattle.mm_io.specs.Faults.{Rose}
 use Rattle.mm_io.specs.Told.{NamedFile, Chooses}
 use Rattle.mm_gc.specs.Gc.{Gc}
+use Rattle.mm_pace.specs.Paced.{AreInTime}
 use Rattle.mmgc.specs.declared.program.Outcome.{Outcome}
 use Rattle.mmgc.specs.declared.replay.End.{End}
 use Rattle.mmgc.specs.declared.replay.End.TheVariants.{Whole, Fault, ReadFailed, WriteFailed, TooLong}
@@ -74,7 +75,7 @@ abbrev pub task_of : Choice → Task
 task_of choice = record { settings = choice.settings; extras = choice.extras }
 
 -- The input was replayed to this end, on the heap that is handed back. The lines of the commands that were carried out
--- are legal and keep what is promised of logs.
+-- are legal and keep what is promised of logs. Where cycles are paced, each ends in time.
 pub record Replays (choice : Choice) (traffic : Traffic) (outcome : Outcome) (says : List ℕ → Type 0) : Type 0 where
   pub replays : choice.generated ≡ None
   pub end : End
@@ -85,7 +86,9 @@ pub record Replays (choice : Choice) (traffic : Traffic) (outcome : Outcome) (sa
   pub heap_back : outcome.heap ≡ Some heap
   pub text : says (end_text end)
   pub replayed : Replayed end (task_of choice) (record traffic.input { left = bytes }) traffic.output heap
-  pub faithful : IsFaithful choice.settings (commands_in replayed.reach) replayed.groups
+  pub faithful : IsFaithful choice.settings replayed.commands replayed.groups
+  pub in_time : AreInTime choice.extras.rate choice.settings (commands_in replayed.reach) replayed.groups
+      replayed.commands replayed.carried
 
 -- nothing was read, and no fault was counted there
 pub record IsUnread (input : Input) : Type 0 where

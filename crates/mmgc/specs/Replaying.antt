@@ -7,19 +7,19 @@ use Rattle.mm_model.specs.declared.command.Command.{Command}
 use Rattle.mm_model.specs.declared.refusal.LineFault.{LineFault}
 use Rattle.mm_model.specs.declared.line.Line.{Line}
 use Rattle.mm_model.specs.declared.settings.Settings.{Settings}
-use Rattle.mm_model.specs.State.{State, empty_state}
-use Rattle.mm_model.specs.Good.{IsGood}
-use Rattle.mm_model.specs.Logs.Log.{IsLegal}
-use Rattle.mm_model.specs.Step.{IsStep}
+use Rattle.mm_model.specs.State.{empty_state}
 use Rattle.mm_model.specs.Views.View.{Shows}
 use Rattle.mm_model.specs.Logs.Journal.{Writes}
 use Rattle.mm_model.specs.Logs.Spelling.{spelling_of}
 use Rattle.mm_model.specs.Logs.Trace.{line_reading, reading_from, Reading, FaultAt}
 use Rattle.mm_trace.specs.Lines.{IsWithinLine}
 use Rattle.mm_gc.specs.Gc.{Gc, view_of_gc}
-use Rattle.mm_gc.specs.Rows.{IsStepOf, Kept}
+use Rattle.mm_gc.specs.Rows.{Kept}
+use Rattle.mm_pace.specs.Paced.{AreCommandsOf}
 use Rattle.mmgc.specs.declared.extras.Extras.{Extras}
 use Rattle.mmgc.specs.Added.{Task}
+use Rattle.mmgc.specs.Carrying.{CarriedOut}
+use Rattle.mmgc.specs.Pacing.{Driver, Carried}
 
 -- what these lines say, from line 1 on
 abbrev pub reading_of : List (List ℕ) → Reading
@@ -29,12 +29,8 @@ reading_of lines = reading_from line_reading 1 lines
 abbrev pub most_bytes : ℕ
 most_bytes = 2 ^ 32 - 1
 
--- from one moment to the next a journal was given these bytes to write
-abbrev pub Grew : Kept → Kept → List ℕ → Type 0
-Grew before after bytes = Writes before.bytes before.broken after.bytes after.broken bytes
-
--- where a replay began: the settings of its heap, what is to stand behind its log, and what its journal kept, which was
--- whole
+-- where a replay began: the settings of its heap, what is to stand behind its log and whether cycles are paced, and
+-- what its journal kept, which was whole
 pub record Start : Type 0 where
   pub settings : Settings
   pub extras : Extras
@@ -51,9 +47,10 @@ task_since start = record { settings = start.settings; extras = start.extras }
 abbrev pub GrewSince : Start → Kept → List ℕ → Type 0
 GrewSince start kept bytes = Writes start.kept false kept.bytes kept.broken bytes
 
--- a replay at one moment: its heap, the piece of a line that it holds, the lines that it read, and its journal
+-- a replay at one moment: its heap and what paces it, the piece of a line that it holds, the lines that it read, and its
+-- journal
 pub record Moment : Type 0 where
-  pub heap : Gc
+  pub driver : Driver
   pub held : List ℕ
   pub lines : ℕ
   pub kept : Kept
@@ -63,22 +60,22 @@ pub record IsNew (settings : Settings) (heap : Gc) : Type 0 where
   pub limits : IsWithinLimits settings
   pub shows : Shows (view_of_gc heap) (empty_state settings)
 
--- The commands were carried out with this log, which is legal, and the heap shows the state after it.
-pub record CarriedOut (settings : Settings) (commands : List Command) (log : List Line) (heap : Gc) : Type 0 where
-  pub state : State
-  pub legal : IsLegal IsStep settings commands log state
-  pub good : IsGood state
-  pub shows : Shows (view_of_gc heap) state
-  pub settings_stay : state.settings ≡ settings
-  pub counted : state.commands ≡ length commands
-  pub births : length state.objects ≤ length commands
-
--- What these lines say was carried out up to the first fault, and the log went to the journal.
+-- What these lines say was carried out up to the first fault, with what is added to it where cycles are paced, and the
+-- log went to the journal.
 pub record Stopped (start : Start) (lines : List (List ℕ)) (fault : Option FaultAt) (heap : Gc) (kept : Kept) :
     Type 0 where
   pub fault_is : (reading_of lines).fault ≡ fault
   pub log : List Line
-  pub carried : CarriedOut start.settings (reading_of lines).commands log heap
+  pub commands : List Command
+  pub listed : AreCommandsOf start.extras.rate start.settings (reading_of lines).commands log commands
+  pub carried : CarriedOut start.settings commands log heap
+  pub written : GrewSince start kept (spelling_of log)
+
+-- Lines without a fault were carried out so, and the heap and what paces it can go on.
+pub record Went (start : Start) (lines : List (List ℕ)) (driver : Driver) (kept : Kept) : Type 0 where
+  pub clean : (reading_of lines).fault ≡ None
+  pub log : List Line
+  pub carried : Carried start.extras.rate start.settings (reading_of lines).commands log driver
   pub written : GrewSince start kept (spelling_of log)
 
 -- The bytes so far were cut into lines, which were carried out without a fault, and a piece of the next line is held.
@@ -89,7 +86,7 @@ pub record Progress (start : Start) (bytes : List ℕ) (now : Moment) : Type 0 w
   pub held_clean : IsWithinLine now.held
   pub fits : length now.held ≤ 1024
   pub lines_are : now.lines ≡ length done
-  pub stopped : Stopped start done None now.heap now.kept
+  pub went : Went start done now.driver now.kept
 
 -- What a line says was done: nothing, or its command, or neither because of a fault.
 abbrev pub DoesLine : Result (Option Command) LineFault → Result (Unit {0}) LineFault → Type 0 →
@@ -97,12 +94,6 @@ abbrev pub DoesLine : Result (Option Command) LineFault → Result (Unit {0}) Li
 DoesLine (Err fault) result unchanged carried = (result ≡ Err fault) × unchanged
 DoesLine (Ok None) result unchanged carried = (result ≡ Ok tt) × unchanged
 DoesLine (Ok (Some command)) result unchanged carried = (result ≡ Ok tt) × carried command
-
--- a command was carried out, and its lines were written
-pub record CarriesOut (old new : Gc) (command : Command) (before after : Kept) : Type 0 where
-  pub group : List Line
-  pub step : (a : State) → IsGood a → Shows (view_of_gc old) a → IsStepOf (view_of_gc new) command group a
-  pub written : Grew before after (spelling_of group)
 
 -- What more bytes made of the progress: more of it, or a fault at this line.
 abbrev pub GoesOn : Result (Unit {0}) LineFault → Type 0 → (LineFault → Type 0) → Type 0

@@ -1,5 +1,5 @@
 -- Values and requests as contracts see them.
-use Rattle.std.specs.Prelude.{◌≤◌, IfSome, option_map}
+use Rattle.std.specs.Prelude.{ℕ, ◌≤◌, IfSome, option_map}
 use Rattle.mm_model.specs.Places.Limits.{IsWithinLimits}
 use Rattle.mmgc.specs.declared.words.Request.{Request}
 use Rattle.mmgc.specs.declared.words.Given.{Given}
@@ -15,9 +15,14 @@ asked_by request =
       extras = request.extras;
     }
 
--- the heap can have the settings, and not too many commands are asked for
+-- cycles can be paced at it
+abbrev pub IsRate : ℕ → Type 0
+IsRate rate = (1 ≤ rate) × (rate ≤ 1024)
+
+-- the heap can have the settings, cycles the rate, and not too many commands are asked for
 pub record IsAllowed (request : Request) : Type 0 where
   pub settings : IsWithinLimits request.settings
+  pub rate : IfSome request.extras.rate IsRate
   pub count : IfSome request.generated (λ trace. trace.count ≤ most_generated)
 
 abbrev pub values_by : Given → Values
@@ -31,5 +36,6 @@ values_by given =
       generated = option_map (λ text. text.now) given.generated;
       count = option_map (λ text. text.now) given.count;
       why = option_map (λ text. text.now) given.why;
+      pace = option_map (λ text. text.now) given.pace;
       file = option_map (λ text. text.now) given.file;
     }

@@ -14,6 +14,7 @@ use Rattle.mm_io.specs.Faults.{Rose}
 use Rattle.mm_io.specs.Told.{Appends, AppendsFront, Gives}
 use Rattle.mm_gc.specs.Gc.{Gc, view_of_gc}
 use Rattle.mm_gc.specs.Rows.{Kept}
+use Rattle.mm_pace.specs.Paced.{AreCommandsOf}
 use Rattle.mmgc.specs.Added.{Task, with_total, IsFollowed}
 use Rattle.mmgc.specs.Replaying.{reading_of, most_bytes, Start, GrewSince, Moment, Stopped, Progress}
 use Rattle.mmgc.specs.declared.replay.End.{End}
@@ -118,10 +119,12 @@ pub record Replayed (end : End) (task : Task) (input : Input) (output : Output) 
   pub nothing_left : reach.at_end ≡ true → NothingLeft input.left_after
   pub cause : HasCause end reach input
   pub fault_is : IsFaultOf end (reading_of (lines_in reach)).fault
-  -- the lines of the commands, and the state after them
+  -- the commands that were carried out, their lines, and the state after them
+  pub commands : List Command
   pub groups : List Line
+  pub carried : AreCommandsOf task.extras.rate task.settings (commands_in reach) groups commands
   pub state : State
-  pub legal : IsLegal IsStep task.settings (commands_in reach) groups state
+  pub legal : IsLegal IsStep task.settings commands groups state
   pub good : IsGood state
   pub shows : Shows (view_of_gc heap) state
   pub log : List Line
@@ -143,7 +146,7 @@ pub record Ended (end : End) (start : Start) (bytes : List ℕ) (input : Input) 
   pub fault : Option FaultAt
   pub fault_is : IsFaultOf end fault
   pub broken : end ≡ WriteFailed → IsTrue now.kept.broken
-  pub stopped : Stopped start (lines_in reach) fault now.heap now.kept
+  pub stopped : Stopped start (lines_in reach) fault now.driver.heap now.kept
 
 -- A replay that had taken these bytes took the next piece of so many bytes, without a fault.
 pub record Took (n : ℕ) (start : Start) (bytes : List ℕ) (input : Input) (now : Moment) : Type 0 where
@@ -161,9 +164,11 @@ Turns (Err end) start bytes input now = Ended end start bytes input now
 
 -- The log of an end went to the journal, and the heap shows the state after it.
 pub record Logged (end : End) (start : Start) (reach : Reach) (heap : Gc) (kept : Kept) : Type 0 where
+  pub commands : List Command
   pub groups : List Line
+  pub carried : AreCommandsOf start.extras.rate start.settings (commands_in reach) groups commands
   pub state : State
-  pub legal : IsLegal IsStep start.settings (commands_in reach) groups state
+  pub legal : IsLegal IsStep start.settings commands groups state
   pub good : IsGood state
   pub shows : Shows (view_of_gc heap) state
   pub log : List Line

@@ -13,7 +13,7 @@ use Rattle.mmgc.specs.declared.generator.GeneratedTrace.{GeneratedTrace}
 use Rattle.mmgc.specs.Generator.{most_generated}
 
 -- The settings of the heap, the file to read, where one is named, the generated trace that takes the place of the
--- input, where one is asked for, and what is to stand behind the log.
+-- input, where one is asked for, and what is to stand behind the log and whether cycles are paced.
 pub record Choice : Type 0 where
   pub settings : Settings
   pub file : Option (List ℕ)
@@ -40,8 +40,8 @@ settings_app =
 -- the program's command
 abbrev pub mmgc_app : App
 mmgc_app =
-    with_rule (with_option (with_option (with_option settings_app (codes "gen")) (codes "count")) (codes "why"))
-    (new_rule (codes "FILE"))
+    with_rule (with_option (with_option (with_option (with_option settings_app (codes "gen")) (codes "count"))
+    (codes "why")) (codes "pace")) (new_rule (codes "FILE"))
 
 -- the values that words give, each where it stands
 pub record Values : Type 0 where
@@ -53,6 +53,7 @@ pub record Values : Type 0 where
   pub generated : Option Text
   pub count : Option Text
   pub why : Option Text
+  pub pace : Option Text
   pub file : Option Text
 
 abbrev pub values_in : List Row → Values
@@ -66,6 +67,7 @@ values_in rows =
       generated = first_of (codes "gen") rows;
       count = first_of (codes "count") rows;
       why = first_of (codes "why") rows;
+      pace = first_of (codes "pace") rows;
       file = first_of (codes "FILE") rows;
     }
 
@@ -112,15 +114,21 @@ trace_of seed count =
     (setting_of (limits 0 most_generated 0) (Some count)))
     (setting_of (limits 0 (2 ^ 32 - 1) 0) (Some seed))
 
--- nothing stands behind the log
+-- nothing stands behind the log, and cycles aren't paced
 abbrev pub no_extras : Extras
-no_extras = record { why = None }
+no_extras = record { why = None; rate = None }
 
--- an option whose value is any number of the trace's grammar, where it stands
-abbrev pub extras_of : Option Text → Option Extras
-extras_of None = Some no_extras
-extras_of (Some word) =
-    option_map (λ word. record { why = Some word }) (setting_of (limits 0 (2 ^ 32 - 1) 0) (Some word))
+-- the value of an option that has no default, where it stands
+abbrev pub number_if_given : Limits → Option Text → Option (Option ℕ)
+number_if_given limits None = Some None
+number_if_given limits (Some text) = option_map (λ n. Some n) (setting_of limits (Some text))
+
+-- a word, which is any number of the trace's grammar, and a rate
+abbrev pub extras_of : Option Text → Option Text → Option Extras
+extras_of why pace =
+    option_and_then (λ why. option_map (λ rate. record { why = why; rate = rate })
+    (number_if_given (limits 1 1024 0) pace))
+    (number_if_given (limits 0 (2 ^ 32 - 1) 0) why)
 
 -- a trace that is read
 abbrev pub reading : Settings → Option Text → Option Extras → Option Choice
@@ -128,22 +136,24 @@ reading settings file None = None
 reading settings file (Some extras) =
     Some (record { settings = settings; file = file_of file; generated = None; extras = extras })
 
--- With a generated trace no file is read, and nothing stands behind the log.
+-- With a generated trace no file is read, nothing stands behind the log, and cycles aren't paced.
 abbrev pub generating : Settings → Option GeneratedTrace → Option Choice
 generating settings None = None
 generating settings (Some trace) =
     Some (record { settings = settings; file = None; generated = Some trace; extras = no_extras })
 
--- `--gen` and `--count` stand together or not at all, and neither stands beside FILE or `--why`.
-abbrev pub choice_with : Settings → Option Text → Option Text → Option Text → Option Text → Option Choice
-choice_with settings None None file why = reading settings file (extras_of why)
-choice_with settings (Some seed) (Some count) None None = generating settings (trace_of seed count)
-choice_with settings seed count file why = None
+-- `--gen` and `--count` stand together or not at all, and neither stands beside FILE, `--why` or `--pace`.
+abbrev pub choice_with : Settings → Option Text → Option Text → Option Text → Option Text → Option Text
+    → Option Choice
+choice_with settings None None file why pace = reading settings file (extras_of why pace)
+choice_with settings (Some seed) (Some count) None None None = generating settings (trace_of seed count)
+choice_with settings seed count file why pace = None
 
 -- what the values ask for
 abbrev pub choice_from : Values → Option Choice
 choice_from values =
-    option_and_then (λ settings. choice_with settings values.generated values.count values.file values.why)
+    option_and_then
+    (λ settings. choice_with settings values.generated values.count values.file values.why values.pace)
     (settings_of values)
 
 -- what the values ask for that the program's command gives for a list, whose first word is the program's name

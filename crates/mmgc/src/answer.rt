@@ -7,7 +7,7 @@ ghost use Rattle.mm_why.specs.Path.{shown_in};
 ghost use Rattle.mmgc.specs.Added.{IsWhyText, hop_spelling, path_spelling, via_words};
 ghost use Rattle.mmgc.specs.Appending.{Appended, HasPages, IsFoundIn, IsHit, IsSearched, named, numbered, via_spelling};
 ghost use Rattle.mmgc.specs.Logging.{kept_by, KeepsOn};
-ghost use Rattle.mmgc.specs.Replaying.{Grew};
+ghost use Rattle.mmgc.specs.Carrying.{Grew};
 
 use crate::log::LogWriter;
 use mm_gc::Gc;

@@ -1,5 +1,5 @@
 // What stands behind a log.
-ghost use Rattle.std.specs.Prelude.{◌≡◌, ◌≤◌, IfOk};
+ghost use Rattle.std.specs.Prelude.{◌≡◌, ◌≤◌, IfOk, None};
 ghost use Rattle.mm_gc.specs.Gc.{view_of_gc};
 ghost use Rattle.mm_model.specs.Good.{IsGood};
 ghost use Rattle.mm_model.specs.State.{State};
@@ -45,7 +45,7 @@ impl Appendix {
     pub(crate) fn make(alloc: Global, extras: Extras, pages: u32) -> Result<Appendix, AllocError>
         requires two { 2 ≤ pages }
         requires most { pages ≤ 4096 }
-        ensures asked { IfOk result (λ appendix. asked_of appendix ≡ extras) }
+        ensures asked { IfOk result (λ appendix. asked_of extras.rate appendix ≡ extras) }
         ensures ready { IfOk result (λ appendix. IsReadyFor pages appendix) }
     {
         match extras.why {
@@ -63,7 +63,7 @@ impl Appendix {
     pub(crate) fn write<K: Sink>(&mut self, log: &mut LogWriter<'_, K>, heap: &Gc)
         requires shows { HasPages (view_of_gc heap.now) }
         requires ready { IsReadyFor heap.now.settings.max self.old }
-        ensures written { (a : State) → Shows (view_of_gc heap.now) a → Appended (IsAddedText (asked_of self.old) a)
+        ensures written { (a : State) → Shows (view_of_gc heap.now) a → Appended (IsAddedText (asked_of None self.old) a)
             (kept_by K.taken log.old) (kept_by K.taken log.new) }
         ensures kept { KeepsOn K.faults K.taken log.old log.new }
     {

@@ -4,7 +4,7 @@ ghost use Rattle.std.specs.Prelude.{IsErr};
 ghost use Rattle.arrayvec.specs.ArrayVec.{array_vec_len};
 ghost use Rattle.mm_model.specs.Logs.Spelling.{spelling};
 ghost use Rattle.mmgc.specs.Writing.{kept_bytes, Keeps};
-ghost use Rattle.mmgc.specs.Replaying.{Grew};
+ghost use Rattle.mmgc.specs.Carrying.{Grew};
 ghost use Rattle.mmgc.specs.Logging.{kept_by, KeepsOn};
 ghost use Rattle.mmgc.specs.Keeping.{keeps-same, keeps-trans};
 

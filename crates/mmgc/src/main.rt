@@ -9,16 +9,19 @@ ghost use Rattle.mmgc.specs.Telling.{IsTold};
 
 mod answer;
 mod appendix;
+mod execute;
 mod extras;
 mod generating;
 mod generator;
 mod log;
+mod pacer;
 mod program;
 mod quiet;
 mod replay;
 #[cfg(test)]
 mod tests;
 mod words;
+mod work;
 
 pub use generator::generated;
 pub use log::LogWriter;

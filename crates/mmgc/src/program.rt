@@ -1,5 +1,5 @@
 // The program, over whatever its bytes come from and go to.
-ghost use Rattle.std.specs.Prelude.{◌≡◌, ◌≢◌, ◌≤◌, ◌++◌, ◌∷◌, List, ℕ, Option, None, Some, OnOk, OnErr, IfOk, IsSome};
+ghost use Rattle.std.specs.Prelude.{◌≡◌, ◌≢◌, ◌≤◌, ◌++◌, ◌∷◌, List, ℕ, Option, None, Some, OnOk, OnErr, IfOk, IfSome, IsSome};
 ghost use Rattle.std.specs.Prelude.{codes};
 ghost use Rattle.std.specs.Prelude.{map, option_map, string_bytes};
 ghost use Rattle.mm_io.specs.Faults.{CountsChoice};
@@ -10,7 +10,7 @@ ghost use Rattle.mmgc.specs.Completing.{IsComplete};
 ghost use Rattle.mm_io.specs.Told.{NamedFile};
 ghost use Rattle.mmgc.specs.Generator.{most_generated};
 ghost use Rattle.mmgc.specs.Program.{EndsUnwritten, IsInput, IsUnread, Ran, Serves, status_of};
-ghost use Rattle.mmgc.specs.Requests.{IsAllowed, asked_by};
+ghost use Rattle.mmgc.specs.Requests.{IsAllowed, IsRate, asked_by};
 ghost use Rattle.mmgc.specs.Run.{Input};
 ghost use Rattle.mmgc.specs.Telling.{IsTold, Takes, end_text, line_text};
 
@@ -23,6 +23,7 @@ use crate::words::{Request, WordsFault, list_words, read_words};
 use mm_gc::{Gc, Settings};
 use mm_io::{ChooseFault, Failed, Sink, Source, write_all};
 use mm_model::LineFault;
+use mm_pace::cycles_end_in_time;
 use mm_trace::fault_text;
 use std::alloc::{AllocError, Global};
 
@@ -149,7 +150,8 @@ fn replay<S: Source, K: Sink, E: Sink>(
     out: &mut K,
     err: &mut E,
 ) -> Outcome
-    requires { IsWithinLimits settings }
+    requires settings { IsWithinLimits settings }
+    requires rate { IfSome extras.rate IsRate }
     ensures served { Serves (record { settings = settings; file = None; generated = None; extras = extras })
         (record {
           named = S.named source.old;
@@ -174,10 +176,11 @@ fn replay<S: Source, K: Sink, E: Sink>(
     ensures out { K.faults out.old ≤ K.faults out.new }
     ensures err { E.faults err.old ≤ E.faults err.new }
 {
+    cycles_end_in_time();
     match prepare(alloc, settings, extras) {
         Err(_) => no_memory(err),
         Ok((mut heap, mut appendix)) => {
-            let end = carry_out(&mut heap, source, out, &mut appendix);
+            let end = carry_out(&mut heap, source, out, &mut appendix, extras.rate);
             tell_end(err, end);
             Outcome {
                 status: end.status(),
@@ -215,7 +218,8 @@ fn open_and_replay<S: Source, K: Sink, E: Sink>(
     out: &mut K,
     err: &mut E,
 ) -> Outcome
-    requires { IsWithinLimits settings }
+    requires settings { IsWithinLimits settings }
+    requires rate { IfSome extras.rate IsRate }
     ensures served { Serves
         (record {
           settings = settings;

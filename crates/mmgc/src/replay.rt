@@ -9,20 +9,22 @@ ghost use Rattle.mm_model.specs.declared.refusal.LineFault.TheVariants.{LineTooL
 ghost use Rattle.mm_model.specs.declared.settings.Settings.{Settings};
 ghost use Rattle.mm_model.specs.Logs.Trace.{complete_lines, line_reading, lines_of, FaultAt};
 ghost use Rattle.mmgc.specs.Appending.{HasPages, IsReadyFor, asked_of};
-ghost use Rattle.mmgc.specs.Logging.{kept_by, moment_of, KeepsOn};
-ghost use Rattle.mmgc.specs.Replaying.{CarriesOut, DoesLine, GoesOn, Grew, IsNew, IsUnderWay, Progress, Start, Stopped};
+ghost use Rattle.mmgc.specs.Carrying.{Grew};
+ghost use Rattle.mmgc.specs.Logging.{driver_of, kept_by, moment_of, KeepsOn};
+ghost use Rattle.mmgc.specs.Pacing.{Advances, IsFresh, IsReady};
+ghost use Rattle.mmgc.specs.Replaying.{DoesLine, GoesOn, IsNew, IsUnderWay, Progress, Start, Stopped};
+ghost use Rattle.mmgc.specs.Requests.{IsRate};
 ghost use Rattle.mmgc.specs.Replaying.{most_bytes};
 ghost use Rattle.mmgc.specs.Run.{Ended, Input, IsFaultOf, Logged, NothingLeft, Reach, Replayed, Turns, lines_in};
 
 use crate::appendix::Appendix;
 use crate::log::LogWriter;
+use crate::pacer::Pacer;
 use mm_gc::Gc;
 use mm_io::{Sink, Source};
-use mm_model::{Command, Line, LineFault};
-use mm_steps::Steps;
+use mm_model::{Line, LineFault};
+use mm_pace::a_trace_is_at_most_quadrupled;
 use mm_trace::{Cutter, line_end, parse_line, parse_plain_line};
-use std::marker::Brand;
-use std::sync::ledger::{Blank, Ledger};
 
 /// How a replay ended.
 #[derive(Clone, Copy, Debug, PartialEq, Eq)]
@@ -45,28 +47,7 @@ struct Replay {
     cutter: Cutter,
     /// The lines that were read so far.
     lines: u32,
-}
-
-/// Carries out a command with a counter of steps that nothing reads, and writes its lines.
-#[inline(always)]
-fn execute<K: Sink, L: Ledger>(
-    heap: &mut Gc,
-    log: &mut LogWriter<'_, K>,
-    command: &Command,
-    blank: Blank,
-)
-    requires name { blank.name ≡ L.name }
-    requires parts { blank.parts ≡ L.parts }
-    requires shared { 0 < L.parts }
-    requires commands { (view_of_gc heap.old).totals.commands < 2 ^ 64 - 1 }
-    requires births { (view_of_gc heap.old).totals.born < 2 ^ 64 - 1 }
-    ensures carried { CarriesOut heap.old heap.new command.now
-        (kept_by K.taken log.old) (kept_by K.taken log.new) }
-    ensures kept { KeepsOn K.faults K.taken log.old log.new }
-{
-    let mut steps = Steps::<L>::open(blank);
-    let reply = heap.execute(command, log, &mut steps);
-    log.line(&Line::Reply(reply));
+    pacer: Pacer,
 }
 
 /// Carries out what a line says.
@@ -75,20 +56,20 @@ fn execute<K: Sink, L: Ledger>(
 fn take_line<K: Sink>(
     heap: &mut Gc,
     log: &mut LogWriter<'_, K>,
+    pacer: &mut Pacer,
     line: &[u8],
 ) -> Result<(), LineFault>
-    requires commands { (view_of_gc heap.old).totals.commands < 2 ^ 64 - 1 }
-    requires births { (view_of_gc heap.old).totals.born < 2 ^ 64 - 1 }
+    requires { IsReady (driver_of heap.old pacer.old) }
     ensures done { DoesLine (line_reading line.now) result
-        ((heap.new ≡ heap.old) × (log.new ≡ log.old))
-        (λ command. CarriesOut heap.old heap.new command
+        ((heap.new ≡ heap.old) × (pacer.new ≡ pacer.old) × (log.new ≡ log.old))
+        (λ command. Advances (driver_of heap.old pacer.old) (driver_of heap.new pacer.new) command
         (kept_by K.taken log.old) (kept_by K.taken log.new)) }
     ensures kept { KeepsOn K.faults K.taken log.old log.new }
 {
     match parse_line(line)? {
         None => Ok(()),
         Some(command) => {
-            execute::<K, Brand>(heap, log, &command, Blank::new(1));
+            pacer.execute(heap, log, &command);
             Ok(())
         }
     }
@@ -99,20 +80,20 @@ fn take_line<K: Sink>(
 fn take_whole_line<K: Sink>(
     heap: &mut Gc,
     log: &mut LogWriter<'_, K>,
+    pacer: &mut Pacer,
     line: &[u8],
 ) -> Result<(), LineFault>
-    requires commands { (view_of_gc heap.old).totals.commands < 2 ^ 64 - 1 }
-    requires births { (view_of_gc heap.old).totals.born < 2 ^ 64 - 1 }
+    requires { IsReady (driver_of heap.old pacer.old) }
     ensures done { DoesLine (line_reading line.now) result
-        ((heap.new ≡ heap.old) × (log.new ≡ log.old))
-        (λ command. CarriesOut heap.old heap.new command
+        ((heap.new ≡ heap.old) × (pacer.new ≡ pacer.old) × (log.new ≡ log.old))
+        (λ command. Advances (driver_of heap.old pacer.old) (driver_of heap.new pacer.new) command
         (kept_by K.taken log.old) (kept_by K.taken log.new)) }
     ensures kept { KeepsOn K.faults K.taken log.old log.new }
 {
     match parse_plain_line(line) {
-        None => take_line(heap, log, line),
+        None => take_line(heap, log, pacer, line),
         Some(command) => {
-            execute::<K, Brand>(heap, log, &command, Blank::new(1));
+            pacer.execute(heap, log, &command);
             Ok(())
         }
     }
@@ -126,18 +107,17 @@ impl Replay {
         log: &mut LogWriter<'_, K>,
         rest: &[u8],
     ) -> Result<(), LineFault>
-        requires commands { (view_of_gc heap.old).totals.commands < 2 ^ 64 - 1 }
-        requires births { (view_of_gc heap.old).totals.born < 2 ^ 64 - 1 }
+        requires { IsReady (driver_of heap.old self.old.pacer) }
         ensures done { DoesLine (line_reading (self.old.cutter ++ rest.now)) result
-            ((heap.new ≡ heap.old) × (log.new ≡ log.old))
-            (λ command. CarriesOut heap.old heap.new command
+            ((heap.new ≡ heap.old) × (self.new.pacer ≡ self.old.pacer) × (log.new ≡ log.old))
+            (λ command. Advances (driver_of heap.old self.old.pacer) (driver_of heap.new self.new.pacer) command
             (kept_by K.taken log.old) (kept_by K.taken log.new)) }
         ensures kept { KeepsOn K.faults K.taken log.old log.new }
         ensures cutter { OnOk result (self.new.cutter ≡ []) }
         ensures lines { self.new.lines ≡ self.old.lines }
     {
         self.cutter.extend(rest)?;
-        let taken = take_line(heap, log, self.cutter.bytes());
+        let taken = take_line(heap, log, &mut self.pacer, self.cutter.bytes());
         self.cutter.clear();
         taken
     }
@@ -159,9 +139,10 @@ impl Replay {
             (Some (record { line = self.new.lines; fault = fault })) heap.new (kept_by K.taken log.new)) }
         ensures kept { KeepsOn K.faults K.taken log.old log.new }
     {
+        a_trace_is_at_most_quadrupled();
         self.lines += 1;
         if self.cutter.is_empty() {
-            return take_whole_line(heap, log, line);
+            return take_whole_line(heap, log, &mut self.pacer, line);
         }
         self.take_joined(heap, log, line)
     }
@@ -174,6 +155,7 @@ impl Replay {
         ensures fits { OnOk result (length self.old.cutter + length bytes.now ≤ 1024) }
         ensures too_long { IfErr result (λ fault. (fault ≡ LineTooLong)
             × (1024 < length self.old.cutter + length bytes.now) × (self.new.lines ≡ self.old.lines + 1)) }
+        ensures pacer { self.new.pacer ≡ self.old.pacer }
     {
         match self.cutter.extend(bytes) {
             Ok(()) => Ok(()),
@@ -222,11 +204,12 @@ impl Replay {
             heap.new (kept_by K.taken log.new)) }
         ensures kept { KeepsOn K.faults K.taken log.old log.new }
     {
+        a_trace_is_at_most_quadrupled();
         if self.cutter.is_empty() {
             return Ok(());
         }
         self.lines += 1;
-        take_line(heap, log, self.cutter.bytes())
+        take_line(heap, log, &mut self.pacer, self.cutter.bytes())
     }
 
     /// Writes what is pending, and then reads once and takes what was read; `room` is how many bytes a trace may still
@@ -370,13 +353,16 @@ impl Replay {
     }
 
     /// A replay of which nothing was read yet.
-    fn make() -> Replay
+    fn make(rate: Option<u32>) -> Replay
+        requires { IfSome rate IsRate }
         ensures cutter { result.cutter ≡ [] }
         ensures lines { result.lines ≡ 0 }
+        ensures pacer { IsFresh rate result.pacer.pace }
     {
         Replay {
             cutter: Cutter::make(),
             lines: 0,
+            pacer: Pacer::make(rate),
         }
     }
 
@@ -391,11 +377,13 @@ impl Replay {
         requires heap { (settings : Settings) × IsNew settings heap.old }
         requires cutter { self.old.cutter ≡ [] }
         requires lines { self.old.lines ≡ 0 }
+        requires pacer { (rate : Option ℕ) × IsFresh rate self.old.pacer.pace }
         requires whole { log.old.broken ≡ false }
         requires pending { log.old.pending.items ≡ [] }
         requires ready { IsReadyFor heap.old.settings.max appendix.old }
-        ensures replayed { (settings : Settings) → IsNew settings heap.old →
-            Replayed result (record { settings = settings; extras = asked_of appendix.old })
+        ensures replayed { (settings : Settings) (rate : Option ℕ) → IsNew settings heap.old
+            → IsFresh rate self.old.pacer.pace →
+            Replayed result (record { settings = settings; extras = asked_of rate appendix.old })
             (record {
               left = S.left source.old;
               left_after = S.left source.new;
@@ -422,7 +410,8 @@ impl Replay {
 fn total<K: Sink>(heap: &Gc, log: &mut LogWriter<'_, K>, appendix: &mut Appendix, end: End)
     requires shows { HasPages (view_of_gc heap.now) }
     requires ready { IsReadyFor heap.now.settings.max appendix.old }
-    ensures totalled { (start : Start) (reach : Reach) (fault : Option FaultAt) → start.extras ≡ asked_of appendix.old →
+    ensures totalled { (start : Start) (reach : Reach) (fault : Option FaultAt) →
+        start.extras ≡ asked_of start.extras.rate appendix.old →
         IsFaultOf end fault → Stopped start (lines_in reach) fault heap.now (kept_by K.taken log.old) →
         Logged end start reach heap.now (kept_by K.taken log.new) }
     ensures kept { KeepsOn K.faults K.taken log.old log.new }
@@ -454,7 +443,8 @@ pub(crate) fn finish_log<K: Sink>(log: &mut LogWriter<'_, K>, end: End) -> End
 fn finish<K: Sink>(heap: &Gc, log: &mut LogWriter<'_, K>, appendix: &mut Appendix, end: End) -> End
     requires shows { HasPages (view_of_gc heap.now) }
     requires ready { IsReadyFor heap.now.settings.max appendix.old }
-    ensures finished { (start : Start) (reach : Reach) (fault : Option FaultAt) → start.extras ≡ asked_of appendix.old →
+    ensures finished { (start : Start) (reach : Reach) (fault : Option FaultAt) →
+        start.extras ≡ asked_of start.extras.rate appendix.old →
         IsFaultOf end fault → Stopped start (lines_in reach) fault heap.now (kept_by K.taken log.old) →
         Logged end start reach heap.now (kept_by K.taken log.new) }
     ensures ends { result ≡ cond log.new.broken End.WriteFailed end }
@@ -473,11 +463,13 @@ pub(crate) fn carry_out<S: Source, K: Sink>(
     source: &mut S,
     out: &mut K,
     appendix: &mut Appendix,
+    rate: Option<u32>,
 ) -> End
     requires heap { (settings : Settings) × IsNew settings heap.old }
     requires ready { IsReadyFor heap.old.settings.max appendix.old }
+    requires rate { IfSome rate IsRate }
     ensures replayed { (settings : Settings) → IsNew settings heap.old →
-        Replayed result (record { settings = settings; extras = asked_of appendix.old })
+        Replayed result (record { settings = settings; extras = asked_of rate appendix.old })
         (record {
           left = S.left source.old;
           left_after = S.left source.new;
@@ -495,6 +487,6 @@ pub(crate) fn carry_out<S: Source, K: Sink>(
     ensures out { K.faults out.old ≤ K.faults out.new }
 {
     let mut log = LogWriter::make(out);
-    let mut replay = Replay::make();
+    let mut replay = Replay::make(rate);
     replay.run(heap, &mut log, source, appendix)
 }

@@ -3,6 +3,7 @@ ghost use Rattle.std.specs.Prelude.{◌≤◌};
 mod failures;
 mod faults;
 mod large;
+mod paced;
 mod pieces;
 mod rows;
 mod text;

@@ -5,8 +5,8 @@ ghost use Rattle.clap.specs.Words.{app_of, found_of, kind_of, matches_of, rows_o
 ghost use Rattle.mm_model.specs.Places.Limits.{IsWithinLimits};
 ghost use Rattle.mmgc.specs.Words.{choice_from, choice_in, choice_taken, extras_of, file_of, generating, reading};
 ghost use Rattle.mmgc.specs.Words.{limits, mmgc_app, option_rule, setting_of, settings_app, settings_of, trace_of};
-ghost use Rattle.mmgc.specs.Words.{values_in, with_option};
-ghost use Rattle.mmgc.specs.Requests.{IsAllowed, asked_by, values_by};
+ghost use Rattle.mmgc.specs.Words.{number_if_given, values_in, with_option};
+ghost use Rattle.mmgc.specs.Requests.{IsAllowed, IsRate, asked_by, values_by};
 
 use crate::extras::Extras;
 use crate::generator::GeneratedTrace;
@@ -24,7 +24,7 @@ pub(crate) struct Request<'a> {
     pub(crate) file: Option<&'a str>,
     /// The trace to carry out in place of one that is read.
     pub(crate) generated: Option<GeneratedTrace>,
-    /// What is to stand behind the log.
+    /// What is to stand behind the log, and whether cycles are paced.
     pub(crate) extras: Extras,
 }
 
@@ -48,6 +48,7 @@ struct Given<'a> {
     generated: Option<&'a str>,
     count: Option<&'a str>,
     why: Option<&'a str>,
+    pace: Option<&'a str>,
     file: Option<&'a str>,
 }
 
@@ -86,6 +87,7 @@ fn command<'a>(alloc: Global) -> Result<Command<'a>, AllocError>
     let command = with(command, alloc, "gen")?;
     let command = with(command, alloc, "count")?;
     let command = with(command, alloc, "why")?;
+    let command = with(command, alloc, "pace")?;
     command.arg(Arg::new(alloc, "FILE"))
 }
 
@@ -102,6 +104,7 @@ impl<'a> Given<'a> {
             generated: matches.get_str("gen"),
             count: matches.get_str("count"),
             why: matches.get_str("why"),
+            pace: matches.get_str("pace"),
             file: matches.get_str("FILE"),
         }
     }
@@ -124,15 +127,15 @@ impl<'a> Given<'a> {
         })
     }
 
-    /// `--gen` and `--count` stand together or not at all, and neither stands beside FILE or `--why`.
+    /// `--gen` and `--count` stand together or not at all, and neither stands beside FILE, `--why` or `--pace`.
     fn request(&self) -> Option<Request<'a>>
         ensures asked { option_map asked_by result ≡ choice_from (values_by self.now) }
         ensures allowed { IfSome result IsAllowed }
     {
         let settings = self.settings()?;
-        match (self.generated, self.count, self.file, self.why) {
-            (None, None, file, why) => replay_request(settings, file, why),
-            (Some(seed), Some(count), None, None) => generated_request(settings, seed, count),
+        match (self.generated, self.count, self.file, self.why, self.pace) {
+            (None, None, file, why, pace) => replay_request(settings, file, why, pace),
+            (Some(seed), Some(count), None, None, None) => generated_request(settings, seed, count),
             _ => None,
         }
     }
@@ -164,13 +167,14 @@ fn replay_request<'a>(
     settings: Settings,
     file: Option<&'a str>,
     why: Option<&str>,
+    pace: Option<&str>,
 ) -> Option<Request<'a>>
     requires { IsWithinLimits settings }
     ensures asked { option_map asked_by result ≡ reading settings (option_map (λ name. name.now) file.entry)
-        (extras_of (option_map (λ text. text.now) why.entry)) }
+        (extras_of (option_map (λ text. text.now) why.entry) (option_map (λ text. text.now) pace.entry)) }
     ensures allowed { IfSome result IsAllowed }
 {
-    let extras = read_extras(why)?;
+    let extras = read_extras(why, pace)?;
     Some(Request {
         settings,
         file: file_name(file),
@@ -179,15 +183,27 @@ fn replay_request<'a>(
     })
 }
 
-fn read_extras(why: Option<&str>) -> Option<Extras>
-    ensures { result ≡ extras_of (option_map (λ text. text.now) why.entry) }
+fn read_extras(why: Option<&str>, pace: Option<&str>) -> Option<Extras>
+    ensures value { result ≡ extras_of (option_map (λ text. text.now) why.entry)
+        (option_map (λ text. text.now) pace.entry) }
+    ensures rate { IfSome result (λ extras. IfSome extras.rate IsRate) }
 {
-    match why {
+    let why = number_if_given(why, 0, u32::MAX)?;
+    let rate = number_if_given(pace, 1, 1024)?;
+    Some(Extras { why, rate })
+}
+
+/// The number of an option that has no default, where it stands.
+fn number_if_given(text: Option<&str>, least: u32, most: u32) -> Option<Option<u32>>
+    ensures value { result ≡ number_if_given (limits least most 0) (option_map (λ text. text.now) text.entry) }
+    ensures within { IfSome result (λ number. IfSome number (λ n. (least ≤ n) × (n ≤ most))) }
+{
+    match text {
         Some(text) => {
-            let word = number_within(text, 0, u32::MAX)?;
-            Some(Extras { why: Some(word) })
+            let number = number_within(text, least, most)?;
+            Some(Some(number))
         }
-        None => Some(Extras { why: None }),
+        None => Some(None),
     }
 }
 
@@ -202,7 +218,10 @@ fn generated_request<'a>(settings: Settings, seed: &str, count: &str) -> Option<
         settings,
         file: None,
         generated: Some(GeneratedTrace { seed, count }),
-        extras: Extras { why: None },
+        extras: Extras {
+            why: None,
+            rate: None,
+        },
     })
 }
 

@@ -45,11 +45,17 @@ fn check_file<'a>(
 
 #[test]
 fn words_that_cannot_be_read_are_refused(rt: HostRuntime) -> Result<(), Fail> {
-    let refused: [&[&str]; 26] = [
+    let refused: [&[&str]; 32] = [
         &["--count", "2"],
         &["--gen", "2"],
         &["--gen", "1", "--count", "4000001"],
         &["--gen", "1", "--count", "1", "--why", "1"],
+        &["--gen", "1", "--count", "1", "--pace", "1"],
+        &["--pace", "0"],
+        &["--pace", "1025"],
+        &["--pace", "x"],
+        &["--pace", "1", "--pace", "2"],
+        &["--pace"],
         &["--why", "x"],
         &["--why", "1", "--why", "2"],
         &["--gen", "2", "--count", "2", "FILE"],

@@ -4,7 +4,7 @@ use Rattle.mm_model.proofs.Text.Journals.{writes-none, writes-append}
 use Rattle.mmgc.specs.Added.{hop_spelling}
 use Rattle.mmgc.specs.Keeping.{keeps-same, keeps-trans}
 use Rattle.mmgc.specs.Logging.{kept_by}
-use Rattle.mmgc.specs.Replaying.{Grew}
+use Rattle.mmgc.specs.Carrying.{Grew}
 use Rattle.mmgc.proofs.AddedLines.{hops_more}
 use Rattle.mmgc.proofs.answer.write_hops.Goals as goal
 

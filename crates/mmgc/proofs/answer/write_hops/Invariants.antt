@@ -2,7 +2,7 @@ use Rattle.std.proofs.Common.{take}
 use Rattle.std.specs.List.{flat_map}
 use Rattle.mmgc.specs.Added.{hop_spelling}
 use Rattle.mmgc.specs.Logging.{kept_by, KeepsOn}
-use Rattle.mmgc.specs.Replaying.{Grew}
+use Rattle.mmgc.specs.Carrying.{Grew}
 use Rattle.mmgc.proofs.answer.write_hops.Given as goal
 
 -- the hops so far were written

@@ -5,7 +5,7 @@ use Rattle.mmgc.specs.Added.{hop_spelling}
 use Rattle.mmgc.specs.Appending.{numbered}
 use Rattle.mmgc.specs.Keeping.{keeps-trans}
 use Rattle.mmgc.specs.Logging.{kept_by}
-use Rattle.mmgc.specs.Replaying.{Grew}
+use Rattle.mmgc.specs.Carrying.{Grew}
 use Rattle.mmgc.proofs.answer.write_path.Goals as goal
 
 pub returns-clause-written : goal.returns-clause-written

@@ -3,11 +3,12 @@ use Rattle.mm_laws.proofs.Turning.Faithful.{legal_log_is_faithful}
 use Rattle.mm_model.specs.declared.settings.Settings.{Settings}
 use Rattle.mmgc.specs.Appending.{IsReadyFor}
 use Rattle.mmgc.specs.Run.{Replayed, commands_in}
+use Rattle.mmgc.proofs.Pacing.InTime.{in_time}
 use Rattle.mmgc.proofs.program.replay.Goals as goal
 
 pub carry_out-end-requires-clause-heap : goal.carry_out-end-requires-clause-heap
 carry_out-end-requires-clause-heap g c =
-    (c.args.settings, record { limits = c.requires; shows = c.in-Ok.ensures.shows })
+    (c.args.settings, record { limits = c.requires.settings; shows = c.in-Ok.ensures.shows })
 
 pub carry_out-end-requires-clause-ready : goal.carry_out-end-requires-clause-ready
 carry_out-end-requires-clause-ready g c =
@@ -44,7 +45,7 @@ returns-in-Ok-clause-served g c =
       faults_after = g.K.Sink.faults out;
     }) c.carry_out-end.new.heap) c.in-Ok.ensures.asked
     (c.carry_out-end.ensures.replayed c.args.settings
-    (record { limits = c.requires; shows = c.in-Ok.ensures.shows })) in
+    (record { limits = c.requires.settings; shows = c.in-Ok.ensures.shows })) in
     inr (inr (inl (record {
       replays = refl;
       end = c.carry_out-end.result;
@@ -55,6 +56,8 @@ returns-in-Ok-clause-served g c =
       heap_back = refl;
       text = c.tell_end.ensures;
       replayed = replayed;
-      faithful = legal_log_is_faithful c.args.settings (commands_in replayed.reach) replayed.groups replayed.state
-          c.requires.growing replayed.legal;
+      faithful = legal_log_is_faithful c.args.settings replayed.commands replayed.groups replayed.state
+          c.requires.settings.growing replayed.legal;
+      in_time = in_time c.cycles_end_in_time.ensures c.args.extras.rate c.args.settings (commands_in replayed.reach)
+          replayed.groups replayed.commands replayed.state c.requires.settings.growing replayed.carried replayed.legal;
     })))

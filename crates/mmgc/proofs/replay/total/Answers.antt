@@ -1,4 +1,5 @@
 use Rattle.std.proofs.Common.{sym, subst}
+use Rattle.mmgc.specs.declared.extras.Extras.{Extras}
 use Rattle.mmgc.specs.Added.{IsAddedText}
 use Rattle.mmgc.specs.Appending.{Appended}
 use Rattle.mmgc.specs.Keeping.{keeps-trans}
@@ -16,7 +17,7 @@ returns-in-Whole-clause-totalled g c start reach fault same of stopped =
     subst (λ end. Logged end start reach c.args.heap.now
     (kept_by g.K.Sink.taken c.write.new.log)) (sym c.in-Whole.is)
     (logged-whole reach c.totals.result stopped_whole c.totals.ensures c.line.ensures.written
-    (λ a shows. subst (λ extras. Appended (IsAddedText extras a) (kept_by g.K.Sink.taken c.line.new.self)
+    (λ a shows. subst (λ (extras : Extras). Appended (IsAddedText extras a) (kept_by g.K.Sink.taken c.line.new.self)
     (kept_by g.K.Sink.taken c.write.new.log)) (sym same) (c.write.ensures.written a shows)))
 
 pub returns-in-Whole-clause-kept : goal.returns-in-Whole-clause-kept

@@ -12,42 +12,42 @@ use Rattle.mmgc.proofs.replay.Replay.run.Goals as goal
 pub read_all-read-requires : goal.read_all-read-requires
 read_all-read-requires g c =
     let kept = kept_by g.K.Sink.taken c.args.log.now in
-    let extras = asked_of c.args.appendix.now in (
+    let extras = asked_of c.requires.pacer.0 c.args.appendix.now in (
       start_with c.requires.heap.0 extras kept,
       progress-began c.requires.heap.0 extras kept c.requires.cutter c.requires.lines c.requires.whole
-          c.requires.heap.1,
+          c.requires.pacer.1 c.requires.heap.1,
     )
 
 -- the heap shows a state behind what was read, whose settings are those with which it was made
 pub finish-requires-clause-shows : goal.finish-requires-clause-shows
 finish-requires-clause-shows g c =
     let kept = kept_by g.K.Sink.taken c.args.log.now in
-    let extras = asked_of c.args.appendix.now in
+    let extras = asked_of c.requires.pacer.0 c.args.appendix.now in
     let carried = (c.read_all-read.ensures.ended (start_with c.requires.heap.0 extras kept)
-    (progress-began c.requires.heap.0 extras kept c.requires.cutter c.requires.lines c.requires.whole
+    (progress-began c.requires.heap.0 extras kept c.requires.cutter c.requires.lines c.requires.whole c.requires.pacer.1
     c.requires.heap.1)).stopped.carried in
     (carried.state, carried.shows)
 
 pub finish-requires-clause-ready : goal.finish-requires-clause-ready
 finish-requires-clause-ready g c =
     let kept = kept_by g.K.Sink.taken c.args.log.now in
-    let extras = asked_of c.args.appendix.now in
+    let extras = asked_of c.requires.pacer.0 c.args.appendix.now in
     let carried = (c.read_all-read.ensures.ended (start_with c.requires.heap.0 extras kept)
-    (progress-began c.requires.heap.0 extras kept c.requires.cutter c.requires.lines c.requires.whole
+    (progress-began c.requires.heap.0 extras kept c.requires.cutter c.requires.lines c.requires.whole c.requires.pacer.1
     c.requires.heap.1)).stopped.carried in
     subst (λ (s : Settings). IsReadyFor s.max c.args.appendix.now)
     (c.requires.heap.1.shows.settings ∙ sym (carried.shows.settings ∙ carried.settings_stay)) c.requires.ready
 
 pub returns-clause-replayed : goal.returns-clause-replayed
-returns-clause-replayed g c settings shows =
+returns-clause-replayed g c settings rate shows fresh =
     let taken = g.K.Sink.taken in
     let faults = g.K.Sink.faults in
     let first = c.args.log.now in
     let last = c.finish.new.log in
-    let extras = asked_of c.args.appendix.now in
+    let extras = asked_of rate c.args.appendix.now in
     let start = start_with settings extras (kept_by taken first) in
     let ended = c.read_all-read.ensures.ended start
-    (progress-began settings extras (kept_by taken first) c.requires.cutter c.requires.lines c.requires.whole
+    (progress-began settings extras (kept_by taken first) c.requires.cutter c.requires.lines c.requires.whole fresh
     shows) in
     let kept = keeps-trans c.read_all-read.ensures.kept c.finish.ensures.kept in
     let logged = c.finish.ensures.finished start ended.reach ended.fault refl ended.fault_is ended.stopped in

@@ -1,23 +1,18 @@
 use Rattle.std.proofs.Common.{◌≡◌, ◌+◌, ◌++◌, eqb-true, refl, sym, ap, ◌∙◌, arith}
 use Rattle.std.proofs.lemmas.List.{nil_from_length}
 use Rattle.mmgc.specs.Logging.{kept_by}
-use Rattle.mmgc.proofs.Replays.{has_room, goes-on-line, on_ok_always}
+use Rattle.mmgc.proofs.Replays.{has_room, goes-on-line, on_ok_always, unmoved}
 use Rattle.mmgc.proofs.replay.Replay.take_ended.Goals as goal
 
 pub overflow_add-self : goal.overflow_add-self
-overflow_add-self g c = let room = has_room c.requires.room in omega (arith, room.lines)
+overflow_add-self g c =
+    let room = has_room c.a_trace_is_at_most_quadrupled.ensures c.requires.room in omega (arith, room.lines)
 
-pub take_whole_line-requires-clause-commands : goal.take_whole_line-requires-clause-commands
-take_whole_line-requires-clause-commands g c = let room = has_room c.requires.room in omega (arith, room.commands)
+pub take_whole_line-requires : goal.take_whole_line-requires
+take_whole_line-requires g c = (has_room c.a_trace_is_at_most_quadrupled.ensures c.requires.room).ready
 
-pub take_whole_line-requires-clause-births : goal.take_whole_line-requires-clause-births
-take_whole_line-requires-clause-births g c = let room = has_room c.requires.room in omega (arith, room.births)
-
-pub take_joined-requires-clause-commands : goal.take_joined-requires-clause-commands
-take_joined-requires-clause-commands g c = let room = has_room c.requires.room in omega (arith, room.commands)
-
-pub take_joined-requires-clause-births : goal.take_joined-requires-clause-births
-take_joined-requires-clause-births g c = let room = has_room c.requires.room in omega (arith, room.births)
+pub take_joined-requires : goal.take_joined-requires
+take_joined-requires g c = (has_room c.a_trace_is_at_most_quadrupled.ensures c.requires.room).ready
 
 -- nothing was held, so the line is whole
 pub returns-then-is_empty-clause-progress : goal.returns-then-is_empty-clause-progress
@@ -25,13 +20,13 @@ returns-then-is_empty-clause-progress g c start bytes room p =
     let none = nil_from_length c.args.self.now.cutter (eqb-true _ _ (sym c.is_empty.ensures ∙ c.if-is_empty.true)) in
     let whole : c.args.line.now ≡ c.args.self.now.cutter ++ c.args.line.now =
     ap (λ held. held ++ c.args.line.now) (sym none) in
-    goes-on-line (λ same. (same.0, ap (kept_by g.K.Sink.taken) same.1)) p c.take_whole_line.result
+    goes-on-line (λ same. (unmoved same.0 same.1, ap (kept_by g.K.Sink.taken) same.2)) p c.take_whole_line.result
     c.args.line.now c.args.self.now.cutter (c.args.self.now.lines + 1) c.requires.within
     (on_ok_always c.take_whole_line.result none) refl (rw whole at c.take_whole_line.ensures.done)
 
 pub returns-clause-progress : goal.returns-clause-progress
 returns-clause-progress g c start bytes room p =
     let did = c.take_joined.ensures in
-    goes-on-line (λ same. (same.0, ap (kept_by g.K.Sink.taken) same.1)) p c.take_joined.result
+    goes-on-line (λ same. (unmoved same.0 same.1, ap (kept_by g.K.Sink.taken) same.2)) p c.take_joined.result
     c.args.line.now c.take_joined.new.self.cutter c.take_joined.new.self.lines c.requires.within
     did.cutter did.lines did.done

@@ -1,8 +1,8 @@
-use Rattle.std.proofs.Common.{[], ◌∷◌, ◌++◌, ◌+◌, Some, take, drop, refl, append-nil, sym, subst}
+use Rattle.std.proofs.Common.{[], ◌∷◌, ◌++◌, ◌+◌, Some, take, drop, refl, append-nil, ap, sym, subst}
 use Rattle.std.proofs.lemmas.Result.{err_from_is_err_and}
 use Rattle.mm_model.specs.Logs.Trace.{complete_lines}
 use Rattle.mmgc.specs.Keeping.{keeps-same, keeps-trans}
-use Rattle.mmgc.specs.Logging.{kept_by, moment_of}
+use Rattle.mmgc.specs.Logging.{driver_of, kept_by, moment_of}
 use Rattle.mmgc.specs.Replaying.{Progress, Stopped}
 use Rattle.mmgc.proofs.Replays.{line_room, held_room, piece_here, piece_next, front_next, goes-on-held}
 use Rattle.mmgc.proofs.replay.Replay.take_piece.Goals as goal
@@ -81,5 +81,5 @@ returns-clause-progress g c start bytes room p =
     let before = c.loop-end.invariant in
     let did = c.hold.ensures in
     goes-on-held bytes before.front c.loop-end.rest.now c.args.piece.now before.here
-    c.hold.new.self.cutter c.hold.new.self.lines c.hold.result (before.progress start bytes room p)
-    c.in_default.ensures did.held did.fits did.too_long
+    c.hold.new.self.cutter c.hold.new.self.lines (driver_of c.loop-end.heap c.hold.new.self.pacer) c.hold.result
+    (before.progress start bytes room p) c.in_default.ensures (ap (driver_of c.loop-end.heap) did.pacer) did.held did.fits did.too_long

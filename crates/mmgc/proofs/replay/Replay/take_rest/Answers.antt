@@ -3,7 +3,7 @@ use Rattle.std.proofs.lemmas.Bool.Decides.{nat_tests}
 use Rattle.std.proofs.lemmas.List.{nil_from_length}
 use Rattle.std.specs.Prelude.{◌==◌}
 use Rattle.mmgc.specs.Logging.{kept_by}
-use Rattle.mmgc.proofs.Replays.{has_room-held, goes-to-end, stopped-none}
+use Rattle.mmgc.proofs.Replays.{has_room-held, goes-to-end, stopped-none, unmoved}
 use Rattle.mmgc.proofs.replay.Replay.take_rest.Goals as goal
 
 some_held : (held : List ℕ) → (length held == 0) ≡ false → 0 < length held
@@ -18,20 +18,15 @@ returns-then-is_empty-clause-stopped g c start bytes room p =
 pub overflow_add-self : goal.overflow_add-self
 overflow_add-self g c =
     let some = some_held c.args.self.now.cutter (sym c.is_empty.ensures ∙ c.if-is_empty.false) in
-    let room = has_room-held c.requires some in omega (arith, room.lines)
+    let room = has_room-held c.a_trace_is_at_most_quadrupled.ensures c.requires some in omega (arith, room.lines)
 
-pub take_line-requires-clause-commands : goal.take_line-requires-clause-commands
-take_line-requires-clause-commands g c =
+pub take_line-requires : goal.take_line-requires
+take_line-requires g c =
     let some = some_held c.args.self.now.cutter (sym c.is_empty.ensures ∙ c.if-is_empty.false) in
-    let room = has_room-held c.requires some in omega (arith, room.commands)
-
-pub take_line-requires-clause-births : goal.take_line-requires-clause-births
-take_line-requires-clause-births g c =
-    let some = some_held c.args.self.now.cutter (sym c.is_empty.ensures ∙ c.if-is_empty.false) in
-    let room = has_room-held c.requires some in omega (arith, room.births)
+    (has_room-held c.a_trace_is_at_most_quadrupled.ensures c.requires some).ready
 
 pub returns-clause-stopped : goal.returns-clause-stopped
 returns-clause-stopped g c start bytes room p =
     let some = some_held c.args.self.now.cutter (sym c.is_empty.ensures ∙ c.if-is_empty.false) in
-    goes-to-end (λ same. (same.0, ap (kept_by g.K.Sink.taken) same.1))
+    goes-to-end (λ same. (unmoved same.0 same.1, ap (kept_by g.K.Sink.taken) same.2))
     p c.take_line.result some (c.args.self.now.lines + 1) refl (rw c.bytes.ensures.value at c.take_line.ensures.done)

@@ -15,4 +15,5 @@ returns c =
     (c.get_str-6.ensures ∙ first_value-rows (found_of c.args.matches.now) (codes "gen"))
     (c.get_str-7.ensures ∙ first_value-rows (found_of c.args.matches.now) (codes "count"))
     (c.get_str-8.ensures ∙ first_value-rows (found_of c.args.matches.now) (codes "why"))
-    (c.get_str-9.ensures ∙ first_value-rows (found_of c.args.matches.now) (codes "FILE"))
+    (c.get_str-9.ensures ∙ first_value-rows (found_of c.args.matches.now) (codes "pace"))
+    (c.get_str-10.ensures ∙ first_value-rows (found_of c.args.matches.now) (codes "FILE"))

@@ -1,6 +1,6 @@
-use Rattle.mmgc.proofs.Replays.{carries_out}
 use Rattle.mmgc.specs.Keeping.{keeps-trans}
-use Rattle.mmgc.proofs.replay.execute.Goals as goal
+use Rattle.mmgc.proofs.Carrying.{carries_out}
+use Rattle.mmgc.proofs.execute.execute.Goals as goal
 
 pub returns-clause-carried : goal.returns-clause-carried
 returns-clause-carried g c = carries_out c.execute-reply.ensures.step c.line.ensures.written
