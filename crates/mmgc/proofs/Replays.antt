@@ -285,7 +285,8 @@ module _ {start : Start} {bytes : List ℕ} {now : Moment} {driver : Driver} {ke
   AtEnd = Stopped start (lines_of bytes) None driver.heap kept
 
   abbrev FaultAtEnd : ℕ → LineFault → Type 0
-  FaultAtEnd lines fault = Stopped start (lines_of bytes) (Some (record { line = lines; fault = fault })) driver.heap kept
+  FaultAtEnd lines fault =
+      Stopped start (lines_of bytes) (Some (record { line = lines; fault = fault })) driver.heap kept
 
   rest_read : 0 < length now.held → (reading : Result (Option Command) LineFault) →
       line_reading now.held ≡ reading → Did reading → GoesOn result AtEnd (FaultAtEnd (now.lines + 1))
@@ -370,7 +371,9 @@ module _ (bytes front rest piece : List ℕ) (here : front ++ rest ≡ piece) wh
   goes-on-held {start} {now} held lines driver (Err fault) p clean same is fits long =
       subst (λ (d : Driver). Stopped start (complete_lines (bytes ++ piece))
       (Some (record { line = lines; fault = fault })) d.heap now.kept) (sym same)
-      (subst (λ xs. Stopped start (complete_lines xs) (Some (record { line = lines; fault = fault })) now.driver.heap now.kept)
+      (subst
+      (λ xs. Stopped start (complete_lines xs) (Some (record { line = lines; fault = fault })) now.driver.heap
+      now.kept)
       behind
       (subst (λ f. Stopped start (complete_lines ((bytes ++ front) ++ rest)) (Some (record { line = lines; fault = f }))
       now.driver.heap now.kept) (sym long.0)

@@ -47,8 +47,8 @@ task_since start = record { settings = start.settings; extras = start.extras }
 abbrev pub GrewSince : Start → Kept → List ℕ → Type 0
 GrewSince start kept bytes = Writes start.kept false kept.bytes kept.broken bytes
 
--- a replay at one moment: its heap and what paces it, the piece of a line that it holds, the lines that it read, and its
--- journal
+-- a replay at one moment: its heap and what paces it, the piece of a line that it holds, the lines that it read, and
+-- its journal
 pub record Moment : Type 0 where
   pub driver : Driver
   pub held : List ℕ

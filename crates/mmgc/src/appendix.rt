@@ -63,7 +63,8 @@ impl Appendix {
     pub(crate) fn write<K: Sink>(&mut self, log: &mut LogWriter<'_, K>, heap: &Gc)
         requires shows { HasPages (view_of_gc heap.now) }
         requires ready { IsReadyFor heap.now.settings.max self.old }
-        ensures written { (a : State) → Shows (view_of_gc heap.now) a → Appended (IsAddedText (asked_of None self.old) a)
+        ensures written { (a : State) → Shows (view_of_gc heap.now) a →
+            Appended (IsAddedText (asked_of None self.old) a)
             (kept_by K.taken log.old) (kept_by K.taken log.new) }
         ensures kept { KeepsOn K.faults K.taken log.old log.new }
     {

@@ -1,5 +1,6 @@
 -- Turns that a pacer drives, one after another.
-use Rattle.std.proofs.Common.{◌≡◌, ℕ, ◌+◌, ◌-◌, ◌*◌, ◌/◌, ◌^◌, ◌<◌, ◌≤◌, Bool, true, false, cond, List, [], ◌∷◌, ◌++◌, length}
+use Rattle.std.proofs.Common.{◌≡◌, ℕ, ◌+◌, ◌-◌, ◌*◌, ◌/◌, ◌^◌, ◌<◌, ◌≤◌, Bool, true, false, cond, List, [], ◌∷◌, ◌++◌}
+use Rattle.std.proofs.Common.{length}
 use Rattle.std.proofs.Common.{Option, Some, None, IsTrue, refl, sym, ap, ◌∙◌, subst, arith, append-nil, append_assoc}
 use Rattle.std.proofs.Common.{length-append}
 use Rattle.std.proofs.lemmas.List.{length_push, length-map}
@@ -29,7 +30,8 @@ use Rattle.mm_gc.specs.Gc.{Gc, totals_in, view_of_gc}
 use Rattle.mm_gc.specs.Rows.{Kept, IsStepOf}
 use Rattle.mm_pace.specs.declared.pace.Pace.{Pace}
 use Rattle.mm_pace.specs.Recent.{extent_born, since, work_begun}
-use Rattle.mm_pace.specs.Rules.{Rule, command_if, due_begin, due_finish, due_step, rules_at, runs_after, step_for, work_after}
+use Rattle.mm_pace.specs.Rules.{Rule, command_if, due_begin, due_finish, due_step, rules_at, runs_after, step_for}
+use Rattle.mm_pace.specs.Rules.{work_after}
 use Rattle.mm_pace.specs.Work.{is_running, work_of}
 use Rattle.mm_pace.specs.Paced.{commands_in, list_of}
 use Rattle.mmgc.specs.Carrying.{CarriesOut, Grew}

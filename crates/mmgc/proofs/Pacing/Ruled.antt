@@ -82,7 +82,8 @@ works-count a = split (λ object. length (scanned_slots object)) (live_objects a
 -- a test that tells whether one number is at most another
 pub test-le : (b : Bool) (m n : ℕ) → (IsTrue b ↔ (m ≤ n)) → b ≡ nat_le m n
 test-le true m n is = let less = is.0 refl in let yes : nat_le m n ≡ true = grind (arith, nat_tests) in sym yes
-test-le false m n is = sym (refuted (nat_le m n) (λ e. let less : m ≤ n = grind (arith, nat_tests) in clash (is.1 less)))
+test-le false m n is =
+    sym (refuted (nat_le m n) (λ e. let less : m ≤ n = grind (arith, nat_tests) in clash (is.1 less)))
   where
     clash : false ≡ true → ⊥
     clash e = cc

@@ -18,7 +18,8 @@ fn check_paced(
     check(rt, alloc, &given, 0, log.as_bytes(), b"")
 }
 
-// The second object owes 1024 * 32 / 16 steps, and the two objects are all the work, which takes no more than two bytes.
+// The second object owes 1024 * 32 / 16 steps, and the two objects are all the work, which takes no more than two
+// bytes.
 #[test]
 fn a_birth_drives_a_cycle_to_its_end(rt: HostRuntime) -> Result<(), Fail> {
     check_paced(

@@ -28,7 +28,8 @@ returns-clause-applied g c settings turns turn d =
     (left_of g.K.Sink.taken c.finish_in_time.new.pace
     c.finish_in_time.new.heap c.step_for_birth.new.log c.finish_in_time.new.log)) c.step_for_birth.ensures.rate
     (c.finish_in_time.ensures.applied settings ((turns ++ turn ∷ []) ++ one.added) one.driven) in
-    let three = c.begin_in_time.ensures.applied settings (((turns ++ turn ∷ []) ++ one.added) ++ two.added) two.driven in
+    let three = c.begin_in_time.ensures.applied settings
+    (((turns ++ turn ∷ []) ++ one.added) ++ two.added) two.driven in
     all-next one refl (all-next two refl (all-next three refl (all-none three.driven)))
 
 pub returns-clause-kept : goal.returns-clause-kept

@@ -18,9 +18,13 @@ returns-clause-driven g c settings turns d =
     let step = next_step d done in
     let counts = counts-more
     (record { runs = c.begin_begins_a_cycle.ensures.runs; reply = c.begin_begins_a_cycle.ensures.reply })
-    (record { since = c.bytes_and_work_are_counted_on.ensures.since; work = c.bytes_and_work_are_counted_on.ensures.work })
+    (record {
+      since = c.bytes_and_work_are_counted_on.ensures.since;
+      work = c.bytes_and_work_are_counted_on.ensures.work;
+    })
     turns turn step.step c.args.pace.now c.note.new.pace c.work_to_begin-work.result c.bytes_born.result d.counts
-    (subst₂ (λ ran runs. IsNoted ran runs c.work_to_begin-work.result c.bytes_born.result c.args.pace.now c.note.new.pace)
+    (subst₂
+    (λ ran runs. IsNoted ran runs c.work_to_begin-work.result c.bytes_born.result c.args.pace.now c.note.new.pace)
     (c.running-ran.ensures ∙ running-shown c.args.heap.now state d.carried.shows)
     (c.running.ensures ∙ running-shown c.execute-reply.new.heap turn.after step.shows) c.note.ensures)
     (λ is idle. c.work_to_begin-work.ensures state d.carried.good d.carried.shows is idle)

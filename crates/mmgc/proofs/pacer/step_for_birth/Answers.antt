@@ -1,5 +1,6 @@
 use Rattle.std.proofs.Common.{Some, None, [], ◌∷◌, ◌++◌, refl, sym, ◌∙◌}
-use Rattle.mmgc.proofs.Pacing.Driven.{applies-none, applies-one, can_drive-paid, driven-paid, no_step-idle, running-shown}
+use Rattle.mmgc.proofs.Pacing.Driven.{applies-none, applies-one, can_drive-paid, driven-paid, no_step-idle}
+use Rattle.mmgc.proofs.Pacing.Driven.{running-shown}
 use Rattle.mmgc.proofs.Pacing.Driven.{step-due, unpaid-idle}
 use Rattle.mmgc.proofs.pacer.step_for_birth.Goals as goal
 
@@ -22,7 +23,8 @@ returns-in-Some-clause-applied g c settings turns turn d =
     ∙ c.if-not-running.false in
     let asked = c.in-Some.ensures in
     applies-one (step-due turns turn d (Some c.in-Some.k) runs asked.none asked.size) (λ a base. refl)
-    (c.carry_out.ensures.driven settings (turns ++ turn ∷ []) (driven-paid c.step_size.new.self d asked.since asked.work asked.last))
+    (c.carry_out.ensures.driven settings (turns ++ turn ∷ [])
+    (driven-paid c.step_size.new.self d asked.since asked.work asked.last))
 
 pub returns-in-None-clause-applied : goal.returns-in-None-clause-applied
 returns-in-None-clause-applied g c settings turns turn d =

@@ -82,4 +82,6 @@ returns-clause-progress g c start bytes room p =
     let did = c.hold.ensures in
     goes-on-held bytes before.front c.loop-end.rest.now c.args.piece.now before.here
     c.hold.new.self.cutter c.hold.new.self.lines (driver_of c.loop-end.heap c.hold.new.self.pacer) c.hold.result
-    (before.progress start bytes room p) c.in_default.ensures (ap (driver_of c.loop-end.heap) did.pacer) did.held did.fits did.too_long
+    (before.progress start bytes room p)
+    c.in_default.ensures (ap (driver_of c.loop-end.heap) did.pacer) did.held did.fits
+    did.too_long
