@@ -42,7 +42,7 @@ impl<'a, J: Journal> Journal for Sited<'a, J> {
 
     fn free(&mut self, base: u32) {
         self.journal.free(base);
-        let _entered = self.sites.freed(base);
+        let _ = self.sites.freed(base);
     }
 
     fn scan(&mut self, base: u32, slots: u32) {
