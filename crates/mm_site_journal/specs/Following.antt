@@ -49,10 +49,10 @@ follows-trans {e1 = e1} first next =
             was_whole = sooner.was_whole;
             told = sooner.told;
             grew = later.grew ∙ ap (λ (xs : List ℕ). xs ++ spelling_of later.log) sooner.grew
-            ∙ append_assoc sooner.bytes (spelling_of sooner.log) (spelling_of later.log)
-            ∙ ap (λ (xs : List ℕ). sooner.bytes ++ xs) (sym (flat_map-append spelling sooner.log later.log));
+                ∙ append_assoc sooner.bytes (spelling_of sooner.log) (spelling_of later.log)
+                ∙ ap (λ (xs : List ℕ). sooner.bytes ++ xs) (sym (flat_map-append spelling sooner.log later.log));
             entries = later.entries ∙ ap (λ (es : EntriesByBase). without es (freed_bases later.log)) sooner.entries
-            ∙ sym (fold-append without_one e1 (freed_bases sooner.log) (freed_bases later.log))
-            ∙ ap (without e1) (sym (freed-append sooner.log later.log));
+                ∙ sym (fold-append without_one e1 (freed_bases sooner.log) (freed_bases later.log))
+                ∙ ap (without e1) (sym (freed-append sooner.log later.log));
           };
     }

@@ -27,8 +27,12 @@ impl<'a, J: Journal> Finalizer for Sited<'a, J> {
 
     ghost keeps_itself = { λ s. (refl, refl, J.keeps_itself s.journal.now, follows-same) };
 
-    ghost keeps_on = { λ s t u first next. (next.0 ∙ first.0, next.1 ∙ first.1,
-        J.keeps_on s.journal.now t.journal.now u.journal.now first.2 next.2, follows-trans first.3 next.3) };
+    ghost keeps_on = { λ s t u first next. (
+      next.0 ∙ first.0,
+      next.1 ∙ first.1,
+      J.keeps_on s.journal.now t.journal.now u.journal.now first.2 next.2,
+      follows-trans first.3 next.3,
+    ) };
 
     fn finalize(&mut self, base: u32, slots: &[u32]) {
         self.journal.finalize(base, slots);

@@ -11,5 +11,6 @@ returns-clause-kept g c = (
   refl,
   c.finalize.ensures.kept,
   follows-line
-  (lines.Final c.args.base (length c.args.slots.now) (sum c.args.slots.now % 2 ^ 32)) c.finalize.ensures.written refl refl,
+      (lines.Final c.args.base (length c.args.slots.now) (sum c.args.slots.now % 2 ^ 32))
+      c.finalize.ensures.written refl refl,
 )
