@@ -4,4 +4,5 @@ pub mod Entered
 pub mod Kept
 pub mod Living
 pub mod Parallel
+pub mod Texts
 pub mod Totals

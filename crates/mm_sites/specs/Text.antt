@@ -13,9 +13,13 @@ site_text site total =
     if total.objects == 0 then []
     else sentence (codes "site" ∷ decimal site ∷ decimal total.objects ∷ decimal total.bytes ∷ [])
 
+-- the lines of the sites below a number, ascending
+abbrev pub texts_below : (ℕ → SiteTotal) → ℕ → List ℕ
+texts_below total_at count = flat_map (λ site. site_text site (total_at site)) (range_with_len 0 count)
+
 -- the lines of all sites by ascending number
 abbrev pub sites_text : (ℕ → SiteTotal) → List ℕ
-sites_text total_at = flat_map (λ site. site_text site (total_at site)) (range_with_len 0 most_sites)
+sites_text total_at = texts_below total_at most_sites
 
 -- what is added to a log that leaves this state, where the objects' sites are given by birth number
 abbrev pub text_of_sites : State → List ℕ → List ℕ

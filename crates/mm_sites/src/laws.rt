@@ -1,5 +1,5 @@
 // Laws of the sites of commands and births, and of what is entered.
-ghost use Rattle.std.specs.Prelude.{◌≡◌, ℕ, List, length, Ok, Some, None};
+ghost use Rattle.std.specs.Prelude.{◌≡◌, ℕ, ◌+◌, ◌++◌, List, [], length, Ok, Some, None};
 ghost use Rattle.mm_model.specs.Good.{IsGood};
 ghost use Rattle.mm_model.specs.State.{State};
 ghost use Rattle.mm_model.specs.Logs.Trace.{line_reading, reading_from, trace_reading};
@@ -8,6 +8,8 @@ ghost use Rattle.mm_sites.specs.Births.{birth_sites, total_in};
 ghost use Rattle.mm_sites.specs.Entries.{EntriesByBase, total_of};
 ghost use Rattle.mm_sites.specs.Lines.{site_line, sites_of_lines, sites_of_trace};
 ghost use Rattle.mm_sites.specs.Living.{AreEntered};
+ghost use Rattle.mm_sites.specs.Text.{site_text, sites_text, texts_below};
+ghost use Rattle.mm_sites.specs.declared.site_total.SiteTotal.{SiteTotal};
 
 /// A line that names a site is passed over, as each line that begins with the number sign and isn't too long.
 pub fn lines_of_sites_are_passed_over()
@@ -33,4 +35,12 @@ pub fn totals_are_those_of_the_living()
     ensures { (a : State) (sites : List ℕ) (entries : EntriesByBase) (site : ℕ) → IsGood a
         → length sites ≡ length a.objects → AreEntered a sites entries
         → total_of entries site ≡ total_in a sites site }
+{}
+
+/// The text of all sites is that of site after site.
+pub fn texts_come_one_after_another()
+    ensures none { (total_at : ℕ → SiteTotal) → texts_below total_at 0 ≡ [] }
+    ensures one_more { (total_at : ℕ → SiteTotal) (site : ℕ)
+        → texts_below total_at (site + 1) ≡ texts_below total_at site ++ site_text site (total_at site) }
+    ensures all { (total_at : ℕ → SiteTotal) → sites_text total_at ≡ texts_below total_at 4096 }
 {}
