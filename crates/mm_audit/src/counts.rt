@@ -68,7 +68,8 @@ impl Counts {
     /// A counted object was born at a base: no place holds it.
     pub fn born(&mut self, base: u32)
         requires inside { base < 16 * length self.old }
-        ensures { self.new ≡ with_entry base (Some (counts.Exact 0)) self.old }
+        ensures entry { self.new ≡ with_entry base (Some (counts.Exact 0)) self.old }
+        ensures room { length self.new ≡ length self.old }
     {
         self.replace(base, Some(Count::Exact(0)));
     }
@@ -76,7 +77,8 @@ impl Counts {
     /// The object at a base was freed.
     pub fn freed(&mut self, base: u32)
         requires inside { base < 16 * length self.old }
-        ensures { self.new ≡ with_entry base None self.old }
+        ensures entry { self.new ≡ with_entry base None self.old }
+        ensures room { length self.new ≡ length self.old }
     {
         self.replace(base, None);
     }
@@ -88,6 +90,7 @@ impl Counts {
         ensures counted { (count : Counted) → Begins self.old base count
             → self.new ≡ with_entry base (Some (one_more count)) self.old }
         ensures other { slice_get self.old (base / 16) ≡ Some None → self.new ≡ self.old }
+        ensures room { length self.new ≡ length self.old }
     {
         match self.get(base) {
             None => {}
@@ -98,8 +101,9 @@ impl Counts {
     /// One counted place less holds a base, which some place holds.
     pub fn lower(&mut self, base: u32)
         requires held { IsHeld self.old base }
-        ensures { (count : Counted) → Begins self.old base count
+        ensures counted { (count : Counted) → Begins self.old base count
             → self.new ≡ with_entry base (Some (one_less count)) self.old }
+        ensures room { length self.new ≡ length self.old }
     {
         match self.get(base) {
             None => unreachable!(),
@@ -110,7 +114,8 @@ impl Counts {
     // Another entry for a base.
     fn replace(&mut self, base: u32, entry: Option<Count>)
         requires inside { base < 16 * length self.old }
-        ensures { self.new ≡ with_entry base entry self.old }
+        ensures entry { self.new ≡ with_entry base entry self.old }
+        ensures room { length self.new ≡ length self.old }
     {
         let grain = (base / GRAIN) as usize;
         let before = self.entries[grain];

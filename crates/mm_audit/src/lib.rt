@@ -7,6 +7,8 @@ mod count;
 mod counts;
 mod laws;
 mod stack;
+#[cfg(test)]
+mod tests;
 
 pub use answer::Answer;
 pub use count::Count;
