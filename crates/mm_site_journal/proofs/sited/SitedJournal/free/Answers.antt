@@ -7,8 +7,8 @@ use Rattle.mm_site_journal.proofs.sited.SitedJournal.free.Goals as goal
 
 pub returns-clause-kept : goal.returns-clause-kept
 returns-clause-kept g c =
-    let freed = c.freed-entered.ensures in
-    let taken = freed-taken c.freed-entered.result c.args.self.now.sites.now c.freed-entered.new.self c.args.base
+    let freed = c.freed.ensures in
+    let taken = freed-taken c.freed.result c.args.self.now.sites.now c.freed.new.self c.args.base
     freed.found freed.removed freed.same in (
       refl,
       refl,
