@@ -13,8 +13,7 @@ use Rattle.mm_why.specs.declared.hop.Hop.{Hop}
 use Rattle.mm_why.specs.Path.{Shown, shown_in, FallsIn, IsPath, HasNoPath}
 use Rattle.mmgc.specs.declared.extras.Extras.{Extras}
 
--- what a replay is asked for: the settings of its heap, and what is to stand behind its log and whether cycles are
--- paced
+-- what a replay is asked for: the settings of its heap, what is to stand behind its log, and whether cycles are paced
 pub record Task : Type 0 where
   pub settings : Settings
   pub extras : Extras

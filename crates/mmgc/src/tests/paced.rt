@@ -18,8 +18,7 @@ fn check_paced(
     check(rt, alloc, &given, 0, log.as_bytes(), b"")
 }
 
-// The second object owes 1024 * 32 / 16 steps, and the two objects are all the work, which takes no more than two
-// bytes.
+// The second birth asks for a step, and the bytes of it, times the rate, are far past 16 times the cycle's work.
 #[test]
 fn a_birth_drives_a_cycle_to_its_end(rt: HostRuntime) -> Result<(), Fail> {
     check_paced(
