@@ -1,6 +1,6 @@
 // What paces the cycles of a replay.
 ghost use Rattle.std.specs.Prelude.{◌≡◌, ℕ, ◌+◌, ◌∷◌, ◌++◌, [], ◌==◌, if◌then◌else◌, not, IsTrue, IfSome, List, Some};
-ghost use Rattle.std.specs.Prelude.{None, ◌≤◌, ◌*◌, ◌&&◌, false, nat_le, nat_lt};
+ghost use Rattle.std.specs.Prelude.{None, ◌≤◌, ◌*◌, ◌&&◌, false, IsSome, MatchBool, nat_le, nat_lt};
 ghost use Rattle.std.specs.List.{sum_by};
 ghost use Rattle.mm_gc.specs.Gc.{totals_in, view_of_gc};
 ghost use Rattle.mm_model.specs.declared.command.Command.TheVariants as commands;
@@ -240,6 +240,31 @@ impl Pacer {
             },
             None => Pacer { pace: None },
         }
+    }
+
+    /// Whether cycles are paced.
+    #[inline(always)]
+    pub(crate) fn paces(&self) -> bool
+        ensures { MatchBool result (IsSome self.now.pace) (self.now.pace ≡ None) }
+    {
+        self.pace.is_some()
+    }
+
+    /// Carries out a command of the trace where cycles aren't paced.
+    #[inline(always)]
+    pub(crate) fn execute_alone<K: Sink>(
+        &self,
+        heap: &mut Gc,
+        log: &mut LogWriter<'_, K>,
+        command: &Command,
+    )
+        requires ready { IsReady (driver_of heap.old self.now) }
+        requires alone { self.now.pace ≡ None }
+        ensures advanced { Advances (driver_of heap.old self.now) (driver_of heap.new self.now) command.now
+            (kept_by K.taken log.old) (kept_by K.taken log.new) }
+        ensures kept { KeepsOn K.faults K.taken log.old log.new }
+    {
+        let _ = execute::<K, Brand>(heap, log, command, Blank::new(1));
     }
 
     /// Carries out a command of the trace, and where cycles are paced what is added after it.

@@ -76,6 +76,8 @@ fn take_line<K: Sink>(
 }
 
 /// The same for a line that lies whole in a piece, as most do.
+// Whether cycles are paced is asked before the line is read, and the quick way to read one stands here alone. So where
+// they aren't, what is read of a command leads straight to what carries it out.
 #[inline(always)]
 fn take_whole_line<K: Sink>(
     heap: &mut Gc,
@@ -90,10 +92,13 @@ fn take_whole_line<K: Sink>(
         (kept_by K.taken log.old) (kept_by K.taken log.new)) }
     ensures kept { KeepsOn K.faults K.taken log.old log.new }
 {
+    if pacer.paces() {
+        return take_line(heap, log, pacer, line);
+    }
     match parse_plain_line(line) {
         None => take_line(heap, log, pacer, line),
         Some(command) => {
-            pacer.execute(heap, log, &command);
+            pacer.execute_alone(heap, log, &command);
             Ok(())
         }
     }
