@@ -1,7 +1,6 @@
 -- A command with its end is a step, and it is counted.
 use Rattle.std.proofs.Common.{◌≡◌, ℕ, ◌+◌, ◌<◌, ◌≤◌, Bool, true, false, List, [], ◌∷◌, ◌++◌, length, refl, sym, ap, ◌∙◌}
 use Rattle.std.proofs.Common.{subst}
-use Rattle.std.proofs.lemmas.Grind.{flat_map-append}
 use Rattle.std.proofs.lemmas.List.{append-nil}
 use Rattle.mm_model.specs.declared.command.Command.{Command}
 use Rattle.mm_model.specs.declared.command.Command.TheVariants as commands
@@ -10,23 +9,23 @@ use Rattle.mm_model.specs.declared.line.Line.TheVariants as lines
 use Rattle.mm_model.specs.declared.reply.Reply.{Reply}
 use Rattle.mm_model.specs.declared.reply.Reply.TheVariants as replies
 use Rattle.mm_model.specs.State.{one_more_command}
-use Rattle.mm_model.specs.Logs.Journal.{Writes}
-use Rattle.mm_model.specs.Logs.Spelling.{spelling, spelling_of}
 use Rattle.mm_model.specs.Views.View.{View, Shows}
 use Rattle.mm_model.specs.Views.ViewWords.{view_zero_count, outside_references}
 use Rattle.mm_model.specs.Views.ViewStep.{IsViewStep, ViewEnds, one_more_counted}
 use Rattle.mm_model.proofs.Good.Around.{carried_out_is_good}
-use Rattle.mm_model.proofs.Text.Journals.{writes-none, writes-append}
 use Rattle.mm_model.proofs.View.Shown.{shown-is, view_of-shows}
+use Rattle.mm_sweep.specs.Told.{Told}
 use Rattle.mm_gc.specs.Ending.{is_refused, EndsUnless, Ends}
 use Rattle.mm_gc.specs.Gc.{Gc, view_of_gc}
 use Rattle.mm_gc.specs.Kept.{KeepsGc}
-use Rattle.mm_gc.specs.Rows.{Kept, Tells, Executes}
+use Rattle.mm_gc.specs.Rows.{Tells, Executes}
 use Rattle.mm_gc.specs.Showing.{IsShowing}
 use Rattle.mm_gc.proofs.Executed.{refused-step, done-step}
 use Rattle.mm_gc.proofs.Makes.Searching.{told-reap}
 use Rattle.mm_gc.proofs.Shown.{step-of}
 use Rattle.mm_gc.proofs.Frees.ZeroCount.{entries_are_zero_count}
+use Rattle.mm_gc.proofs.Telling.Heard.{heard-nothing, heard-on, heard-among}
+use Rattle.mm_gc.proofs.Telling.Words.{end-twins}
 
 -- one more command leaves a good state shown
 counted-shows : (view : View) → IsShowing view → IsShowing (one_more_counted view)
@@ -87,42 +86,45 @@ entries-zero gc keeps =
     entries_are_zero_count gc.table gc.region.heap (outside_references (view_of_gc gc)) keeps.counts.right
     keeps.counts.listed keeps.counts.counted
 
-pub ends-below : (gc : Gc) (refused : Bool) (kept : Kept) → refused ≡ false
-    → view_zero_count (view_of_gc gc) < gc.threshold → Ends gc gc refused kept kept
-ends-below gc refused kept e below =
+pub ends-below : (gc : Gc) (refused : Bool) (heard : List Told → Type 0) → heard [] → refused ≡ false
+    → view_zero_count (view_of_gc gc) < gc.threshold → Ends gc gc refused heard
+ends-below gc refused heard nothing e below =
     record {
       log = [];
       ends = subst (λ b. EndsUnless b [] (view_of_gc gc) (view_of_gc gc)) (sym e)
           (ViewEnds.Below_threshold refl below refl refl);
-      written = writes-none kept.bytes kept.broken;
+      told = heard-nothing heard (view_of_gc gc).objects nothing;
     }
 
-pub ends-reap : (old new : Gc) (refused : Bool) (before after : Kept) → refused ≡ false
-    → old.threshold ≤ view_zero_count (view_of_gc old) → Tells old new commands.Reap replies.Done before after
-    → Ends old new refused before after
-ends-reap old new refused before after e from reap =
+pub ends-reap : (old new : Gc) (refused : Bool) (heard : List Told → Type 0) → refused ≡ false
+    → old.threshold ≤ view_zero_count (view_of_gc old) → Tells old new commands.Reap replies.Done heard
+    → Ends old new refused heard
+ends-reap old new refused heard e from reap =
     record {
       log = reap.log;
       ends = subst (λ b. EndsUnless b reap.log (view_of_gc old) (view_of_gc new)) (sym e)
-          (ViewEnds.At_threshold refl from (told-reap old new before after reap));
-      written = reap.written;
+          (ViewEnds.At_threshold refl from (told-reap old new heard reap));
+      told = reap.told;
     }
 
 -- the row, its end and the count are a step
-pub executes : (old middle ended : Gc) (command : Command) (reply : Reply) (before between after : Kept)
-    → Tells old middle command reply before between → Ends middle ended (is_refused reply) between after
-    → Executes old (counted ended) command reply before after
-executes old middle ended command reply before between after tells ends =
+pub executes : (old middle ended : Gc) (command : Command) (reply : Reply)
+    (first end both : List Told → Type 0)
+    → ((earlier later : List Told) → first earlier → end later → both (earlier ++ later))
+    → Tells old middle command reply first → Ends middle ended (is_refused reply) end
+    → Executes old (counted ended) command reply both
+executes old middle ended command reply first end both on tells ends =
     let step = split (is_refused reply) refl ends.ends in
     record {
       before_reply = tells.log ++ ends.log;
       row = step;
       step = step-of (view_of_gc old) (view_of_gc (counted ended)) command
           ((tells.log ++ ends.log) ++ lines.Reply reply ∷ []) step;
-      written = subst
-          (λ text. Writes before.bytes before.broken after.bytes after.broken text)
-          (sym (flat_map-append spelling tells.log ends.log))
-          (writes-append (spelling_of tells.log) (spelling_of ends.log) tells.written ends.written);
+      told = heard-on first end both on (view_of_gc old).objects tells.log ends.log tells.told
+          (heard-among end (view_of_gc middle).objects (view_of_gc old).objects ends.log
+          (end-twins (view_of_gc old) (view_of_gc middle) (view_of_gc ended) command tells.log reply
+          (is_refused reply) ends.log tells.answers.row ends.ends)
+          ends.told);
     }
   where
     split : (refused : Bool) → is_refused reply ≡ refused
@@ -156,9 +158,11 @@ module _ (gc parts : Gc) (e : parts ≡ gc) (keeps : KeepsGc parts) (len : ℕ) 
         (subst (λ n. parts.threshold ≤ n) (is ∙ entries-zero parts keeps) from)
 
 -- the same of a heap that is told by its parts
-pub executes-of : (old middle ended parts : Gc) (command : Command) (reply : Reply) (before between after : Kept)
-    → parts ≡ ended → Tells old middle command reply before between
-    → Ends middle ended (is_refused reply) between after → Executes old (counted parts) command reply before after
-executes-of old middle ended parts command reply before between after e tells ends =
-    subst (λ (gc : Gc). Executes old (counted gc) command reply before after) (sym e)
-    (executes old middle ended command reply before between after tells ends)
+pub executes-of : (old middle ended parts : Gc) (command : Command) (reply : Reply)
+    (first end both : List Told → Type 0)
+    → ((earlier later : List Told) → first earlier → end later → both (earlier ++ later))
+    → parts ≡ ended → Tells old middle command reply first → Ends middle ended (is_refused reply) end
+    → Executes old (counted parts) command reply both
+executes-of old middle ended parts command reply first end both on e tells ends =
+    subst (λ (gc : Gc). Executes old (counted gc) command reply both) (sym e)
+    (executes old middle ended command reply first end both on tells ends)

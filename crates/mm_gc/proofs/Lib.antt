@@ -15,4 +15,5 @@ pub mod Rows
 pub mod Shown
 pub mod Starting
 pub mod Stat
+pub mod Telling
 pub mod Writing

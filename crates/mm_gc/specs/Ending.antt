@@ -5,8 +5,8 @@ use Rattle.mm_model.specs.declared.reply.Reply.{Reply}
 use Rattle.mm_model.specs.declared.reply.Reply.TheVariants as replies
 use Rattle.mm_model.specs.Views.View.{View}
 use Rattle.mm_model.specs.Views.ViewStep.{ViewEnds}
+use Rattle.mm_sweep.specs.Told.{Told, IsToldOf}
 use Rattle.mm_gc.specs.Gc.{Gc, view_of_gc}
-use Rattle.mm_gc.specs.Rows.{Kept, WritesLines}
 
 -- a reply that refuses
 abbrev pub is_refused : Reply → Bool
@@ -23,7 +23,7 @@ abbrev pub EndsUnless : Bool → List Line → View → View → Type 0
 EndsUnless true log old new = IsLeft log old new
 EndsUnless false log old new = ViewEnds old false log new
 
-pub record Ends (old new : Gc) (refused : Bool) (before after : Kept) : Type 0 where
+pub record Ends (old new : Gc) (refused : Bool) (heard : List Told → Type 0) : Type 0 where
   pub log : List Line
   pub ends : EndsUnless refused log (view_of_gc old) (view_of_gc new)
-  pub written : WritesLines before after log
+  pub told : IsToldOf heard (view_of_gc old).objects log

@@ -11,8 +11,8 @@ use Rattle.mm_model.specs.Refusing.{is_bad_shape, is_bad_area}
 use Rattle.mm_model.specs.Views.ByBase.{Begins}
 use Rattle.mm_model.specs.Views.ObjectView.{ObjectView, names_at}
 use Rattle.mm_object.specs.Object.{StoredObject, StoredObjects}
+use Rattle.mm_sweep.specs.Told.{Told, IsToldOf}
 use Rattle.mm_gc.specs.Gc.{Gc, view_of_gc}
-use Rattle.mm_gc.specs.Rows.{Kept, WritesLines}
 use Rattle.mm_gc.specs.declared.wanted.AreaWanted.{AreaWanted}
 use Rattle.mm_model.specs.declared.object.Shape.{Shape}
 use Rattle.mm_model.specs.declared.reply.Reply.{Reply}
@@ -104,12 +104,13 @@ abbrev pub IsMade : View → Wanted → Reach → View → Option Made → Type 
 IsMade view wanted reach new result =
     effect_of wanted view (place_in_reach reach view wanted) ≡ record { view = new; reply = made_reply result }
 
--- A place was looked for, with these lines, and what is wanted was made there.
-pub record Searches (old new : Gc) (wanted : Wanted) (result : Option Made) (before after : Kept) : Type 0 where
-  pub log : List Line
-  pub makes : ViewMakes (view_of_gc old) (family_of wanted) (bytes_of wanted) (effect_of wanted) log
-      (record { view = view_of_gc new; reply = made_reply result })
-  pub written : WritesLines before after log
+-- A place was looked for, with lines of which the journal heard, and what is wanted was made there.
+pub record Searches (old new : Gc) (wanted : Wanted) (result : Option Made) (heard : List Told → Type 0) : Type 0
+  where
+    pub log : List Line
+    pub makes : ViewMakes (view_of_gc old) (family_of wanted) (bytes_of wanted) (effect_of wanted) log
+        (record { view = view_of_gc new; reply = made_reply result })
+    pub told : IsToldOf heard (view_of_gc old).objects log
 
 -- the command that asks for an area
 abbrev pub area_command : AreaWanted → Command

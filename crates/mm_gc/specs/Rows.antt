@@ -1,5 +1,5 @@
 -- What the calls of a heap promise: each is a row of the model, and `execute` is a step of it.
-use Rattle.std.specs.Prelude.{◌≡◌, ℕ, Bool, List, [], ◌∷◌, ◌++◌, Option}
+use Rattle.std.specs.Prelude.{◌≡◌, List, [], ◌∷◌, ◌++◌}
 use Rattle.mm_model.specs.declared.command.Command.{Command}
 use Rattle.mm_model.specs.declared.reply.Reply.{Reply}
 use Rattle.mm_model.specs.declared.line.Line.{Line}
@@ -12,18 +12,8 @@ use Rattle.mm_model.specs.After.{after}
 use Rattle.mm_model.specs.Logs.Faithful.{IsLawful}
 use Rattle.mm_model.specs.Views.View.{View, Shows}
 use Rattle.mm_model.specs.Views.ViewStep.{IsViewRow, IsViewStep}
-use Rattle.mm_model.specs.Logs.Journal.{Writes}
-use Rattle.mm_model.specs.Logs.Spelling.{spelling_of}
+use Rattle.mm_sweep.specs.Told.{Told, IsToldOf}
 use Rattle.mm_gc.specs.Gc.{Gc, view_of_gc}
-
--- what a journal keeps, where it tells it, and whether it is broken
-pub record Kept : Type 0 where
-  pub bytes : Option (List ℕ)
-  pub broken : Bool
-
--- these lines were written
-abbrev pub WritesLines : Kept → Kept → List Line → Type 0
-WritesLines before after log = Writes before.bytes before.broken after.bytes after.broken (spelling_of log)
 
 -- The command's row holds of a state, refusals included: the answer is its reply, the state that it leaves is good, and
 -- the heap shows it. The number of commands stays.
@@ -43,11 +33,11 @@ pub record IsRowOf (old new : View) (command : Command) (log : List Line) (reply
 abbrev pub Answers : Gc → Gc → Command → Reply → Type 0
 Answers old new command reply = IsRowOf (view_of_gc old) (view_of_gc new) command [] reply
 
--- one that may write some
-pub record Tells (old new : Gc) (command : Command) (reply : Reply) (before after : Kept) : Type 0 where
+-- one that may write some, of which the journal heard
+pub record Tells (old new : Gc) (command : Command) (reply : Reply) (heard : List Told → Type 0) : Type 0 where
   pub log : List Line
   pub answers : IsRowOf (view_of_gc old) (view_of_gc new) command log reply
-  pub written : WritesLines before after log
+  pub told : IsToldOf heard (view_of_gc old).objects log
 
 -- The lines of a group are a step of a state, which stays good, and the heap shows the state after it. The step keeps
 -- the laws for one step: no phase frees a protected object, a full collection leaves exactly what is reached, the end
@@ -59,11 +49,12 @@ pub record IsStepOf (new : View) (command : Command) (group : List Line) (a : St
   pub good : IsGood (after a command group)
   pub shows : Shows new (after a command group)
 
--- There is one list of lines, whose last is the reply, that is a step of every good state that the heap shows. The
--- lines before the reply go into the journal.
-pub record Executes (old new : Gc) (command : Command) (reply : Reply) (before after : Kept) : Type 0 where
+-- There is one list of lines, whose last is the reply, that is a step of every good state that the heap shows. Of the
+-- lines before the reply the journal heard, and with the line of each finalizer it was given the words that the object
+-- held when the command began.
+pub record Executes (old new : Gc) (command : Command) (reply : Reply) (heard : List Told → Type 0) : Type 0 where
   pub before_reply : List Line
   pub row : IsViewStep (view_of_gc old) command (before_reply ++ lines.Reply reply ∷ []) (view_of_gc new)
   pub step : (a : State) → IsGood a → Shows (view_of_gc old) a
       → IsStepOf (view_of_gc new) command (before_reply ++ lines.Reply reply ∷ []) a
-  pub written : WritesLines before after before_reply
+  pub told : IsToldOf heard (view_of_gc old).objects before_reply

@@ -42,9 +42,7 @@ impl Gc {
         steps: &mut Steps<L>,
     ) -> Result<(), Refusal>
         ensures row { Tells self.old self.new (commands.Step k) (done_reply result)
-            (record { bytes = J.kept journal.old; broken = J.is_broken journal.old })
-            (record { bytes = J.kept journal.new; broken = J.is_broken journal.new }) }
-        ensures kept { J.keeps journal.old journal.new }
+            (J.tells journal.old journal.new) }
         ensures cost { IsStepCost self.old k steps.old steps.new }
     {
         if !self.marker.running() {
@@ -58,9 +56,7 @@ impl Gc {
     fn scan_for<J: Journal, L: Ledger>(&mut self, k: u32, journal: &mut J, steps: &mut Steps<L>)
         requires { self.old.marker.running ≡ true }
         ensures scans { ScansTo (view_of_gc self.old) k (view_of_gc self.new)
-            (record { bytes = J.kept journal.old; broken = J.is_broken journal.old })
-            (record { bytes = J.kept journal.new; broken = J.is_broken journal.new }) }
-        ensures kept { J.keeps journal.old journal.new }
+            (J.tells journal.old journal.new) }
         ensures cost { (stale : ℕ) → HasFewStale (marking_in self.old) stale
             → steps.new ≤ steps.old + 16 * (k + 65) + 8 * stale }
     {
@@ -81,10 +77,8 @@ impl Gc {
     ) -> Option<u32>
         requires { self.old.marker.running ≡ true }
         ensures part { ScanAnswer (view_of_gc self.old) (view_of_gc self.new)
-            (record { bytes = J.kept journal.old; broken = J.is_broken journal.old })
-            (record { bytes = J.kept journal.new; broken = J.is_broken journal.new }) result }
+            (J.tells journal.old journal.new) result }
         ensures runs { self.new.marker.running ≡ true }
-        ensures kept { J.keeps journal.old journal.new }
         ensures cost { (stale : ℕ) → HasFewStale (marking_in self.old) stale
             → IsPaid (marking_in self.new) steps.new (steps.old + 16 * (1 + unwrap_or result 0) + 8 * stale) }
     {

@@ -45,9 +45,7 @@ impl Gc {
         requires commands { self.old.commands < 2 ^ 64 - 1 }
         requires births { self.old.born < 2 ^ 64 - 1 }
         ensures step { Executes self.old self.new command.now result
-            (record { bytes = J.kept journal.old; broken = J.is_broken journal.old })
-            (record { bytes = J.kept journal.new; broken = J.is_broken journal.new }) }
-        ensures kept { J.keeps journal.old journal.new }
+            (J.tells journal.old journal.new) }
     {
         let reply = self.carry_out(command, journal, steps);
         self.end(is_refused(reply), journal, steps);
@@ -59,9 +57,7 @@ impl Gc {
     #[inline]
     fn end<J: Journal, L: Ledger>(&mut self, refused: bool, journal: &mut J, steps: &mut Steps<L>)
         ensures ends { Ends self.old self.new refused
-            (record { bytes = J.kept journal.old; broken = J.is_broken journal.old })
-            (record { bytes = J.kept journal.new; broken = J.is_broken journal.new }) }
-        ensures kept { J.keeps journal.old journal.new }
+            (J.tells journal.old journal.new) }
         ensures commands { self.new.commands ≡ self.old.commands }
     {
         if refused {
@@ -78,9 +74,7 @@ impl Gc {
     #[inline(never)]
     fn reap_at_end<J: Journal, L: Ledger>(&mut self, journal: &mut J, steps: &mut Steps<L>)
         ensures row { Tells self.old self.new commands.Reap replies.Done
-            (record { bytes = J.kept journal.old; broken = J.is_broken journal.old })
-            (record { bytes = J.kept journal.new; broken = J.is_broken journal.new }) }
-        ensures kept { J.keeps journal.old journal.new }
+            (J.tells journal.old journal.new) }
     {
         self.reap(journal, steps)
     }
@@ -95,9 +89,7 @@ impl Gc {
     ) -> Reply
         requires births { self.old.born < 2 ^ 64 - 1 }
         ensures row { Tells self.old self.new command.now result
-            (record { bytes = J.kept journal.old; broken = J.is_broken journal.old })
-            (record { bytes = J.kept journal.new; broken = J.is_broken journal.new }) }
-        ensures kept { J.keeps journal.old journal.new }
+            (J.tells journal.old journal.new) }
         ensures commands { self.new.commands ≡ self.old.commands }
     {
         match *command {

@@ -24,7 +24,7 @@ ghost use Rattle.mm_gc.specs.Gc.{objects_in, areas_in};
 ghost use Rattle.mm_gc.specs.Kept.{IsSettled};
 ghost use Rattle.mm_gc.specs.Counts.{HasCounts};
 ghost use Rattle.mm_gc.specs.Regions.{IsSameRegion};
-ghost use Rattle.mm_gc.specs.Rows.{WritesLines};
+ghost use Rattle.mm_sweep.specs.Told.{IsToldOf};
 ghost use Rattle.mm_gc.specs.Steps.{reap_bound, mark_bound, free_bound};
 
 use crate::region::Region;
@@ -139,11 +139,9 @@ pub(crate) fn free_reapable<J: Journal, L: Ledger>(
         → AreBasesAt (objects_in region.old) (IsReapableAt (objects_in region.old) stack.now.words outside)
         (take result dead.new.words) }
     ensures within { result ≤ length dead.new.words }
-    ensures written { (view : View) → view.objects ≡ objects_in region.old
-        → WritesLines (record { bytes = J.kept journal.old; broken = J.is_broken journal.old })
-        (record { bytes = J.kept journal.new; broken = J.is_broken journal.new })
+    ensures told { (view : View) → view.objects ≡ objects_in region.old
+        → IsToldOf (J.tells journal.old journal.new) view.objects
         (view_phase_lines phases.Reap view (take result dead.new.words)) }
-    ensures kept { J.keeps journal.old journal.new }
     ensures objects { objects_in region.new
         ≡ changed (view_after_release (take result dead.new.words)) (objects_in region.old) }
     ensures counted { (outside : ℕ → ℕ) → HasCounts count.old region.old.heap outside
@@ -177,11 +175,9 @@ pub(crate) fn free_white<J: Journal, L: Ledger>(
     ensures bases { AreBasesAt (objects_in region.old) (IsWhiteAt (objects_in region.old))
         (take result dead.new.words) }
     ensures within { result ≤ length dead.new.words }
-    ensures written { (view : View) → view.objects ≡ objects_in region.old
-        → WritesLines (record { bytes = J.kept journal.old; broken = J.is_broken journal.old })
-        (record { bytes = J.kept journal.new; broken = J.is_broken journal.new })
+    ensures told { (view : View) → view.objects ≡ objects_in region.old
+        → IsToldOf (J.tells journal.old journal.new) view.objects
         (view_phase_lines phases.Collect view (take result dead.new.words)) }
-    ensures kept { J.keeps journal.old journal.new }
     ensures objects { objects_in region.new ≡ changed (view_after_release (take result dead.new.words))
         (changed (with_colour White) (objects_in region.old)) }
     ensures counted { (outside : ℕ → ℕ) → HasCounts count.old region.old.heap outside

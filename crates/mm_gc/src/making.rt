@@ -44,9 +44,7 @@ impl Gc {
     ) -> Result<u32, Refusal>
         requires births { self.old.born < 2 ^ 64 - 1 }
         ensures row { Tells self.old self.new (commands.New shape) (new_reply result)
-            (record { bytes = J.kept journal.old; broken = J.is_broken journal.old })
-            (record { bytes = J.kept journal.new; broken = J.is_broken journal.new }) }
-        ensures kept { J.keeps journal.old journal.new }
+            (J.tells journal.old journal.new) }
     {
         if is_bad_shape(shape) {
             return Err(Refusal::Shape);
@@ -77,9 +75,7 @@ impl Gc {
     ) -> Result<WeakAnswer, Refusal>
         requires births { self.old.born < 2 ^ 64 - 1 }
         ensures row { Tells self.old self.new (commands.Weak i) (weak_reply result)
-            (record { bytes = J.kept journal.old; broken = J.is_broken journal.old })
-            (record { bytes = J.kept journal.new; broken = J.is_broken journal.new }) }
-        ensures kept { J.keeps journal.old journal.new }
+            (J.tells journal.old journal.new) }
     {
         let target = self.meant(i, steps)?.found;
         if target.shape.kind.is_weak() {
@@ -109,9 +105,7 @@ impl Gc {
         steps: &mut Steps<L>,
     ) -> Result<AreaAnswer, Refusal>
         ensures row { Tells self.old self.new (commands.Root counted cells) (area_reply result)
-            (record { bytes = J.kept journal.old; broken = J.is_broken journal.old })
-            (record { bytes = J.kept journal.new; broken = J.is_broken journal.new }) }
-        ensures kept { J.keeps journal.old journal.new }
+            (J.tells journal.old journal.new) }
     {
         let area = AreaWanted {
             scanned: true,
@@ -129,9 +123,7 @@ impl Gc {
         steps: &mut Steps<L>,
     ) -> Result<AreaAnswer, Refusal>
         ensures row { Tells self.old self.new (commands.Fixed cells) (area_reply result)
-            (record { bytes = J.kept journal.old; broken = J.is_broken journal.old })
-            (record { bytes = J.kept journal.new; broken = J.is_broken journal.new }) }
-        ensures kept { J.keeps journal.old journal.new }
+            (J.tells journal.old journal.new) }
     {
         let area = AreaWanted {
             scanned: false,
@@ -150,9 +142,7 @@ impl Gc {
     ) -> Result<AreaAnswer, Refusal>
         requires raw { area.scanned ≡ false → area.counted ≡ 0 }
         ensures row { Tells self.old self.new (area_command area) (area_reply result)
-            (record { bytes = J.kept journal.old; broken = J.is_broken journal.old })
-            (record { bytes = J.kept journal.new; broken = J.is_broken journal.new }) }
-        ensures kept { J.keeps journal.old journal.new }
+            (J.tells journal.old journal.new) }
     {
         if is_bad_area(area.counted, area.cells) {
             return Err(Refusal::Shape);

@@ -18,9 +18,7 @@ impl Gc {
     /// slots of reapable objects hold.
     pub fn reap<J: Journal, L: Ledger>(&mut self, journal: &mut J, steps: &mut Steps<L>)
         ensures row { Tells self.old self.new commands.Reap replies.Done
-            (record { bytes = J.kept journal.old; broken = J.is_broken journal.old })
-            (record { bytes = J.kept journal.new; broken = J.is_broken journal.new }) }
-        ensures kept { J.keeps journal.old journal.new }
+            (J.tells journal.old journal.new) }
         ensures born { self.new.born ≡ self.old.born }
         ensures cost { IsReapCost self.old steps.old steps.new }
     {
@@ -40,9 +38,7 @@ impl Gc {
     /// Frees what neither the stack nor a scanned area reaches. A cycle that runs ends without a result.
     pub fn collect<J: Journal, L: Ledger>(&mut self, journal: &mut J, steps: &mut Steps<L>)
         ensures row { Tells self.old self.new commands.Collect replies.Done
-            (record { bytes = J.kept journal.old; broken = J.is_broken journal.old })
-            (record { bytes = J.kept journal.new; broken = J.is_broken journal.new }) }
-        ensures kept { J.keeps journal.old journal.new }
+            (J.tells journal.old journal.new) }
         ensures born { self.new.born ≡ self.old.born }
     {
         mark_all(
@@ -70,9 +66,7 @@ impl Gc {
         steps: &mut Steps<L>,
     ) -> Result<(), Refusal>
         ensures row { Tells self.old self.new commands.Finish (done_reply result)
-            (record { bytes = J.kept journal.old; broken = J.is_broken journal.old })
-            (record { bytes = J.kept journal.new; broken = J.is_broken journal.new }) }
-        ensures kept { J.keeps journal.old journal.new }
+            (J.tells journal.old journal.new) }
         ensures cost { IfOk result (λ _. IsFinishCost self.old steps.old steps.new) }
         ensures refused { OnErr result (steps.new ≡ steps.old) }
     {

@@ -21,7 +21,7 @@ ghost use Rattle.mm_weak.specs.Links.{IsLinked, IsTarget, partner_of, with_weak,
 ghost use Rattle.mm_gc.specs.Gc.{objects_in, areas_in, pieces_in, pages_needed};
 ghost use Rattle.mm_gc.specs.Kept.{KeepsRegion, IsSettled};
 ghost use Rattle.mm_gc.specs.Regions.{IsSameRegion, IsSameInside, limit_in, IsReleasable, IsReleased};
-ghost use Rattle.mm_gc.specs.Rows.{WritesLines};
+ghost use Rattle.mm_sweep.specs.Told.{IsToldOf};
 
 use crate::wanted::{AreaWanted, Reach};
 use mm_cells::PAGE_BYTES;
@@ -364,11 +364,9 @@ impl Region {
     )
         requires dead { IsReleasable self.old.heap dead.now.words k }
         requires settled { IsSettled self.old }
-        ensures written { (view : View) → view.objects ≡ objects_in self.old
-            → WritesLines (record { bytes = J.kept journal.old; broken = J.is_broken journal.old })
-            (record { bytes = J.kept journal.new; broken = J.is_broken journal.new })
+        ensures told { (view : View) → view.objects ≡ objects_in self.old
+            → IsToldOf (J.tells journal.old journal.new) view.objects
             (view_phase_lines what view (take k dead.now.words)) }
-        ensures kept { J.keeps journal.old journal.new }
         ensures released { IsReleased self.old.heap self.new.heap (take k dead.now.words) }
         ensures areas { areas_in self.new ≡ areas_in self.old }
         ensures same { IsSameRegion self.old self.new }

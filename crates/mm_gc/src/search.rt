@@ -192,9 +192,7 @@ impl Gc {
         requires wanted { IsWanted (view_of_gc self.old) wanted }
         requires births { CanBear wanted self.old.born }
         ensures searched { Searches self.old self.new wanted result
-            (record { bytes = J.kept journal.old; broken = J.is_broken journal.old })
-            (record { bytes = J.kept journal.new; broken = J.is_broken journal.new }) }
-        ensures kept { J.keeps journal.old journal.new }
+            (J.tells journal.old journal.new) }
     {
         if let Some(made) = self.make_wanted(wanted, Reach::Now, steps) {
             return Some(made);
@@ -216,9 +214,7 @@ impl Gc {
         requires births { CanBear wanted self.old.born }
         requires nowhere { place_in_reach reach.Now (view_of_gc self.old) wanted ≡ None }
         ensures searched { Searches self.old self.new wanted result
-            (record { bytes = J.kept journal.old; broken = J.is_broken journal.old })
-            (record { bytes = J.kept journal.new; broken = J.is_broken journal.new }) }
-        ensures kept { J.keeps journal.old journal.new }
+            (J.tells journal.old journal.new) }
     {
         self.reap(journal, steps);
         if let Some(made) = self.make_wanted(wanted, Reach::Grown, steps) {

@@ -6,8 +6,7 @@ use Rattle.std.specs.Prelude.{IsTrue, ◌↔◌, ◌==◌, slice_get, slice_set}
 use Rattle.std.specs.Bool.{OnTrue, OnFalse}
 use Rattle.mm_model.specs.Views.ByBase.{with_entry}
 use Rattle.mm_sites.specs.declared.entry.Entry.{Entry}
-use Rattle.mm_sites.specs.Entries.{EntriesByBase, HasEntry}
-use Rattle.mm_site_journal.specs.Taking.{without_one}
+use Rattle.mm_sites.specs.Entries.{EntriesByBase, HasEntry, without_one}
 
 -- where nothing stands, nothing is taken away
 set-nothing : (entries : EntriesByBase) (grain : ℕ)

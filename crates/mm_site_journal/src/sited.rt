@@ -1,8 +1,8 @@
 // A journal around another one.
 ghost use Rattle.std.specs.Prelude.{◌≡◌};
 ghost use Rattle.std.proofs.Common.{refl, ◌∙◌};
-ghost use Rattle.mm_site_journal.specs.Taking.{Follows};
-ghost use Rattle.mm_site_journal.specs.Following.{follows-same, follows-trans};
+ghost use Rattle.mm_site_journal.specs.Taking.{without_freed};
+ghost use Rattle.mm_site_journal.specs.Following.{without_freed-on};
 
 use mm_model::Phase;
 use mm_sites::Sites;
@@ -16,22 +16,17 @@ pub struct Sited<'a, J: Journal> {
 }
 
 impl<'a, J: Journal> Finalizer for Sited<'a, J> {
-    ghost kept = { λ s. J.kept s.journal.now };
+    ghost tells = { λ s t told. (t.journal.ghost_name ≡ s.journal.ghost_name)
+        × (t.sites.ghost_name ≡ s.sites.ghost_name) × J.tells s.journal.now t.journal.now told
+        × (t.sites.now ≡ without_freed s.sites.now told) };
 
-    ghost is_broken = { λ s. J.is_broken s.journal.now };
+    ghost tells_nothing = { λ s. (refl, refl, J.tells_nothing s.journal.now, refl) };
 
-    ghost keeps = { λ s t. (t.journal.ghost_name ≡ s.journal.ghost_name)
-        × (t.sites.ghost_name ≡ s.sites.ghost_name) × J.keeps s.journal.now t.journal.now
-        × Follows (J.kept s.journal.now) (J.is_broken s.journal.now)
-        (J.kept t.journal.now) (J.is_broken t.journal.now) s.sites.now t.sites.now };
-
-    ghost keeps_itself = { λ s. (refl, refl, J.keeps_itself s.journal.now, follows-same) };
-
-    ghost keeps_on = { λ s t u first next. (
+    ghost tells_on = { λ s t u earlier later first next. (
       next.0 ∙ first.0,
       next.1 ∙ first.1,
-      J.keeps_on s.journal.now t.journal.now u.journal.now first.2 next.2,
-      follows-trans first.3 next.3,
+      J.tells_on s.journal.now t.journal.now u.journal.now earlier later first.2 next.2,
+      without_freed-on s.sites.now t.sites.now u.sites.now earlier later first.3 next.3,
     ) };
 
     fn finalize(&mut self, base: u32, slots: &[u32]) {

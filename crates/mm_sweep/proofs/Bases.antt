@@ -7,14 +7,11 @@ use Rattle.std.proofs.lemmas.Bool.Decides.{nat_tests}
 use Rattle.std.proofs.lemmas.List.{take_more, map-append}
 use Rattle.std.proofs.lemmas.Grind.{flat_map-append}
 use Rattle.std.proofs.lemmas.List.Sums.{sum_by-append, sum_by-cons}
-use Rattle.mm_model.specs.declared.line.Line.{Line}
-use Rattle.mm_model.specs.declared.line.Line.TheVariants as lines
 use Rattle.mm_model.specs.Phase.{lists, IsAscending}
 use Rattle.mm_model.specs.Views.ObjectView.{ObjectsByBase}
-use Rattle.mm_model.specs.Logs.Spelling.{spelling, spelling_of}
-use Rattle.mm_model.specs.Views.ViewPhase.{view_final_lines}
 use Rattle.mm_model.specs.Views.ViewWords.{object_at}
-use Rattle.mm_sweep.specs.Release.{final_lines_at, final_slots, finalized_slots}
+use Rattle.mm_sweep.specs.Release.{final_slots, final_told, finalized_slots, finals_told}
+use Rattle.mm_sweep.specs.Told.{Told, Free}
 
 -- each of the first k
 pub each_at : (P : ℕ → Type 0) (xs : List ℕ) (k i : ℕ) → AllByRecursion P (take k xs) → i < k → i < length xs
@@ -42,21 +39,15 @@ lists-before (x ∷ xs) (suc k) (suc i) ascending few within =
     apart : (a b : ℕ) → a < b → (a == b) ≡ false
     apart a b below = grind (arith, nat_tests)
 
-spelling_of-append : (xs ys : List Line) → spelling_of (xs ++ ys) ≡ spelling_of xs ++ spelling_of ys
-spelling_of-append xs ys = flat_map-append spelling xs ys
-
--- the lines of one more finalizer
-pub final_lines-next : (objects : ObjectsByBase) (xs : List ℕ) (i : ℕ) → i < length xs
-    → spelling_of (final_lines_at objects (take i xs))
-    ++ spelling_of (view_final_lines (object_at objects (slice_index xs i)))
-    ≡ spelling_of (final_lines_at objects (take (i + 1) xs))
-final_lines-next objects xs i within =
-    let line : ℕ → List Line = λ base. view_final_lines (object_at objects base) in
-    sym (spelling_of-append (flat_map line (take i xs)) (line (slice_index xs i)))
-    ∙ ap (λ (ls : List Line). spelling_of (flat_map line (take i xs) ++ ls))
-    (sym (append-nil (line (slice_index xs i))))
-    ∙ ap spelling_of (sym (flat_map-append line (take i xs) (slice_index xs i ∷ [])))
-    ∙ ap (λ (bases : List ℕ). spelling_of (flat_map line bases)) (sym (take-next xs i within))
+-- what one more finalizer is told
+pub finals_told-next : (objects : ObjectsByBase) (xs : List ℕ) (i : ℕ) → i < length xs
+    → finals_told objects (take i xs) ++ final_told (object_at objects (slice_index xs i))
+    ≡ finals_told objects (take (i + 1) xs)
+finals_told-next objects xs i within =
+    let told : ℕ → List Told = λ base. final_told (object_at objects base) in
+    ap (λ (ts : List Told). flat_map told (take i xs) ++ ts) (sym (append-nil (told (slice_index xs i))))
+    ∙ sym (flat_map-append told (take i xs) (slice_index xs i ∷ []))
+    ∙ ap (flat_map told) (sym (take-next xs i within))
 
 -- its slots
 pub finalized_slots-next : (objects : ObjectsByBase) (xs : List ℕ) (i : ℕ) → i < length xs
@@ -69,11 +60,9 @@ finalized_slots-next objects xs i within =
     let one = sum_by-cons slots (slice_index xs i) [] in
     omega arith
 
--- the line of one more freed object
-pub free_lines-next : (xs : List ℕ) (i : ℕ) → i < length xs
-    → spelling_of (map lines.Free (take i xs)) ++ spelling_of (lines.Free (slice_index xs i) ∷ [])
-    ≡ spelling_of (map lines.Free (take (i + 1) xs))
-free_lines-next xs i within =
-    sym (spelling_of-append (map lines.Free (take i xs)) (lines.Free (slice_index xs i) ∷ []))
-    ∙ ap spelling_of (sym (map-append lines.Free (take i xs) (slice_index xs i ∷ [])))
-    ∙ ap (λ (bases : List ℕ). spelling_of (map lines.Free bases)) (sym (take-next xs i within))
+-- one more freed object
+pub frees_told-next : (xs : List ℕ) (i : ℕ) → i < length xs
+    → map Free (take i xs) ++ Free (slice_index xs i) ∷ [] ≡ map Free (take (i + 1) xs)
+frees_told-next xs i within =
+    sym (map-append Free (take i xs) (slice_index xs i ∷ []))
+    ∙ ap (map Free) (sym (take-next xs i within))

@@ -1,15 +1,13 @@
--- Finalizers: which objects have one, what their lines are, and what they cost.
-use Rattle.std.proofs.Common.{◌≡◌, ℕ, ◌%◌, ◌^◌, Bool, true, false, eqb-true, [], ◌∷◌, length, sum, Some, refl, sym, ap}
+-- Finalizers: which objects have one, what they are told, and what they cost.
+use Rattle.std.proofs.Common.{◌≡◌, ℕ, Bool, true, false, eqb-true, [], ◌∷◌, length, Some, refl, sym, ap}
 use Rattle.std.proofs.Common.{subst, ◌∙◌}
 use Rattle.std.specs.Prelude.{◌==◌, if◌then◌else◌}
 use Rattle.std.specs.Int.RustNames.{bit_and}
 use Rattle.std.specs.Option.{option_map}
 use Rattle.std.proofs.lemmas.Bool.{eq-eqb}
 use Rattle.std.proofs.lemmas.Option.{slice_get-map}
-use Rattle.mm_model.specs.declared.line.Line.TheVariants as lines
 use Rattle.mm_model.specs.Views.ByBase.{Begins, Based, based}
 use Rattle.mm_model.specs.Views.ObjectView.{ObjectView, ObjectsByBase}
-use Rattle.mm_model.specs.Views.ViewPhase.{view_final_lines}
 use Rattle.mm_model.specs.Views.ViewWords.{object_at}
 use Rattle.mm_model.proofs.Lists.Growing.{find-only}
 use Rattle.mm_model.proofs.View.ByBase.Entries.{based_at, begins_at, begins_same}
@@ -19,7 +17,8 @@ use Rattle.mm_cells.specs.Cells as cells
 use Rattle.mm_cells.specs.Cells.{Cells}
 use Rattle.mm_object.specs.Object.{StoredObject, StoredObjects, view_of_stored, views_of, flags_with}
 use Rattle.mm_object.specs.Heap.{Heap, cell_of, cells_in}
-use Rattle.mm_sweep.specs.Release.{final_slots}
+use Rattle.mm_sweep.specs.Release.{final_slots, final_told}
+use Rattle.mm_sweep.specs.Told.{Finalize}
 
 -- the cell of an object
 pub cell-object : (h : Heap) (v : Cells) (base : ℕ) (object : StoredObject) → v ≡ cells_in h
@@ -69,19 +68,18 @@ stored_at-begins objects base object begins =
     object_at-begins (views_of objects) base (view_of_stored object)
     (begins_mapped view_of_stored objects base object begins)
 
--- the line and the cost of one finalizer
-pub final_lines-true : (objects : StoredObjects) (base : ℕ) (object : StoredObject) → Begins objects base object
-    → object.finalize ≡ true → view_final_lines (object_at (views_of objects) base)
-    ≡ lines.Final base (length object.words) (sum object.words % 2 ^ 32) ∷ []
-final_lines-true objects base object begins flag =
-    ap view_final_lines (stored_at-begins objects base object begins)
-    ∙ ap (λ (b : Bool). if b then lines.Final base (length object.words) (sum object.words % 2 ^ 32) ∷ [] else []) flag
+-- what one finalizer is told, and what it costs
+pub final_told-true : (objects : StoredObjects) (base : ℕ) (object : StoredObject) → Begins objects base object
+    → object.finalize ≡ true → final_told (object_at (views_of objects) base) ≡ Finalize base object.words ∷ []
+final_told-true objects base object begins flag =
+    ap final_told (stored_at-begins objects base object begins)
+    ∙ ap (λ (b : Bool). if b then Finalize base object.words ∷ [] else []) flag
 
-pub final_lines-false : (objects : StoredObjects) (base : ℕ) (object : StoredObject) → Begins objects base object
-    → object.finalize ≡ false → view_final_lines (object_at (views_of objects) base) ≡ []
-final_lines-false objects base object begins flag =
-    ap view_final_lines (stored_at-begins objects base object begins)
-    ∙ ap (λ (b : Bool). if b then lines.Final base (length object.words) (sum object.words % 2 ^ 32) ∷ [] else []) flag
+pub final_told-false : (objects : StoredObjects) (base : ℕ) (object : StoredObject) → Begins objects base object
+    → object.finalize ≡ false → final_told (object_at (views_of objects) base) ≡ []
+final_told-false objects base object begins flag =
+    ap final_told (stored_at-begins objects base object begins)
+    ∙ ap (λ (b : Bool). if b then Finalize base object.words ∷ [] else []) flag
 
 pub final_slots-true : (objects : StoredObjects) (base : ℕ) (object : StoredObject) → Begins objects base object
     → object.finalize ≡ true → final_slots (object_at (views_of objects) base) ≡ length object.words

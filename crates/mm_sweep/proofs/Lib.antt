@@ -11,5 +11,6 @@ pub mod Parted
 pub mod Partners
 pub mod Released
 pub mod Right
+pub mod Telling
 pub mod Whitened
 pub mod Whites

@@ -1,18 +1,17 @@
 -- What a phase leaves of a heap, and what its finalizers cost.
-use Rattle.std.specs.Prelude.{◌≡◌, ℕ, ◌+◌, ◌*◌, ◌^◌, ◌<◌, ◌≤◌, if◌then◌else◌, List, length, Option, Some, None}
-use Rattle.std.specs.Prelude.{slice_get}
+use Rattle.std.specs.Prelude.{◌≡◌, ℕ, ◌+◌, ◌*◌, ◌^◌, ◌<◌, ◌≤◌, if◌then◌else◌, List, [], ◌∷◌, length, Option, Some}
+use Rattle.std.specs.Prelude.{None, slice_get}
 use Rattle.std.specs.List.{flat_map, sum_by, AllByRecursion}
-use Rattle.mm_model.specs.declared.line.Line.{Line}
 use Rattle.mm_model.specs.Phase.{lists}
 use Rattle.mm_model.specs.Views.ByBase.{Based, changed}
 use Rattle.mm_model.specs.Views.ObjectView.{ObjectView, ObjectsByBase}
 use Rattle.mm_model.specs.Views.ViewWords.{object_at}
-use Rattle.mm_model.specs.Views.ViewPhase.{view_final_lines}
 use Rattle.mm_pages.specs.Pages.{Pages, IsSoundHeap}
 use Rattle.mm_pages.specs.Parked.{AreParked, HaveNoCommonRun, AreAllParked}
 use Rattle.mm_object.specs.Object.{StoredObject}
 use Rattle.mm_object.specs.Heap.{Heap, IsObject}
 use Rattle.mm_weak.specs.Links.{unlinked}
+use Rattle.mm_sweep.specs.Told.{Told, Finalize}
 
 -- an object begins at each of these bases
 abbrev pub AreObjects : Heap → List ℕ → Type 0
@@ -28,9 +27,13 @@ abbrev pub KeepsRaw : List (Option ℕ) → List (Option ℕ) → Type 0
 KeepsRaw before after = (place word : ℕ) → slice_get before place ≡ Some (Some word) → slice_get after place
     ≡ Some (Some word)
 
--- the lines of the finalizers of the objects at these bases
-abbrev pub final_lines_at : ObjectsByBase → List ℕ → List Line
-final_lines_at objects bases = flat_map (λ base. view_final_lines (object_at objects base)) bases
+-- what a finalizer is told of an object, if it has one, and of those at these bases
+abbrev pub final_told : Option (Based ObjectView) → List Told
+final_told None = []
+final_told (Some o) = if o.value.finalize then Finalize o.base o.value.words ∷ [] else []
+
+abbrev pub finals_told : ObjectsByBase → List ℕ → List Told
+finals_told objects bases = flat_map (λ base. final_told (object_at objects base)) bases
 
 -- how many slots a finalizer is told, and all of those at these bases
 abbrev pub final_slots : Option (Based ObjectView) → ℕ

@@ -1,13 +1,10 @@
 // The finalizers of the objects that a phase frees.
 ghost use Rattle.std.specs.Prelude.{◌≡◌, ◌+◌, ◌≤◌, length, take};
 ghost use Rattle.mm_model.specs.Views.ByBase.{Begins};
-ghost use Rattle.mm_model.specs.Logs.Journal.{Writes};
-ghost use Rattle.mm_model.specs.Logs.Spelling.{spelling_of};
-ghost use Rattle.mm_model.specs.Views.ViewPhase.{view_final_lines};
 ghost use Rattle.mm_model.specs.Views.ViewWords.{object_at};
 ghost use Rattle.mm_object.specs.Object.{StoredObject, views_of};
 ghost use Rattle.mm_object.specs.Heap.{cells_in, IsObject, IsSound};
-ghost use Rattle.mm_sweep.specs.Release.{AreObjects, final_lines_at, final_slots, finalized_slots};
+ghost use Rattle.mm_sweep.specs.Release.{AreObjects, final_slots, final_told, finalized_slots, finals_told};
 
 use crate::journal::Journal;
 use bitflags::Flags;
@@ -37,10 +34,7 @@ fn run_finalizer<J: Journal, L: Ledger>(
 )
     requires object { IsObject heap.now base }
     requires cells { cells.now ≡ cells_in heap.now }
-    ensures written { Writes (J.kept journal.old) (J.is_broken journal.old)
-        (J.kept journal.new) (J.is_broken journal.new)
-        (spelling_of (view_final_lines (object_at (views_of heap.now.objects) base))) }
-    ensures kept { J.keeps journal.old journal.new }
+    ensures told { J.tells journal.old journal.new (final_told (object_at (views_of heap.now.objects) base)) }
     ensures cost { steps.new ≡ steps.old + 1 + final_slots (object_at (views_of heap.now.objects) base) }
 {
     if has_finalizer(heap, cells, base, steps) {
@@ -58,10 +52,8 @@ pub(crate) fn run_finalizers<J: Journal, L: Ledger>(
 )
     requires within { k ≤ length dead.now.words }
     requires objects { AreObjects heap.now (take k dead.now.words) }
-    ensures written { Writes (J.kept journal.old) (J.is_broken journal.old)
-        (J.kept journal.new) (J.is_broken journal.new)
-        (spelling_of (final_lines_at (views_of heap.now.objects) (take k dead.now.words))) }
-    ensures kept { J.keeps journal.old journal.new }
+    ensures told { J.tells journal.old journal.new
+        (finals_told (views_of heap.now.objects) (take k dead.now.words)) }
     ensures sound { IsSound heap.now }
     ensures cost { steps.new ≡ steps.old + k + finalized_slots (views_of heap.now.objects) (take k dead.now.words) }
 {

@@ -1,14 +1,12 @@
 // Objects are freed, and their partners have none from then on.
 ghost use Rattle.std.specs.Prelude.{◌≡◌, ◌≤◌, ◌<◌, ◌+◌, ◌*◌, ◌^◌, ℕ, [], ◌∷◌, None, map, length, take};
-ghost use Rattle.mm_model.specs.declared.line.Line.TheVariants as lines;
 ghost use Rattle.mm_model.specs.Views.ByBase.{Begins, with_entry, changed};
-ghost use Rattle.mm_model.specs.Logs.Journal.{Writes};
 ghost use Rattle.mm_model.specs.Phase.{IsAscending};
-ghost use Rattle.mm_model.specs.Logs.Spelling.{spelling_of};
 ghost use Rattle.mm_object.specs.Object.{StoredObject};
 ghost use Rattle.mm_object.specs.Heap.{IsObject, IsSound, FitsHeap};
 ghost use Rattle.mm_weak.specs.Links.{IsLinked};
 ghost use Rattle.mm_sweep.specs.Release.{after_release, AreObjects, Frees};
+ghost use Rattle.mm_sweep.specs.Told.{Free};
 
 use crate::journal::Journal;
 use mm_model::Kind;
@@ -49,10 +47,7 @@ fn free_object<J: Journal, L: Ledger>(
     requires object { IsObject heap.old base }
     requires linked { IsLinked heap.old }
     requires fits { FitsHeap heap.old pages.old }
-    ensures written { Writes (J.kept journal.old) (J.is_broken journal.old)
-        (J.kept journal.new) (J.is_broken journal.new)
-        (spelling_of (lines.Free base ∷ [])) }
-    ensures kept { J.keeps journal.old journal.new }
+    ensures told { J.tells journal.old journal.new (Free base ∷ []) }
     ensures frees { Frees (base ∷ []) heap.old heap.new pages.old pages.new }
     ensures linked { IsLinked heap.new }
     ensures fits { FitsHeap heap.new pages.new }
@@ -79,10 +74,7 @@ pub(crate) fn free_objects<J: Journal, L: Ledger>(
     requires linked { IsLinked heap.old }
     requires fits { FitsHeap heap.old pages.old }
     requires sound { IsSound heap.old }
-    ensures written { Writes (J.kept journal.old) (J.is_broken journal.old)
-        (J.kept journal.new) (J.is_broken journal.new)
-        (spelling_of (map lines.Free (take k dead.now.words))) }
-    ensures kept { J.keeps journal.old journal.new }
+    ensures told { J.tells journal.old journal.new (map Free (take k dead.now.words)) }
     ensures frees { Frees (take k dead.now.words) heap.old heap.new pages.old pages.new }
     ensures linked { IsLinked heap.new }
     ensures fits { FitsHeap heap.new pages.new }

@@ -1,9 +1,7 @@
 // One phase, from its finalizers to the last object that it frees.
 ghost use Rattle.std.specs.Prelude.{◌≡◌, ◌≤◌, ℕ, List, length, take, false, IsTrue};
 ghost use Rattle.mm_model.specs.Views.ByBase.{Begins, changed};
-ghost use Rattle.mm_model.specs.Logs.Journal.{Writes};
 ghost use Rattle.mm_model.specs.Phase.{IsAscending, lists};
-ghost use Rattle.mm_model.specs.Logs.Spelling.{spelling_of};
 ghost use Rattle.mm_model.specs.Views.View.{View};
 ghost use Rattle.mm_model.specs.Views.ViewPhase.{view_phase_lines, view_after_release};
 ghost use Rattle.mm_pages.specs.Pages.{IsSoundHeap};
@@ -17,6 +15,7 @@ ghost use Rattle.mm_count.specs.Listed.{AllListed, NonePinned};
 ghost use Rattle.mm_count.specs.Apart.{AreCountsApart};
 ghost use Rattle.mm_count.specs.DeadApart.{AreDeadApart};
 ghost use Rattle.mm_sweep.specs.Release.{after_release, finalized_slots, AreObjects, KeepsRaw, IsReleaseCost};
+ghost use Rattle.mm_sweep.specs.Told.{IsToldOf};
 
 use crate::finalizing::run_finalizers;
 use crate::freeing::free_objects;
@@ -48,10 +47,9 @@ pub fn release<J: Journal, L: Ledger>(
         → IsTrue (lists (take k dead.now.words) base) → (composite_of object).listed ≡ false }
     requires linked { IsLinked heap.old }
     requires fits { FitsHeap heap.old pages.old }
-    ensures written { (view : View) → view.objects ≡ views_of heap.old.objects
-        → Writes (J.kept journal.old) (J.is_broken journal.old) (J.kept journal.new) (J.is_broken journal.new)
-        (spelling_of (view_phase_lines what view (take k dead.now.words))) }
-    ensures kept { J.keeps journal.old journal.new }
+    ensures told { (view : View) → view.objects ≡ views_of heap.old.objects
+        → IsToldOf (J.tells journal.old journal.new) view.objects
+        (view_phase_lines what view (take k dead.now.words)) }
     ensures views { views_of heap.new.objects
         ≡ changed (view_after_release (take k dead.now.words)) (views_of heap.old.objects) }
     ensures objects { heap.new.objects ≡ changed (after_release (take k dead.now.words)) heap.old.objects }

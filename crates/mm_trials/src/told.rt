@@ -1,5 +1,5 @@
 // What a heap tells, as a text.
-ghost use Rattle.std.specs.Prelude.{None, false, ⊤};
+ghost use Rattle.std.specs.Prelude.{⊤};
 
 use arrayvec::ArrayVec;
 use mm_gc::{Finalizer, Journal};
@@ -33,15 +33,11 @@ impl Told {
 }
 
 impl Finalizer for Told {
-    ghost kept = { λ _. None };
+    ghost tells = { λ _ _ _. ⊤ };
 
-    ghost is_broken = { λ _. false };
+    ghost tells_nothing = { λ _. tt };
 
-    ghost keeps = { λ _ _. ⊤ };
-
-    ghost keeps_itself = { λ _. tt };
-
-    ghost keeps_on = { λ _ _ _ _ _. tt };
+    ghost tells_on = { λ _ _ _ _ _ _ _. tt };
 
     fn finalize(&mut self, base: u32, slots: &[u32]) {
         let mut sum = 0u32;

@@ -1,5 +1,5 @@
 -- Commands that are carried out, one after another.
-use Rattle.std.proofs.Common.{◌≡◌, ◌≤◌, List, [], ◌∷◌, ◌++◌, length, refl, sym, ap, ◌∙◌, subst, append-nil}
+use Rattle.std.proofs.Common.{◌≡◌, ◌≤◌, List, [], ◌∷◌, ◌++◌, map, length, refl, sym, ap, ◌∙◌, subst, append-nil}
 use Rattle.std.proofs.Common.{append_assoc, arith}
 use Rattle.std.proofs.lemmas.List.{length_push}
 use Rattle.std.proofs.lemmas.List.Concat.{flat_map-append}
@@ -18,7 +18,9 @@ use Rattle.mm_model.specs.After.{after}
 use Rattle.mm_model.specs.Views.View.{Shows}
 use Rattle.mm_model.proofs.Text.Journals.{writes-append}
 use Rattle.mm_gc.specs.Gc.{Gc, view_of_gc, totals_in}
-use Rattle.mm_gc.specs.Rows.{IsStepOf, Executes, Kept}
+use Rattle.mm_gc.specs.Rows.{IsStepOf, Executes}
+use Rattle.mm_sweep.specs.Told.{Told, line_told}
+use Rattle.mmgc.specs.Writing.{Kept}
 use Rattle.mmgc.specs.Carrying.{CarriedOut, CarriesOut, Grew}
 use Rattle.mmgc.proofs.StepNumbers.{step_counts_one}
 
@@ -27,11 +29,15 @@ pub spelling_of-append : (xs ys : List Line) → spelling_of (xs ++ ys) ≡ spel
 spelling_of-append xs ys = flat_map-append spelling xs ys
 
 -- a command was executed, and its reply was written
-pub carries_out : {old new : Gc} {command : Command} {reply : Reply} {before between after : Kept} →
-    Executes old new command reply before between →
+pub carries_out : {old new : Gc} {command : Command} {reply : Reply} {before between after : Kept}
+    {heard : List Told → Type 0} →
+    Executes old new command reply heard →
+    ((told : List Told) → heard told → Grew before between (spelling_of (map line_told told))) →
     Grew between after (spelling (lines.Reply reply)) →
     (done : CarriesOut old new command before after) × (done.reply ≡ reply)
-carries_out {reply = reply} {before = before} {after = after} e w =
+carries_out {reply = reply} {before = before} {between = between} {after = after} e wrote w =
+    let told = subst (λ (log : List Line). Grew before between (spelling_of log)) e.told.lines_are
+    (wrote e.told.told e.told.was) in
     let text : spelling_of e.before_reply ++ spelling (lines.Reply reply) ≡ spelling_of
     (e.before_reply ++ lines.Reply reply ∷ []) =
     ap (λ t. spelling_of e.before_reply ++ t) (sym (append-nil (spelling (lines.Reply reply))))
@@ -41,7 +47,7 @@ carries_out {reply = reply} {before = before} {after = after} e w =
         reply = reply;
         step = e.step;
         written = subst (Grew before after) text (writes-append (spelling_of e.before_reply)
-            (spelling (lines.Reply reply)) e.written w);
+            (spelling (lines.Reply reply)) told w);
       },
       refl,
     )

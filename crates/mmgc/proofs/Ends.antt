@@ -17,7 +17,7 @@ use Rattle.mm_io.specs.Faults.{Rose}
 use Rattle.mm_io.specs.Told.{Appends, Gives}
 use Rattle.mm_io.proofs.ToldLemmas.{Gives-append}
 use Rattle.mm_gc.specs.Gc.{Gc, totals_in, view_of_gc}
-use Rattle.mm_gc.specs.Rows.{Kept}
+use Rattle.mmgc.specs.Writing.{Kept}
 use Rattle.mmgc.specs.declared.extras.Extras.{Extras}
 use Rattle.mmgc.specs.Added.{IsAddedText, IsFollowed, with_total}
 use Rattle.mmgc.specs.Appending.{Appended}

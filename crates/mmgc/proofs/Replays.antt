@@ -22,7 +22,7 @@ use Rattle.mm_model.proofs.Text.Faults.{complete_lines-held, fault_at_newline, r
 use Rattle.mm_model.proofs.Text.Faults.{reading-next-command, lines-fewer, commands-fewer}
 use Rattle.mm_trace.specs.Lines.{IsWithinLine}
 use Rattle.mm_gc.specs.Gc.{Gc}
-use Rattle.mm_gc.specs.Rows.{Kept}
+use Rattle.mmgc.specs.Writing.{Kept}
 use Rattle.mm_model.specs.declared.settings.Settings.{Settings}
 use Rattle.mmgc.specs.declared.extras.Extras.{Extras}
 use Rattle.mm_pace.specs.Paced.{AreCommandsOf}

@@ -5,7 +5,7 @@ use Rattle.mm_model.specs.declared.settings.Settings.{Settings}
 use Rattle.mm_model.specs.State.{State, empty_state}
 use Rattle.mm_model.specs.Views.View.{View, Shows}
 use Rattle.mm_gc.specs.Gc.{Gc, view_of_gc}
-use Rattle.mm_gc.specs.Rows.{Kept}
+use Rattle.mmgc.specs.Writing.{Kept}
 use Rattle.mm_object.specs.Object.{views_of}
 use Rattle.mm_object.specs.Heap.{Heap, IsObject}
 use Rattle.mm_why.specs.declared.hop.Via.{Via}

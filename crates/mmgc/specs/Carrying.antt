@@ -13,7 +13,8 @@ use Rattle.mm_model.specs.Logs.Spelling.{spelling_of}
 use Rattle.mm_model.specs.Step.{IsStep}
 use Rattle.mm_model.specs.Views.View.{Shows}
 use Rattle.mm_gc.specs.Gc.{Gc, view_of_gc}
-use Rattle.mm_gc.specs.Rows.{IsStepOf, Kept}
+use Rattle.mm_gc.specs.Rows.{IsStepOf}
+use Rattle.mmgc.specs.Writing.{Kept}
 
 -- from one moment to the next a journal was given these bytes to write
 abbrev pub Grew : Kept → Kept → List ℕ → Type 0

@@ -1,10 +1,19 @@
 -- What is kept over one call is kept over many.
-use Rattle.std.specs.Prelude.{ℕ, ◌+◌, ◌-◌, ◌^◌, ◌≤◌, ◌≡◌, ◌⊎◌, Bool, true, false, IsTrue, List, [], ◌++◌, Option}
-use Rattle.std.proofs.Common.{refl, ◌∙◌, inl, inr}
+use Rattle.std.specs.Prelude.{ℕ, ◌+◌, ◌-◌, ◌^◌, ◌≤◌, ◌≡◌, ◌⊎◌, Bool, true, false, IsTrue, List, [], ◌∷◌, ◌++◌, map}
+use Rattle.std.specs.Prelude.{Option}
+use Rattle.std.proofs.Common.{refl, sym, ap, ◌∙◌, subst, inl, inr}
+use Rattle.std.proofs.lemmas.List.{append-nil, map-append}
+use Rattle.std.proofs.lemmas.List.Concat.{flat_map-append}
 use Rattle.std.proofs.Math.Nat.{le_refl, le_trans, add-le-add, le-min, min-le_left, min-le_right}
 use Rattle.mm_io.specs.Faults.{Rose}
 use Rattle.mm_io.proofs.ToldLemmas.{Appends-append, Appends-nothing}
-use Rattle.mmgc.specs.Writing.{Grows, Keeps}
+use Rattle.mm_model.specs.declared.line.Line.{Line}
+use Rattle.mm_model.specs.Logs.Journal.{Writes}
+use Rattle.mm_model.specs.Logs.Spelling.{spelling, spelling_of}
+use Rattle.mm_model.proofs.Text.Journals.{writes-none, writes-append}
+use Rattle.mm_sweep.specs.Told.{Told, line_told}
+use Rattle.mmgc.specs.Carrying.{Grew}
+use Rattle.mmgc.specs.Writing.{Grows, Keeps, Kept}
 
 -- more bytes, and then more
 grows-trans : (t u v : Option (List ℕ)) → Grows t u → Grows u v → Grows t v
@@ -61,3 +70,22 @@ keeps-trans {f1 = f} {f2 = g} {f3 = h} {t1 = t} {t2 = u} {t3 = v} {b1 = b} {b2 =
       stays_broken = λ broken. next.stays_broken (first.stays_broken broken);
       clean = λ whole. next.clean whole ∙ first.clean (whole-before c d next.stays_broken whole);
     }
+
+-- nothing is written where nothing is called, and one call writes more after another
+pub grew-nothing : (kept : Kept) → Grew kept kept []
+grew-nothing kept = writes-none kept.bytes kept.broken
+
+pub grew-on : (before between after : Kept) (earlier later : List Told)
+    → Grew before between (spelling_of (map line_told earlier))
+    → Grew between after (spelling_of (map line_told later))
+    → Grew before after (spelling_of (map line_told (earlier ++ later)))
+grew-on before between after earlier later first next =
+    subst (Grew before after)
+    (sym (flat_map-append spelling (map line_told earlier) (map line_told later))
+    ∙ ap spelling_of (sym (map-append line_told earlier later)))
+    (writes-append (spelling_of (map line_told earlier)) (spelling_of (map line_told later)) first next)
+
+-- one line is all of a log
+pub writes-line : {k l : Option (List ℕ)} {b c : Bool} (line : Line) → Writes k b l c (spelling line)
+    → Writes k b l c (spelling_of (line ∷ []))
+writes-line {k} {l} {b} {c} line written = subst (Writes k b l c) (sym (append-nil (spelling line))) written

@@ -1,11 +1,13 @@
 -- A log writer and a replay as contracts see them, by what the sink counts and has taken.
-use Rattle.std.specs.Prelude.{ℕ, List, Option}
+use Rattle.std.specs.Prelude.{ℕ, List, map, Option}
 use Rattle.mm_gc.specs.Gc.{Gc}
-use Rattle.mm_gc.specs.Rows.{Kept}
 use Rattle.mmgc.specs.declared.log.LogWriter.{LogWriter}
 use Rattle.mmgc.specs.declared.pacer.Pacer.{Pacer}
 use Rattle.mmgc.specs.declared.replay.Replay.{Replay}
-use Rattle.mmgc.specs.Writing.{kept_bytes, Keeps}
+use Rattle.mm_model.specs.Logs.Spelling.{spelling_of}
+use Rattle.mm_sweep.specs.Told.{Told, line_told}
+use Rattle.mmgc.specs.Carrying.{Grew}
+use Rattle.mmgc.specs.Writing.{Kept, kept_bytes, Keeps}
 use Rattle.mm_pace.specs.declared.pace.Pace.{Pace}
 use Rattle.mmgc.specs.Pacing.{Driver, Left}
 use Rattle.mmgc.specs.Replaying.{Moment}
@@ -35,3 +37,8 @@ abbrev pub KeepsOn : {K : Type 0} → (K → ℕ) → (K → Option (List ℕ)) 
 KeepsOn faults taken v w =
     Keeps v.sink.ghost_name w.sink.ghost_name (faults v.sink.now) (faults w.sink.now)
     (taken v.sink.now) (taken w.sink.now) v.broken w.broken
+
+-- what a log writer was told, it wrote, and it undid nothing
+abbrev pub WasTold : {K : Type 0} → (K → ℕ) → (K → Option (List ℕ)) → LogWriter K → LogWriter K → List Told → Type 0
+WasTold faults taken v w told =
+    Grew (kept_by taken v) (kept_by taken w) (spelling_of (map line_told told)) × KeepsOn faults taken v w

@@ -8,7 +8,7 @@ use Rattle.mm_model.specs.State.{empty_state}
 use Rattle.mm_model.specs.Logs.Spelling.{spelling_of}
 use Rattle.mm_model.specs.Logs.Turns.{Turn, AreSteps, AreTurns}
 use Rattle.mm_gc.specs.Gc.{Gc, view_of_gc}
-use Rattle.mm_gc.specs.Rows.{Kept}
+use Rattle.mmgc.specs.Writing.{Kept}
 use Rattle.mm_pace.specs.declared.pace.Pace.{Pace}
 use Rattle.mm_pace.specs.Rules.{Rule, rules_at}
 use Rattle.mm_pace.specs.Paced.{AreAdded, IsPaced, commands_in, list_of}

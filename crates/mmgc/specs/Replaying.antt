@@ -14,7 +14,7 @@ use Rattle.mm_model.specs.Logs.Spelling.{spelling_of}
 use Rattle.mm_model.specs.Logs.Trace.{line_reading, reading_from, Reading, FaultAt}
 use Rattle.mm_trace.specs.Lines.{IsWithinLine}
 use Rattle.mm_gc.specs.Gc.{Gc, view_of_gc}
-use Rattle.mm_gc.specs.Rows.{Kept}
+use Rattle.mmgc.specs.Writing.{Kept}
 use Rattle.mm_pace.specs.Paced.{AreCommandsOf}
 use Rattle.mmgc.specs.declared.extras.Extras.{Extras}
 use Rattle.mmgc.specs.Added.{Task}

@@ -13,7 +13,7 @@ use Rattle.mm_model.specs.Logs.Trace.{lines_of, complete_lines, FaultAt}
 use Rattle.mm_io.specs.Faults.{Rose}
 use Rattle.mm_io.specs.Told.{Appends, AppendsFront, Gives}
 use Rattle.mm_gc.specs.Gc.{Gc, view_of_gc}
-use Rattle.mm_gc.specs.Rows.{Kept}
+use Rattle.mmgc.specs.Writing.{Kept}
 use Rattle.mm_pace.specs.Paced.{AreCommandsOf}
 use Rattle.mmgc.specs.Added.{Task, with_total, IsFollowed}
 use Rattle.mmgc.specs.Replaying.{reading_of, most_bytes, Start, GrewSince, Moment, Stopped, Progress}

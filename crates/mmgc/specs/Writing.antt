@@ -3,6 +3,11 @@ use Rattle.std.specs.Prelude.{◌≡◌, ℕ, ◌≤◌, ◌⊎◌, Bool, true, 
 use Rattle.mm_io.specs.Faults.{Rose}
 use Rattle.mm_io.specs.Told.{Appends}
 
+-- what a log writer keeps, where its sink tells it, and whether it is broken
+pub record Kept : Type 0 where
+  pub bytes : Option (List ℕ)
+  pub broken : Bool
+
 -- The kept bytes are those of the sink, and while the writer is whole those that are pending too.
 abbrev pub kept_bytes : Option (List ℕ) → Bool → List ℕ → Option (List ℕ)
 kept_bytes None broken pending = None

@@ -3,10 +3,9 @@ ghost use Rattle.std.specs.Prelude.{◌≡◌, ◌↔◌, ◌+◌, ◌++◌, len
 ghost use Rattle.std.specs.Prelude.{IsErr};
 ghost use Rattle.arrayvec.specs.ArrayVec.{array_vec_len};
 ghost use Rattle.mm_model.specs.Logs.Spelling.{spelling};
-ghost use Rattle.mmgc.specs.Writing.{kept_bytes, Keeps};
 ghost use Rattle.mmgc.specs.Carrying.{Grew};
-ghost use Rattle.mmgc.specs.Logging.{kept_by, KeepsOn};
-ghost use Rattle.mmgc.specs.Keeping.{keeps-same, keeps-trans};
+ghost use Rattle.mmgc.specs.Logging.{kept_by, KeepsOn, WasTold};
+ghost use Rattle.mmgc.specs.Keeping.{grew-nothing, grew-on, keeps-same, keeps-trans};
 
 use arrayvec::ArrayVec;
 use mm_gc::{Finalizer, Journal};
@@ -155,16 +154,14 @@ impl<'a, K: Sink> LogWriter<'a, K> {
 }
 
 impl<'a, K: Sink> Finalizer for LogWriter<'a, K> {
-    ghost kept = { λ w. kept_bytes (K.taken w.sink.now) w.broken w.pending.items };
+    ghost tells = { WasTold K.faults K.taken };
 
-    ghost is_broken = { λ w. w.broken };
+    ghost tells_nothing = { λ w. (grew-nothing (kept_by K.taken w), keeps-same) };
 
-    ghost keeps = { λ v w. Keeps v.sink.ghost_name w.sink.ghost_name (K.faults v.sink.now) (K.faults w.sink.now)
-        (K.taken v.sink.now) (K.taken w.sink.now) v.broken w.broken };
-
-    ghost keeps_itself = { λ _. keeps-same };
-
-    ghost keeps_on = { λ _ _ _. keeps-trans };
+    ghost tells_on = { λ v w x earlier later first next. (
+      grew-on (kept_by K.taken v) (kept_by K.taken w) (kept_by K.taken x) earlier later first.0 next.0,
+      keeps-trans first.1 next.1,
+    ) };
 
     fn finalize(&mut self, base: u32, slots: &[u32]) {
         self.line(&Line::Final {

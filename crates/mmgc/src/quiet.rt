@@ -1,32 +1,25 @@
 // A journal for runs that write no lines.
-ghost use Rattle.std.specs.Prelude.{◌≡◌, [], Some, true, ⊤};
+ghost use Rattle.std.specs.Prelude.{⊤};
 
 use mm_gc::{Finalizer, Journal};
 use mm_model::Phase;
 
-/// Keeps nothing of what it is told: it is broken from the start.
+/// Keeps nothing of what it is told.
 #[derive(Drop)]
 pub struct Quiet;
 
 impl Quiet {
-    pub fn make() -> Quiet
-        ensures kept { ⟦<Quiet as Finalizer>⟧.kept result ≡ Some [] }
-        ensures broken { ⟦<Quiet as Finalizer>⟧.is_broken result ≡ true }
-    {
+    pub fn make() -> Quiet {
         Quiet
     }
 }
 
 impl Finalizer for Quiet {
-    ghost kept = { λ _. Some [] };
+    ghost tells = { λ _ _ _. ⊤ };
 
-    ghost is_broken = { λ _. true };
+    ghost tells_nothing = { λ _. tt };
 
-    ghost keeps = { λ _ _. ⊤ };
-
-    ghost keeps_itself = { λ _. tt };
-
-    ghost keeps_on = { λ _ _ _ _ _. tt };
+    ghost tells_on = { λ _ _ _ _ _ _ _. tt };
 
     fn finalize(&mut self, _base: u32, _slots: &[u32]) {}
 }

@@ -4,7 +4,6 @@ use Rattle.std.proofs.Common.{sym, ap, ◌∙◌, subst, arith}
 use Rattle.std.specs.Prelude.{if◌then◌else◌}
 use Rattle.mm_model.specs.declared.command.Command.TheVariants as commands
 use Rattle.mm_model.specs.declared.command.Command.{Command}
-use Rattle.mm_model.specs.declared.line.Line.{Line}
 use Rattle.mm_model.specs.declared.line.Phase.TheVariants as phases
 use Rattle.mm_model.specs.declared.reply.Reply.TheVariants as replies
 use Rattle.mm_model.specs.Views.ViewStep.{IsViewRow}
@@ -28,13 +27,15 @@ use Rattle.mm_gc.specs.Gc.{Region, Gc, objects_in, areas_in, cycle_in, view_of_g
 use Rattle.mm_gc.specs.Kept.{IsSettled, KeepsGc}
 use Rattle.mm_gc.specs.Counts.{HasCounts}
 use Rattle.mm_gc.specs.Regions.{IsSameRegion}
-use Rattle.mm_gc.specs.Rows.{Kept, Tells, IsRowOf, WritesLines}
+use Rattle.mm_sweep.specs.Told.{Told, IsToldOf}
+use Rattle.mm_gc.specs.Rows.{Tells, IsRowOf}
 use Rattle.mm_gc.specs.Showing.{IsShowing}
-use Rattle.mm_gc.proofs.Colours.Alike.{all_white, white-all_white, phase_lines-alike}
+use Rattle.mm_gc.proofs.Colours.Alike.{all_white, white-all_white}
 use Rattle.mm_gc.proofs.Colours.AlikeHeaps.{views-alike, rest-alike}
 use Rattle.mm_gc.proofs.Colours.Recoloured.{released-whitened}
 use Rattle.mm_gc.proofs.Keeping.Rooms.{HasSameRooms, rooms-kept, pieces-kept}
 use Rattle.mm_gc.proofs.Rows.Phases.{Runs, reap-row, collect-row, finish-row}
+use Rattle.mm_gc.proofs.Telling.Heard.{heard-alike}
 use Rattle.mm_gc.proofs.Shown.{row-of, row-shows}
 use Rattle.mm_gc.proofs.Writing.Settling.{same_region-objects, same_region-then, areas-objects}
 
@@ -183,14 +184,14 @@ module _ (old : Gc) (keeps : KeepsGc old) (heap : Heap) (region : Region) (table
         pieces = pieces-kept old collected cells keeps.pieces;
       }
 
-  -- The lines of the phase were written, as they are told of what is marked.
-  pub tells-collected : (command : Command) (before after : Kept)
+  -- The journal heard the lines of the phase, as they are told of what is marked.
+  pub tells-collected : (command : Command) (heard : List Told → Type 0)
       → IsViewRow (view_of_gc old) command (view_phase_lines phases.Collect (view_of_gc old) dead)
       (record { view = view_collected dead (view_of_gc old); reply = replies.Done })
       → ((view : View) → view.objects ≡ views_of heap.objects
-      → WritesLines before after (view_phase_lines phases.Collect view dead))
-      → Tells old collected command replies.Done before after
-  tells-collected command before after row written =
+      → IsToldOf heard view.objects (view_phase_lines phases.Collect view dead))
+      → Tells old collected command replies.Done heard
+  tells-collected command heard row told =
       let view = view_of_gc old in
       let marked : View = record view { objects = views_of heap.objects } in
       record {
@@ -200,7 +201,6 @@ module _ (old : Gc) (keeps : KeepsGc old) (heap : Heap) (region : Region) (table
             (sym view-collected)
             (row-of view (view_collected dead view) command (view_phase_lines phases.Collect view dead) replies.Done
             row);
-        written = subst (λ (log : List Line). WritesLines before after log)
-            (phase_lines-alike phases.Collect marked view (sym (views-alike old.region.heap heap h.colours)) dead)
-            (written marked refl);
+        told = heard-alike heard phases.Collect marked view (sym (views-alike old.region.heap heap h.colours)) dead
+            (told marked refl);
       }

@@ -31,7 +31,8 @@ use Rattle.mm_gc.specs.Gc.{Region, Gc, objects_in, areas_in, cycle_in, freed_sin
 use Rattle.mm_gc.specs.Kept.{IsSettled, KeepsGc}
 use Rattle.mm_gc.specs.Counts.{HasCounts}
 use Rattle.mm_gc.specs.Regions.{IsSameRegion}
-use Rattle.mm_gc.specs.Rows.{Kept, Tells, IsRowOf, WritesLines}
+use Rattle.mm_sweep.specs.Told.{Told, IsToldOf}
+use Rattle.mm_gc.specs.Rows.{Tells, IsRowOf}
 use Rattle.mm_gc.specs.Showing.{IsShowing}
 use Rattle.mm_gc.proofs.Marking.Begun.{partly-scanned}
 use Rattle.mm_gc.proofs.Frees.Freed.{same-parts, outside-kept}
@@ -289,10 +290,10 @@ module _ (old : Gc) (keeps : KeepsGc old) (region : Region) (table : Table) (mar
         pieces = pieces-kept old reaped cells keeps.pieces;
       }
 
-  pub tells-reaped : (before after : Kept) → ViewReaps (view_of_gc old) dead
-      → WritesLines before after (view_phase_lines phases.Reap (view_of_gc old) dead)
-      → Tells old reaped commands.Reap replies.Done before after
-  tells-reaped before after reaps written =
+  pub tells-reaped : (heard : List Told → Type 0) → ViewReaps (view_of_gc old) dead
+      → IsToldOf heard (view_of_gc old).objects (view_phase_lines phases.Reap (view_of_gc old) dead)
+      → Tells old reaped commands.Reap replies.Done heard
+  tells-reaped heard reaps told =
       let view = view_of_gc old in
       record {
         log = view_phase_lines phases.Reap view dead;
@@ -301,5 +302,5 @@ module _ (old : Gc) (keeps : KeepsGc old) (region : Region) (table : Table) (mar
             (sym view-reaped)
             (row-of view (view_reaped dead view) commands.Reap (view_phase_lines phases.Reap view dead) replies.Done
             (reap-row view dead reaps));
-        written = written;
+        told = told;
       }

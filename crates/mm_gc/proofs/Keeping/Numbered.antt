@@ -33,7 +33,8 @@ use Rattle.mm_model.specs.Views.ViewStep.{ViewIsPlain}
 use Rattle.mm_model.specs.Views.ViewStep.{ViewScansAll, view_part_done, view_part_slots, view_advanced, slots_done_in}
 use Rattle.mm_model.specs.Views.ViewStep.{with_partly}
 use Rattle.mm_gc.specs.Gc.{Gc, view_of_gc}
-use Rattle.mm_gc.specs.Rows.{Kept, Answers, Tells}
+use Rattle.mm_sweep.specs.Told.{Told}
+use Rattle.mm_gc.specs.Rows.{Answers, Tells}
 
 -- as many commands were carried out
 abbrev pub AsMany : View → View → Type 0
@@ -246,7 +247,7 @@ pub answers-commands : (old new : Gc) (command : Command) (reply : Reply) → An
 answers-commands old new command reply a =
     row-commands (view_of_gc old) command [] (record { view = view_of_gc new; reply = reply }) a.row
 
-pub tells-commands : (old new : Gc) (command : Command) (reply : Reply) (before after : Kept)
-    → Tells old new command reply before after → new.commands ≡ old.commands
-tells-commands old new command reply before after t =
+pub tells-commands : (old new : Gc) (command : Command) (reply : Reply) (heard : List Told → Type 0)
+    → Tells old new command reply heard → new.commands ≡ old.commands
+tells-commands old new command reply heard t =
     row-commands (view_of_gc old) command t.log (record { view = view_of_gc new; reply = reply }) t.answers.row

@@ -1,5 +1,5 @@
 -- What the commands that make something answer, once it was looked for.
-use Rattle.std.proofs.Common.{◌≡◌, ◌≢◌, ℕ, Bool, true, false, [], length, Option, Some, None, refl, sym, ap, ◌∙◌, subst}
+use Rattle.std.proofs.Common.{◌≡◌, ◌≢◌, ℕ, Bool, true, false, [], length, Option, Some, None, refl, sym, ap, ◌∙◌, subst, List}
 use Rattle.std.specs.Prelude.{◌==◌, if◌then◌else◌}
 use Rattle.mm_model.specs.declared.command.Command.{Command}
 use Rattle.mm_model.specs.declared.command.Command.TheVariants as commands
@@ -20,8 +20,8 @@ use Rattle.mm_model.specs.Views.View.{View}
 use Rattle.mm_model.specs.Views.ViewWords.{object_at}
 use Rattle.mm_model.specs.Views.ViewEffect.{ViewEffect, with_found, view_area_effect, view_weak_made}
 use Rattle.mm_model.specs.Views.ViewStep.{IsViewRow, ViewMakes}
-use Rattle.mm_model.proofs.Text.Journals.{writes-none}
 use Rattle.mm_count.proofs.Composites.{decides, refutes}
+use Rattle.mm_sweep.specs.Told.{Told}
 use Rattle.mm_gc.specs.declared.wanted.AreaWanted.{AreaWanted}
 use Rattle.mm_gc.specs.declared.wanted.Wanted.{Wanted}
 use Rattle.mm_gc.specs.declared.wanted.Wanted.TheVariants as wanted
@@ -29,36 +29,37 @@ use Rattle.mm_gc.specs.declared.wanted.Made.{Made}
 use Rattle.mm_gc.specs.declared.wanted.Made.TheVariants as made_variants
 use Rattle.mm_gc.specs.Gc.{Gc, view_of_gc}
 use Rattle.mm_gc.specs.Making.{Searches, effect_of, made_reply, area_command}
-use Rattle.mm_gc.specs.Rows.{Kept, Tells, Answers}
+use Rattle.mm_gc.specs.Rows.{Tells, Answers}
 use Rattle.mm_gc.proofs.Pushing.{refused-answers}
 use Rattle.mm_gc.proofs.Refusals.{RefusesIn}
 use Rattle.mm_gc.proofs.Rows.Making as rows
 use Rattle.mm_gc.proofs.Rows.Reading.{MeansObject}
 use Rattle.mm_gc.proofs.Shown.{row-of}
+use Rattle.mm_gc.proofs.Telling.Heard.{heard-nothing}
 
 -- a call that wrote no lines
-pub tells-answered : (old new : Gc) (command : Command) (reply : Reply) (kept : Kept) → Answers old new command reply
-    → Tells old new command reply kept kept
-tells-answered old new command reply kept answers =
-    record { log = []; answers = answers; written = writes-none kept.bytes kept.broken }
+pub tells-answered : (old new : Gc) (command : Command) (reply : Reply) (heard : List Told → Type 0) → heard []
+    → Answers old new command reply → Tells old new command reply heard
+tells-answered old new command reply heard nothing answers =
+    record { log = []; answers = answers; told = heard-nothing heard (view_of_gc old).objects nothing }
 
 -- one that was refused
-pub tells-refused : (gc : Gc) (command : Command) (because : Refusal) (kept : Kept)
-    → RefusesIn (view_of_gc gc) command (Some because) → Tells gc gc command (replies.Refused because) kept kept
-tells-refused gc command because kept refuses =
-    tells-answered gc gc command (replies.Refused because) kept (refused-answers gc command because refuses)
+pub tells-refused : (gc : Gc) (command : Command) (because : Refusal) (heard : List Told → Type 0) → heard []
+    → RefusesIn (view_of_gc gc) command (Some because) → Tells gc gc command (replies.Refused because) heard
+tells-refused gc command because heard nothing refuses =
+    tells-answered gc gc command (replies.Refused because) heard nothing (refused-answers gc command because refuses)
 
-module _ (old new : Gc) (w : Wanted) (result : Option Made) (before after : Kept)
-    (s : Searches old new w result before after) where
+module _ (old new : Gc) (w : Wanted) (result : Option Made) (heard : List Told → Type 0)
+    (s : Searches old new w result heard) where
   -- a command whose row holds of what was found
   pub tells-searched : (command : Command)
       → IsViewRow (view_of_gc old) command s.log (record { view = view_of_gc new; reply = made_reply result })
-      → Tells old new command (made_reply result) before after
+      → Tells old new command (made_reply result) heard
   tells-searched command row =
       record {
         log = s.log;
         answers = row-of (view_of_gc old) (view_of_gc new) command s.log (made_reply result) row;
-        written = s.written;
+        told = s.told;
       }
 
 -- no object is answered as an area
@@ -92,15 +93,15 @@ weak-reply target view (Some base) = weak-not_area view base (object_at view.obj
 clash : {A : Type 0} → true ≡ false → A
 clash e = cc
 
-module _ (old new : Gc) (before after : Kept) where
+module _ (old new : Gc) (heard : List Told → Type 0) where
   pub object-not_area : (shape : Shape) (area : AreaAnswer)
-      → Searches old new (wanted.Object shape) (Some (made_variants.Area area)) before after → ⊥
+      → Searches old new (wanted.Object shape) (Some (made_variants.Area area)) heard → ⊥
   object-not_area shape area s =
       clash (ap (λ (v : ViewEffect). is_area_reply v.reply) s.makes.effect_is
       ∙ object-reply shape s.makes.left s.makes.found)
 
   pub weak-no_area : (target : ℕ) (area : AreaAnswer)
-      → Searches old new (wanted.WeakOf target) (Some (made_variants.Area area)) before after → ⊥
+      → Searches old new (wanted.WeakOf target) (Some (made_variants.Area area)) heard → ⊥
   weak-no_area target area s =
       clash (ap (λ (v : ViewEffect). is_area_reply v.reply) s.makes.effect_is
       ∙ weak-reply target s.makes.left s.makes.found)
@@ -108,20 +109,20 @@ module _ (old new : Gc) (before after : Kept) where
   -- `new`, once a place was looked for
   pub create-tells : (shape : Shape) (result : Option Made) → is_bad_shape shape ≡ false
       → (length old.stack.words == old.settings.stack) ≡ false
-      → Searches old new (wanted.Object shape) result before after
-      → Tells old new (commands.New shape) (made_reply result) before after
+      → Searches old new (wanted.Object shape) result heard
+      → Tells old new (commands.New shape) (made_reply result) heard
   create-tells shape result fine room s =
-      tells-searched old new (wanted.Object shape) result before after s (commands.New shape)
+      tells-searched old new (wanted.Object shape) result heard s (commands.New shape)
       (rows.new-row (view_of_gc old) shape s.log (record { view = view_of_gc new; reply = made_reply result }) fine
       room s.makes)
 
   -- `weak`
   pub weak-tells : (i word : ℕ) (o : Based ObjectView) (result : Option Made) → MeansObject (view_of_gc old) i word o
       → is_weak o.value.kind ≡ false → (length old.stack.words == old.settings.stack) ≡ false → o.value.partner ≡ None
-      → Searches old new (wanted.WeakOf o.base) result before after
-      → Tells old new (commands.Weak i) (made_reply result) before after
+      → Searches old new (wanted.WeakOf o.base) result heard
+      → Tells old new (commands.Weak i) (made_reply result) heard
   weak-tells i word o result means strong room alone s =
-      tells-searched old new (wanted.WeakOf o.base) result before after s (commands.Weak i)
+      tells-searched old new (wanted.WeakOf o.base) result heard s (commands.Weak i)
       (rows.weak-made (view_of_gc old) i word o means s.log (record {
         view = view_of_gc new;
         reply = made_reply
@@ -132,10 +133,10 @@ module _ (old new : Gc) (before after : Kept) where
   -- `root` and `fixed`
   pub area-tells : (area : AreaWanted) (result : Option Made) → is_bad_area area.counted area.cells ≡ false
       → (area.scanned ≡ false → area.counted ≡ 0) → (length (view_of_gc old).areas == most_areas) ≡ false
-      → Searches old new (wanted.Area area) result before after
-      → Tells old new (area_command area) (made_reply result) before after
+      → Searches old new (wanted.Area area) result heard
+      → Tells old new (area_command area) (made_reply result) heard
   area-tells area result fine raw few s =
-      tells-searched old new (wanted.Area area) result before after s (area_command area) (row area.scanned refl)
+      tells-searched old new (wanted.Area area) result heard s (area_command area) (row area.scanned refl)
     where
       row : (scanned : Bool) → area.scanned ≡ scanned
           → IsViewRow (view_of_gc old) (area_command area) s.log (record {

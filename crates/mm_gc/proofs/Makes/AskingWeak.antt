@@ -20,7 +20,8 @@ use Rattle.mm_gc.specs.declared.wanted.Wanted.TheVariants as wanted
 use Rattle.mm_gc.specs.Gc.{Gc, view_of_gc}
 use Rattle.mm_gc.specs.Making.{IsWantedWeak, Searches, made_reply}
 use Rattle.mm_gc.specs.Refused.{IsMeant, PushAnswer}
-use Rattle.mm_gc.specs.Rows.{Kept, Tells}
+use Rattle.mm_sweep.specs.Told.{Told}
+use Rattle.mm_gc.specs.Rows.{Tells}
 use Rattle.mm_gc.proofs.Makes.Asking.{tells-answered, tells-refused, weak-tells}
 use Rattle.mm_gc.proofs.Meaning.{means-object}
 use Rattle.mm_gc.proofs.Pushing.{word-answers}
@@ -45,27 +46,28 @@ module _ (gc : Gc) (i word : ℕ) (found : Found) (m : IsMeant gc i word found) 
   kind : {b : Bool} → is_weak found.shape.kind ≡ b → is_weak m.object.kind ≡ b
   kind e = sym (ap (λ s. is_weak s.kind) m.shape) ∙ e
 
-  pub weak-no_weak : (kept : Kept) → is_weak found.shape.kind ≡ true
-      → Tells gc gc (commands.Weak i) (replies.Refused refusals.NoWeak) kept kept
-  weak-no_weak kept weak =
-      tells-refused gc (commands.Weak i) refusals.NoWeak kept (rows.weak-weak (view_of_gc gc) i word meant means
+  pub weak-no_weak : (heard : List Told → Type 0) → heard [] → is_weak found.shape.kind ≡ true
+      → Tells gc gc (commands.Weak i) (replies.Refused refusals.NoWeak) heard
+  weak-no_weak heard nothing weak =
+      tells-refused gc (commands.Weak i) refusals.NoWeak heard nothing (rows.weak-weak (view_of_gc gc) i word meant means
       (kind weak))
 
   module _ (strong : is_weak found.shape.kind ≡ false) where
-    pub weak-stack_full : (kept : Kept) → (length gc.stack.words == gc.settings.stack) ≡ true
-        → Tells gc gc (commands.Weak i) (replies.Refused refusals.StackFull) kept kept
-    weak-stack_full kept full =
-        tells-refused gc (commands.Weak i) refusals.StackFull kept
+    pub weak-stack_full : (heard : List Told → Type 0) → heard [] → (length gc.stack.words == gc.settings.stack) ≡ true
+        → Tells gc gc (commands.Weak i) (replies.Refused refusals.StackFull) heard
+    weak-stack_full heard nothing full =
+        tells-refused gc (commands.Weak i) refusals.StackFull heard nothing
         (rows.weak-full (view_of_gc gc) i word meant means (kind strong) full)
 
     -- its weak object lives already
-    pub weak-kept_tells : (kept : Kept) (new : Gc) (link base : ℕ) → link ≡ m.object.link → link ≢ 0
-        → PushAnswer gc new link (Ok base) → Tells gc new (commands.Weak i) (replies.Word base) kept kept
-    weak-kept_tells kept new link base is some pushed =
+    pub weak-kept_tells : (heard : List Told → Type 0) → heard [] → (new : Gc) (link base : ℕ)
+        → link ≡ m.object.link → link ≢ 0 → PushAnswer gc new link (Ok base)
+        → Tells gc new (commands.Weak i) (replies.Word base) heard
+    weak-kept_tells heard nothing new link base is some pushed =
         let partner : (view_of_stored m.object).partner ≡ Some link =
         ap (λ (n : ℕ). if n == 0 then None else Some n) (sym is)
         ∙ ap (λ (b : Bool). if b then None else Some link) (refutes link 0 some) in
-        tells-answered gc new (commands.Weak i) (replies.Word base) kept
+        tells-answered gc new (commands.Weak i) (replies.Word base) heard nothing
         (word-answers gc new link (commands.Weak i)
         (λ full. rows.weak-full (view_of_gc gc) i word meant means (kind strong) full) (Ok base) pushed
         (λ room. rows.weak-kept (view_of_gc gc) i word meant means link (kind strong) room partner))
@@ -87,8 +89,8 @@ module _ (gc : Gc) (i word : ℕ) (found : Found) (m : IsMeant gc i word found) 
             room = differs (length gc.stack.words) gc.settings.stack room;
           }
 
-      pub weak-searched : (new : Gc) (before after : Kept) (result : Option Made)
-          → Searches gc new (wanted.WeakOf found.base) result before after
-          → Tells gc new (commands.Weak i) (made_reply result) before after
-      weak-searched new before after result s =
-          weak-tells gc new before after i word meant result means (kind strong) room alone s
+      pub weak-searched : (new : Gc) (heard : List Told → Type 0) (result : Option Made)
+          → Searches gc new (wanted.WeakOf found.base) result heard
+          → Tells gc new (commands.Weak i) (made_reply result) heard
+      weak-searched new heard result s =
+          weak-tells gc new heard i word meant result means (kind strong) room alone s

@@ -3,7 +3,6 @@ use Rattle.std.proofs.Common.{◌≡◌, ℕ, Bool, true, false, not, ◌&&◌, 
 use Rattle.std.proofs.Common.{None, refl, sym, ap, ◌∙◌, subst, eqb-true}
 use Rattle.std.specs.Prelude.{◌==◌, if◌then◌else◌}
 use Rattle.std.specs.List.{AllByRecursion}
-use Rattle.std.proofs.lemmas.Grind.{flat_map-append}
 use Rattle.mm_model.specs.declared.command.Command.TheVariants as commands
 use Rattle.mm_model.specs.declared.object.Colour.TheVariants.{White}
 use Rattle.mm_model.specs.declared.line.Line.{Line}
@@ -16,8 +15,6 @@ use Rattle.mm_model.specs.Phase.{lists}
 use Rattle.mm_model.specs.Views.ByBase.{Begins, Based, changed}
 use Rattle.mm_model.specs.Views.ObjectView.{ObjectView, ObjectsByBase, names_at}
 use Rattle.mm_model.specs.Views.SetsByBase.{IsReapableAt, IsReachedAt, IsUnreachedAt}
-use Rattle.mm_model.specs.Logs.Journal.{Writes}
-use Rattle.mm_model.specs.Logs.Spelling.{spelling, spelling_of}
 use Rattle.mm_model.specs.Views.View.{View}
 use Rattle.mm_model.specs.Views.ViewWords.{object_at, outside_references, marking_words, view_root_words}
 use Rattle.mm_model.specs.Views.ViewEffect.{ViewEffect, with_found, with_colour, view_weak_made}
@@ -27,7 +24,6 @@ use Rattle.mm_model.specs.Views.ViewPhase.{ViewReaps, ViewCollects}
 use Rattle.mm_model.specs.Views.ViewStep.{ViewMakes, ViewReapsOnce, ViewCollectsOnce}
 use Rattle.mm_model.proofs.Lists.Keyed.{refuted}
 use Rattle.mm_model.proofs.Lists.Passing.{any-front}
-use Rattle.mm_model.proofs.Text.Journals.{writes-none, writes-append}
 use Rattle.mm_model.proofs.View.ByBase.Entries.{begins_same}
 use Rattle.mm_model.proofs.View.ByBase.ChangedEntries.{begins_changed}
 use Rattle.mm_gc.specs.declared.wanted.Wanted.{Wanted}
@@ -39,7 +35,10 @@ use Rattle.mm_gc.specs.declared.wanted.Reach.TheVariants as reach
 use Rattle.mm_gc.specs.Gc.{Gc, view_of_gc}
 use Rattle.mm_gc.specs.Making.{IsWanted, IsWantedWeak, IsMade, Searches, family_of, bytes_of, effect_of, place_in_reach}
 use Rattle.mm_gc.specs.Making.{made_reply}
-use Rattle.mm_gc.specs.Rows.{Kept, Tells}
+use Rattle.mm_sweep.specs.Told.{Told, IsToldOf}
+use Rattle.mm_gc.specs.Rows.{Tells}
+use Rattle.mm_gc.proofs.Telling.Heard.{heard-nothing, heard-on, heard-among, all-twins}
+use Rattle.mm_gc.proofs.Telling.Lasting.{reaped-twins}
 use Rattle.mm_gc.proofs.Rows.Making.{makes-at_once, makes-after_reap, makes-after_collection}
 
 -- something was made only where there is a place
@@ -173,34 +172,34 @@ wanted-collected (wanted.WeakOf base) view lost collects asked =
     }
 
 -- what a reap and a collection are told to do
-pub told-reap : (old new : Gc) (before after : Kept) → (tells : Tells old new commands.Reap replies.Done before after)
+pub told-reap : (old new : Gc) (heard : List Told → Type 0) → (tells : Tells old new commands.Reap replies.Done heard)
     → ViewReapsOnce (view_of_gc old) tells.log (view_of_gc new)
-told-reap old new before after tells = tells.answers.row.0
+told-reap old new heard tells = tells.answers.row.0
 
-pub told-collect : (old new : Gc) (before after : Kept)
-    → (tells : Tells old new commands.Collect replies.Done before after)
+pub told-collect : (old new : Gc) (heard : List Told → Type 0)
+    → (tells : Tells old new commands.Collect replies.Done heard)
     → ViewCollectsOnce (view_of_gc old) tells.log (view_of_gc new)
-told-collect old new before after tells = tells.answers.row.0
+told-collect old new heard tells = tells.answers.row.0
 
-pub reap-wants : (w : Wanted) (old new : Gc) (before after : Kept) → IsWanted (view_of_gc old) w
-    → Tells old new commands.Reap replies.Done before after → IsWanted (view_of_gc new) w
-reap-wants w old new before after asked tells =
-    let once = told-reap old new before after tells in
+pub reap-wants : (w : Wanted) (old new : Gc) (heard : List Told → Type 0) → IsWanted (view_of_gc old) w
+    → Tells old new commands.Reap replies.Done heard → IsWanted (view_of_gc new) w
+reap-wants w old new heard asked tells =
+    let once = told-reap old new heard tells in
     subst (λ view. IsWanted view w) (sym once.left_is)
     (wanted-reaped w (view_of_gc old) once.dead once.reapable asked)
 
-pub collect-wants : (w : Wanted) (old middle new : Gc) (before after : Kept) → IsWanted (view_of_gc old) w
-    → view_of_gc middle ≡ view_of_gc old → Tells middle new commands.Collect replies.Done before after
+pub collect-wants : (w : Wanted) (old middle new : Gc) (heard : List Told → Type 0) → IsWanted (view_of_gc old) w
+    → view_of_gc middle ≡ view_of_gc old → Tells middle new commands.Collect replies.Done heard
     → IsWanted (view_of_gc new) w
-collect-wants w old middle new before after asked same tells =
-    let once = told-collect middle new before after tells in
+collect-wants w old middle new heard asked same tells =
+    let once = told-collect middle new heard tells in
     subst (λ view. IsWanted view w) (sym once.left_is)
     (wanted-collected w (view_of_gc middle) once.lost once.unreached (subst (λ view. IsWanted view w) (sym same) asked))
 
 -- found at once
-pub searches-at_once : (old new : Gc) (w : Wanted) (m : Made) (kept : Kept)
-    → IsMade (view_of_gc old) w reach.Now (view_of_gc new) (Some m) → Searches old new w (Some m) kept kept
-searches-at_once old new w m kept made =
+pub searches-at_once : (old new : Gc) (w : Wanted) (m : Made) (heard : List Told → Type 0) → heard []
+    → IsMade (view_of_gc old) w reach.Now (view_of_gc new) (Some m) → Searches old new w (Some m) heard
+searches-at_once old new w m heard nothing made =
     let view = view_of_gc old in
     let found = made-some w reach.Now view (view_of_gc new) m made in
     record {
@@ -208,33 +207,32 @@ searches-at_once old new w m kept made =
       makes = subst (ViewMakes view (family_of w) (bytes_of w) (effect_of w) [])
           (sym (ap (effect_of w view) found.1) ∙ made)
           (makes-at_once view (family_of w) (bytes_of w) (effect_of w) found.0 found.1);
-      written = writes-none kept.bytes kept.broken;
+      told = heard-nothing heard view.objects nothing;
     }
 
 -- found by a search that a heap began which shows the same
-pub searches-from : (old tried new : Gc) (w : Wanted) (result : Option Made) (before after : Kept)
-    → view_of_gc tried ≡ view_of_gc old → Searches tried new w result before after
-    → Searches old new w result before after
-searches-from old tried new w result before after same searched =
+pub searches-from : (old tried new : Gc) (w : Wanted) (result : Option Made) (heard : List Told → Type 0)
+    → view_of_gc tried ≡ view_of_gc old → Searches tried new w result heard → Searches old new w result heard
+searches-from old tried new w result heard same searched =
     record {
       log = searched.log;
       makes = subst (λ view. ViewMakes view (family_of w) (bytes_of w) (effect_of w) searched.log
           (record { view = view_of_gc new; reply = made_reply result })) same searched.makes;
-      written = searched.written;
+      told = subst (λ (v : View). IsToldOf heard v.objects searched.log) same searched.told;
     }
 
 -- after a reap
-module _ (old reaped : Gc) (w : Wanted) (before between : Kept)
+module _ (old reaped : Gc) (w : Wanted) (first : List Told → Type 0)
     (nowhere : place_in_reach reach.Now (view_of_gc old) w ≡ None)
-    (reap : Tells old reaped commands.Reap replies.Done before between) where
+    (reap : Tells old reaped commands.Reap replies.Done first) where
   abbrev view : View
   view = view_of_gc old
 
   once : ViewReapsOnce view reap.log (view_of_gc reaped)
-  once = told-reap old reaped before between reap
+  once = told-reap old reaped first reap
 
   pub searches-after_reap : (new : Gc) (m : Made) → IsMade (view_of_gc reaped) w reach.Grown (view_of_gc new) (Some m)
-      → Searches old new w (Some m) before between
+      → Searches old new w (Some m) first
   searches-after_reap new m made =
       let left = view_reaped once.dead view in
       let now = subst (λ v. IsMade v w reach.Grown (view_of_gc new) (Some m)) once.left_is made in
@@ -247,20 +245,21 @@ module _ (old reaped : Gc) (w : Wanted) (before between : Kept)
             (sym (ap (effect_of w left) found.1) ∙ now)
             (makes-after_reap view (family_of w) (bytes_of w) (effect_of w) found.0 once.dead nowhere
             once.reapable found.1));
-        written = reap.written;
+        told = reap.told;
       }
 
   -- after a reap and a collection
-  pub searches-after_collection : (again collected new : Gc) (after : Kept) (result : Option Made)
+  pub searches-after_collection : (again collected new : Gc) (next both : List Told → Type 0)
+      → ((earlier later : List Told) → first earlier → next later → both (earlier ++ later)) → (result : Option Made)
       → IsMade (view_of_gc reaped) w reach.Grown (view_of_gc again) None
-      → Tells again collected commands.Collect replies.Done between after
-      → IsMade (view_of_gc collected) w reach.Grown (view_of_gc new) result → Searches old new w result before after
-  searches-after_collection again collected new after result still collect made =
+      → Tells again collected commands.Collect replies.Done next
+      → IsMade (view_of_gc collected) w reach.Grown (view_of_gc new) result → Searches old new w result both
+  searches-after_collection again collected new next both on result still collect made =
       let left = view_reaped once.dead view in
       let none = made-nowhere w reach.Grown left (view_of_gc again)
       (subst (λ v. IsMade v w reach.Grown (view_of_gc again) None) once.left_is still) in
       let done = subst (λ v. ViewCollectsOnce v collect.log (view_of_gc collected)) none.same
-      (told-collect again collected between after collect) in
+      (told-collect again collected next collect) in
       let last = view_collected done.lost left in
       let now = subst (λ v. IsMade v w reach.Grown (view_of_gc new) result) done.left_is made in
       record {
@@ -275,8 +274,8 @@ module _ (old reaped : Gc) (w : Wanted) (before between : Kept)
             now
             (makes-after_collection view (family_of w) (bytes_of w) (effect_of w) once.dead done.lost
             (place_in_reach reach.Grown last w) nowhere once.reapable none.nowhere done.unreached refl));
-        written = subst
-            (λ text. Writes before.bytes before.broken after.bytes after.broken text)
-            (sym (flat_map-append spelling reap.log collect.log))
-            (writes-append (spelling_of reap.log) (spelling_of collect.log) reap.written collect.written);
+        told = heard-on first next both on view.objects reap.log collect.log reap.told
+            (heard-among next left.objects view.objects collect.log
+            (all-twins left.objects view.objects (reaped-twins once.dead view) collect.log)
+            (subst (λ (v : View). IsToldOf next v.objects collect.log) none.same collect.told));
       }

@@ -1,5 +1,5 @@
 -- A heap in which colours alone have changed, and the marker: a cycle has begun, or a part was scanned.
-use Rattle.std.proofs.Common.{◌≡◌, ℕ, ◌+◌, ◌-◌, ◌≤◌, Bool, true, false, [], ◌∷◌, length, Option, Some, None, refl}
+use Rattle.std.proofs.Common.{◌≡◌, ℕ, ◌+◌, ◌-◌, ◌≤◌, Bool, true, false, [], ◌∷◌, length, Option, Some, None, refl, List}
 use Rattle.std.proofs.Common.{sym, ap, ◌∙◌, subst, arith}
 use Rattle.std.specs.Prelude.{◌==◌, if◌then◌else◌}
 use Rattle.std.specs.Option.{option_map}
@@ -25,7 +25,8 @@ use Rattle.mm_count.specs.Counts.{IsCountedBy}
 use Rattle.mm_gc.specs.Gc.{Gc, objects_in, areas_in, cycle_in, freed_since, HasRoomForAll, view_of_gc}
 use Rattle.mm_gc.specs.Kept.{KeepsGc}
 use Rattle.mm_gc.specs.Phases.{IsPartScanned, HasNoneToScan, ScanAnswer}
-use Rattle.mm_gc.specs.Rows.{Kept, Answers, IsRowOf, WritesLines}
+use Rattle.mm_sweep.specs.Told.{Told, Scan}
+use Rattle.mm_gc.specs.Rows.{Answers, IsRowOf}
 use Rattle.mm_gc.specs.Showing.{IsShowing}
 use Rattle.mm_gc.proofs.Colours.Alike.{all_white, all_white-white}
 use Rattle.mm_gc.proofs.Colours.AlikeHeaps.{rest-alike}
@@ -34,7 +35,6 @@ use Rattle.mm_gc.proofs.Frees.Freed.{same-parts, outside-kept}
 use Rattle.mm_gc.proofs.Keeping.Rooms.{HasSameRooms, rooms-kept, pieces-kept}
 use Rattle.mm_gc.proofs.Rows.Phases.{Runs, begin-row, step-row}
 use Rattle.mm_gc.proofs.Marking.Scanned.{enough-reached}
-use Rattle.mm_gc.proofs.Keeping.Untouched.{writes-nothing}
 use Rattle.mm_gc.proofs.Writing.Settling.{same_region-objects, areas-objects}
 use Rattle.mm_gc.proofs.Shown.{row-of, row-shows}
 
@@ -202,11 +202,10 @@ module _ (old : Gc) (keeps : KeepsGc old) (heap : Heap) (marker : Marker) (runs 
       }
 
   pub part-scanned : (part : Part)
-      → IsPartDone (marking old.marker old.region.heap) (marking marker heap) part → (before after : Kept)
-      → WritesLines before after (lines.Scan part.base part.slots ∷ [])
-      → IsPartScanned (view_of_gc old) (view_of_gc scanned) part.slots before after
+      → IsPartDone (marking old.marker old.region.heap) (marking marker heap) part → (heard : List Told → Type 0)
+      → heard (Scan part.base part.slots ∷ []) → IsPartScanned (view_of_gc old) (view_of_gc scanned) part.slots heard
   unfolding shows-marking
-  part-scanned part done before after written =
+  part-scanned part done heard tells =
       let view = view_of_gc old in
       let of = done view shows-marking in
       let o : Based ObjectView = record { base = part.base; value = of.object } in
@@ -225,14 +224,14 @@ module _ (old : Gc) (keeps : KeepsGc old) (heap : Heap) (marker : Marker) (runs 
         done = view-remarked old keeps heap same marker old.gone_before left.objects left.cycle (sym of.done.shown)
             cycle
             ∙ part_done-rest view o;
-        written = written;
+        told = tells;
       }
 
   -- nothing was scanned, and nothing has changed
   pub none-scanned : HasNoGray (marking old.marker old.region.heap) → heap ≡ old.region.heap
-      → marker.partly ≡ old.marker.partly → (kept : Kept)
-      → HasNoneToScan (view_of_gc old) (view_of_gc scanned) kept kept
-  none-scanned none heap_same partly kept =
+      → marker.partly ≡ old.marker.partly → (heard : List Told → Type 0) → heard []
+      → HasNoneToScan (view_of_gc old) (view_of_gc scanned) heard
+  none-scanned none heap_same partly heard nothing =
       let cycle : cycle_in scanned ≡ cycle_in old =
       ap (λ (b : Bool). told b marker.partly) still-runs ∙ ap (told true) partly
       ∙ ap (λ (b : Bool). told b old.marker.partly) (sym runs) in
@@ -240,7 +239,7 @@ module _ (old : Gc) (keeps : KeepsGc old) (heap : Heap) (marker : Marker) (runs 
         none = none (view_of_gc old) shows-marking;
         same = view-remarked old keeps heap same marker old.gone_before (objects_in old.region) (cycle_in old)
             (ap (λ (h : Heap). views_of h.objects) heap_same) cycle;
-        written = writes-nothing kept;
+        told = nothing;
       }
 
   pub keeps-scanned : IsSound heap → AreKnown marker (views_of heap.objects)
@@ -255,9 +254,9 @@ module _ (old : Gc) (keeps : KeepsGc old) (heap : Heap) (marker : Marker) (runs 
       clash e = cc
 
 -- One part is a step of cost 1, after which a good state is shown again.
-pub part-shows : (view left : View) → IsShowing view → Runs view → (slots : ℕ) (before after : Kept)
-    → IsPartScanned view left slots before after → IsShowing left
-part-shows view left showing runs slots before after p =
+pub part-shows : (view left : View) → IsShowing view → Runs view → (slots : ℕ)
+    (heard : List Told → Type 0) → IsPartScanned view left slots heard → IsShowing left
+part-shows view left showing runs slots heard p =
     let line = lines.Scan p.object.base (length (view_part_slots view p.object)) in
     row-shows view left (commands.Step 1) (line ∷ []) replies.Done showing
     (step-row view 1 (line ∷ []) left runs (record {
@@ -267,7 +266,7 @@ part-shows view left showing runs slots before after p =
           (omega arith);
     }))
 
-pub answer-shows : (view left : View) → IsShowing view → Runs view → (result : Option ℕ) (before after : Kept)
-    → ScanAnswer view left before after result → IsShowing left
-answer-shows view left showing runs None before after n = subst IsShowing (sym n.same) showing
-answer-shows view left showing runs (Some slots) before after p = part-shows view left showing runs slots before after p
+pub answer-shows : (view left : View) → IsShowing view → Runs view → (result : Option ℕ)
+    (heard : List Told → Type 0) → ScanAnswer view left heard result → IsShowing left
+answer-shows view left showing runs None heard n = subst IsShowing (sym n.same) showing
+answer-shows view left showing runs (Some slots) heard p = part-shows view left showing runs slots heard p

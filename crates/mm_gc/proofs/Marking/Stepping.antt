@@ -2,7 +2,7 @@
 use Rattle.std.proofs.Common.{◌≡◌, ℕ, ◌+◌, ◌-◌, ◌*◌, ◌<◌, ◌≤◌, ◌⊎◌, inl, inr, List, [], ◌∷◌, ◌++◌, take, length}
 use Rattle.std.specs.Prelude.{drop}
 use Rattle.std.proofs.lemmas.List.{length-take}
-use Rattle.std.proofs.Common.{sum, refl, sym, subst, append-nil, arith}
+use Rattle.std.proofs.Common.{sum, refl, sym, ap, subst, append-nil, arith}
 use Rattle.mm_model.specs.declared.command.Command.TheVariants as commands
 use Rattle.mm_model.specs.declared.line.Line.{Line}
 use Rattle.mm_model.specs.declared.line.Line.TheVariants as lines
@@ -14,38 +14,40 @@ use Rattle.mm_model.specs.Views.View.{View}
 use Rattle.mm_model.specs.Views.ViewStep.{slots_done_in, view_part_slots, ViewScansAll, NoGray}
 use Rattle.mm_mark.specs.Marker.{Marking}
 use Rattle.mm_mark.specs.Stale.{HasFewStale, IsPaid}
+use Rattle.mm_sweep.specs.Told.{Told, Scan, IsToldOf}
 use Rattle.mm_gc.specs.Gc.{Gc, view_of_gc}
 use Rattle.mm_gc.specs.Phases.{IsPartScanned, HasNoneToScan, ScansTo}
-use Rattle.mm_gc.specs.Rows.{Kept, Tells, WritesLines}
+use Rattle.mm_gc.specs.Rows.{Tells}
 use Rattle.mm_gc.proofs.Marking.Scanned.{scans-push, cost-push, last-below, enough-drained}
 use Rattle.mm_gc.proofs.Rows.Phases.{Runs, step-row}
 use Rattle.mm_gc.proofs.Shown.{row-of}
-use Rattle.mm_gc.proofs.Keeping.Untouched.{writes-nothing, writes-on}
+use Rattle.mm_gc.proofs.Telling.Heard.{heard-nothing, heard-on}
 
 -- Parts that cost so much together were scanned, and all but the last cost less than k.
-pub record IsScanning (old : View) (k cost : ℕ) (now : View) (before after : Kept) : Type 0 where
+pub record IsScanning (old : View) (k cost : ℕ) (now : View) (heard : List Told → Type 0) : Type 0 where
   pub objects : List (Based ObjectView)
   pub log : List Line
   pub scanned : ViewScansAll old objects log now
   pub costs_are : sum (costs log) ≡ cost
   pub last : (log ≡ []) ⊎ (sum (take (length log - 1) (costs log)) < k)
-  pub written : WritesLines before after log
+  pub told : IsToldOf heard old.objects log
 
-pub scanning-begins : (view : View) (k : ℕ) (kept : Kept) → IsScanning view k 0 view kept kept
-scanning-begins view k kept =
+pub scanning-begins : (view : View) (k : ℕ) (heard : List Told → Type 0) → heard [] → IsScanning view k 0 view heard
+scanning-begins view k heard nothing =
     record {
       objects = [];
       log = [];
       scanned = (refl, refl);
       costs_are = refl;
       last = inl refl;
-      written = writes-nothing kept;
+      told = heard-nothing heard view.objects nothing;
     }
 
-pub scanning-goes_on : (old : View) (k cost : ℕ) (now next : View) (slots : ℕ) (before middle after : Kept)
-    → IsScanning old k cost now before middle → cost < k → IsPartScanned now next slots middle after
-    → IsScanning old k (cost + (1 + slots)) next before after
-scanning-goes_on old k cost now next slots before middle after s below p =
+pub scanning-goes_on : (old : View) (k cost : ℕ) (now next : View) (slots : ℕ) (first part both : List Told → Type 0)
+    → ((earlier later : List Told) → first earlier → part later → both (earlier ++ later))
+    → IsScanning old k cost now first → cost < k → IsPartScanned now next slots part
+    → IsScanning old k (cost + (1 + slots)) next both
+scanning-goes_on old k cost now next slots first part both on s below p =
     let many = length (view_part_slots now p.object) in
     let line = lines.Scan p.object.base many in
     let same = p.slots_are in
@@ -58,14 +60,19 @@ scanning-goes_on old k cost now next slots before middle after s below p =
           (scans-push old now s.objects p.object s.log s.scanned p.may);
       costs_are = omega (arith, same, so_far, total);
       last = inr (last-below k s.log p.object.base many (omega (arith, so_far, below)));
-      written = writes-on before middle after s.log (line ∷ []) s.written
-          (subst (λ (n : ℕ). WritesLines middle after (lines.Scan p.object.base n ∷ [])) same p.written);
+      told = heard-on first part both on old.objects s.log (line ∷ []) s.told
+          (record {
+            told = Scan p.object.base slots ∷ [];
+            was = p.told;
+            lines_are = ap (λ (n : ℕ). lines.Scan p.object.base n ∷ []) same;
+            words_are = (tt, tt);
+          });
     }
 
-pub scanning-drained : (old : View) (k cost : ℕ) (now next : View) (before middle after : Kept)
-    → IsScanning old k cost now before middle → cost < k → HasNoneToScan now next middle after
-    → ScansTo old k next before after
-scanning-drained old k cost now next before middle after s below n =
+pub scanning-drained : (old : View) (k cost : ℕ) (now next : View) (first last both : List Told → Type 0)
+    → ((earlier later : List Told) → first earlier → last later → both (earlier ++ later))
+    → IsScanning old k cost now first → cost < k → HasNoneToScan now next last → ScansTo old k next both
+scanning-drained old k cost now next first last both on s below n =
     let so_far = s.costs_are in
     record {
       log = s.log;
@@ -75,8 +82,8 @@ scanning-drained old k cost now next before middle after s below n =
         enough = enough-drained k s.log next (omega (arith, so_far, below))
             (subst (λ (v : View). NoGray v) (sym n.same) n.none);
       };
-      written = subst (λ (log : List Line). WritesLines before after log) (append-nil s.log)
-          (writes-on before middle after s.log [] s.written n.written);
+      told = subst (IsToldOf both old.objects) (append-nil s.log)
+          (heard-on first last both on old.objects s.log [] s.told (heard-nothing last old.objects n.told));
     }
 
 -- what one more part costs is paid for after what was paid before
@@ -90,20 +97,19 @@ paid-on before after spent steps bound cost more so_far part within =
     record { left = next.left; few = next.few; paid = omega (arith, first, second, within) }
 
 -- a part has at most 64 slots
-pub part-few : (old new : View) (slots : ℕ) (before after : Kept) → IsPartScanned old new slots before after
+pub part-few : (old new : View) (slots : ℕ) (heard : List Told → Type 0) → IsPartScanned old new slots heard
     → slots ≤ 64
-part-few old new slots before after p =
+part-few old new slots heard p =
     let same = p.slots_are in
     let few = length-take 64 (drop (slots_done_in old.cycle p.object.base) (scanned_words_of p.object.value)) in
     omega (arith, same, few)
 
-pub tells-scanned : (old new : Gc) (k : ℕ) (before after : Kept) → Runs (view_of_gc old)
-    → ScansTo (view_of_gc old) k (view_of_gc new) before after
-    → Tells old new (commands.Step k) replies.Done before after
-tells-scanned old new k before after runs s =
+pub tells-scanned : (old new : Gc) (k : ℕ) (heard : List Told → Type 0) → Runs (view_of_gc old)
+    → ScansTo (view_of_gc old) k (view_of_gc new) heard → Tells old new (commands.Step k) replies.Done heard
+tells-scanned old new k heard runs s =
     record {
       log = s.log;
       answers = row-of (view_of_gc old) (view_of_gc new) (commands.Step k) s.log replies.Done
           (step-row (view_of_gc old) k s.log (view_of_gc new) runs s.scans);
-      written = s.written;
+      told = s.told;
     }

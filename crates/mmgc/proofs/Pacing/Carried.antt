@@ -11,7 +11,7 @@ use Rattle.mm_model.specs.State.{empty_state}
 use Rattle.mm_model.specs.Logs.Turns.{Turn}
 use Rattle.mm_model.proofs.Good.Starting.{empty_is_good}
 use Rattle.mm_gc.specs.Gc.{Gc, view_of_gc}
-use Rattle.mm_gc.specs.Rows.{Kept}
+use Rattle.mmgc.specs.Writing.{Kept}
 use Rattle.mm_pace.specs.declared.pace.Pace.{Pace}
 use Rattle.mm_pace.specs.Rules.{rules_at}
 use Rattle.mm_pace.specs.Paced.{AreAdded, AreCommandsOf, IsPaced, IsPacedList, commands_in}

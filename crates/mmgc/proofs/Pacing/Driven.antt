@@ -27,7 +27,8 @@ use Rattle.mm_laws.proofs.Turning.Faithful.{steps-more}
 use Rattle.mm_laws.proofs.Turning.Knowing.{turn_of}
 use Rattle.mm_laws.proofs.Turning.Replies.{group-step}
 use Rattle.mm_gc.specs.Gc.{Gc, totals_in, view_of_gc}
-use Rattle.mm_gc.specs.Rows.{Kept, IsStepOf}
+use Rattle.mm_gc.specs.Rows.{IsStepOf}
+use Rattle.mmgc.specs.Writing.{Kept}
 use Rattle.mm_pace.specs.declared.pace.Pace.{Pace}
 use Rattle.mm_pace.specs.Recent.{extent_born, since, work_begun}
 use Rattle.mm_pace.specs.Rules.{Rule, command_if, due_begin, due_finish, due_step, rules_at, runs_after, step_for}

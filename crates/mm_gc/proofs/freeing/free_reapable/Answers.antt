@@ -32,8 +32,8 @@ release-requires-clause-settled g c =
 pub returns-clause-bases : goal.returns-clause-bases
 returns-clause-bases g c outside h = c.reap-found.ensures.bases outside h.counted
 
-pub returns-clause-written : goal.returns-clause-written
-returns-clause-written g c view seen = c.release.ensures.written view (seen ∙ sym c.reap-found.ensures.heap.views)
+pub returns-clause-told : goal.returns-clause-told
+returns-clause-told g c view seen = c.release.ensures.told view (seen ∙ sym c.reap-found.ensures.heap.views)
 
 pub returns-clause-objects : goal.returns-clause-objects
 returns-clause-objects g c =

@@ -1,17 +1,15 @@
-use Rattle.std.proofs.Common.{ℕ, ◌+◌, ◌*◌, List, take, refl, sym, ap, ◌∙◌, subst, arith}
+use Rattle.std.proofs.Common.{ℕ, ◌+◌, ◌*◌, take, refl, sym, ap, ◌∙◌, arith}
 use Rattle.std.proofs.lemmas.List.{length-take-le}
-use Rattle.mm_model.specs.declared.line.Line.{Line}
 use Rattle.mm_model.specs.declared.line.Phase.TheVariants as phases
 use Rattle.mm_model.specs.Views.View.{View}
-use Rattle.mm_model.specs.Logs.Journal.{Writes}
-use Rattle.mm_model.specs.Logs.Spelling.{spelling_of}
 use Rattle.mm_object.specs.Object.{views_of}
 use Rattle.mm_sweep.specs.Sweep.{IsWhiteAt}
 use Rattle.mm_gc.specs.Gc.{objects_in}
-use Rattle.mm_gc.proofs.Colours.Alike.{all_white, AreAlike, all_white-twice, pieces-alike, phase_lines-alike}
+use Rattle.mm_gc.proofs.Colours.Alike.{all_white, AreAlike, all_white-twice, pieces-alike}
 use Rattle.mm_gc.proofs.Marking.FinishCost.{finalized-alike, counted-found}
 use Rattle.mm_gc.proofs.Writing.Settling.{settled-objects}
 use Rattle.mm_gc.proofs.Frees.Sweeping.{releasable, linked-whitened}
+use Rattle.mm_gc.proofs.Telling.Heard.{heard-alike}
 use Rattle.mm_gc.proofs.freeing.free_white.Goals as goal
 
 pub release-requires-clause-dead : goal.release-requires-clause-dead
@@ -33,17 +31,15 @@ release-requires-clause-settled g c =
     settled-objects c.args.region.now after c.sweep-found.ensures.rest c.requires.settled
     (pieces-alike (views_of after.objects) views same) c.sweep-found.ensures.sound
 
-pub returns-clause-written : goal.returns-clause-written
-returns-clause-written g c view seen =
+pub returns-clause-told : goal.returns-clause-told
+returns-clause-told g c view seen =
     let views = objects_in c.args.region.now in
     let bases = take c.sweep-found.result c.sweep-found.new.dead.words in
     let middle : View = record view { objects = views_of c.sweep-found.new.heap.objects } in
     let same : AreAlike middle.objects view.objects =
     ap all_white c.sweep-found.ensures.views ∙ all_white-twice views ∙ ap all_white (sym seen) in
-    subst (λ (log : List Line). Writes (g.J.Finalizer.kept c.args.journal.now)
-    (g.J.Finalizer.is_broken c.args.journal.now) (g.J.Finalizer.kept c.release.new.journal)
-    (g.J.Finalizer.is_broken c.release.new.journal) (spelling_of log))
-    (phase_lines-alike phases.Collect middle view same bases) (c.release.ensures.written middle refl)
+    heard-alike (g.J.Finalizer.tells c.args.journal.now c.release.new.journal) phases.Collect middle view same bases
+    (c.release.ensures.told middle refl)
 
 pub returns-clause-counted : goal.returns-clause-counted
 returns-clause-counted g c outside h =

@@ -1,21 +1,17 @@
 use Rattle.std.proofs.Common.{ℕ, ◌<◌, List, length, take, sym, ap, subst, arith}
 use Rattle.std.specs.Prelude.{slice_index}
-use Rattle.mm_model.specs.Logs.Journal.{Writes}
-use Rattle.mm_model.specs.Logs.Spelling.{spelling_of}
-use Rattle.mm_model.specs.Views.ViewPhase.{view_final_lines}
 use Rattle.mm_model.specs.Views.ViewWords.{object_at}
-use Rattle.mm_model.proofs.Text.Journals.{writes-none, writes-append}
 use Rattle.mm_object.specs.Object.{views_of}
 use Rattle.mm_object.specs.Heap.{IsObject}
-use Rattle.mm_sweep.specs.Release.{final_lines_at, final_slots}
-use Rattle.mm_sweep.proofs.Bases.{each_at, final_lines-next, finalized_slots-next}
+use Rattle.mm_sweep.specs.Release.{final_slots, final_told, finals_told}
+use Rattle.mm_sweep.specs.Told.{Told}
+use Rattle.mm_sweep.proofs.Bases.{each_at, finals_told-next, finalized_slots-next}
 use Rattle.mm_sweep.proofs.finalizing.run_finalizers.Goals as goal
 
 pub loop-i-init : goal.loop-i-init
 loop-i-init g c =
     record {
-      written = writes-none (g.J.Finalizer.kept c.args.journal.now) (g.J.Finalizer.is_broken c.args.journal.now);
-      kept = g.met.J.Finalizer.keeps_itself c.args.journal.now;
+      told = g.met.J.Finalizer.tells_nothing c.args.journal.now;
       cost = omega arith;
     }
 
@@ -34,20 +30,15 @@ loop-i-preserved g c =
     let slots = finalized_slots-next objects words i within in
     let own = ap (λ (base : ℕ). final_slots (object_at objects base)) c.get.ensures in
     record {
-      written =
+      told =
           subst
-          (λ (bytes : List ℕ). Writes (g.J.Finalizer.kept c.args.journal.now)
-          (g.J.Finalizer.is_broken c.args.journal.now)
-          (g.J.Finalizer.kept c.run_finalizer.new.journal) (g.J.Finalizer.is_broken c.run_finalizer.new.journal) bytes)
-          (final_lines-next objects words i within)
-          (writes-append (spelling_of (final_lines_at objects (take i words)))
-          (spelling_of (view_final_lines (object_at objects (slice_index words i)))) c.loop-i.invariant.written
+          (λ (told : List Told). g.J.Finalizer.tells c.args.journal.now c.run_finalizer.new.journal told)
+          (finals_told-next objects words i within)
+          (g.met.J.Finalizer.tells_on c.args.journal.now c.loop-i.journal c.run_finalizer.new.journal
+          (finals_told objects (take i words)) (final_told (object_at objects (slice_index words i)))
+          c.loop-i.invariant.told
           (subst
-          (λ (base : ℕ). Writes (g.J.Finalizer.kept c.loop-i.journal) (g.J.Finalizer.is_broken c.loop-i.journal)
-          (g.J.Finalizer.kept c.run_finalizer.new.journal) (g.J.Finalizer.is_broken c.run_finalizer.new.journal)
-          (spelling_of (view_final_lines (object_at objects base)))) c.get.ensures c.run_finalizer.ensures.written));
-      kept =
-          g.met.J.Finalizer.keeps_on c.args.journal.now c.loop-i.journal c.run_finalizer.new.journal
-          c.loop-i.invariant.kept c.run_finalizer.ensures.kept;
+          (λ (base : ℕ). g.J.Finalizer.tells c.loop-i.journal c.run_finalizer.new.journal
+          (final_told (object_at objects base))) c.get.ensures c.run_finalizer.ensures.told));
       cost = omega (arith, c.loop-i.invariant.cost, c.run_finalizer.ensures.cost);
     }

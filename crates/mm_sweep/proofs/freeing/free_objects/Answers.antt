@@ -1,14 +1,11 @@
 use Rattle.std.proofs.Common.{◌≡◌, ℕ, ◌+◌, ◌*◌, ◌<◌, ◌≤◌, ◌^◌, List, [], ◌∷◌, map, length, take, sym, ap, subst, arith}
 use Rattle.std.specs.Prelude.{slice_index}
 use Rattle.std.proofs.lemmas.Nat.{rows}
-use Rattle.mm_model.specs.declared.line.Line.TheVariants as lines
-use Rattle.mm_model.specs.Logs.Journal.{Writes}
-use Rattle.mm_model.specs.Logs.Spelling.{spelling_of}
-use Rattle.mm_model.proofs.Text.Journals.{writes-none, writes-append}
 use Rattle.mm_pages.specs.Pages.{Pages}
 use Rattle.mm_object.specs.Heap.{IsObject}
 use Rattle.mm_sweep.specs.Release.{Frees}
-use Rattle.mm_sweep.proofs.Bases.{each_at, take-next, lists-before, free_lines-next}
+use Rattle.mm_sweep.specs.Told.{Told, Free}
+use Rattle.mm_sweep.proofs.Bases.{each_at, take-next, lists-before, frees_told-next}
 use Rattle.mm_sweep.proofs.Freed.{frees-none, frees-more, stays-object}
 use Rattle.mm_sweep.proofs.freeing.free_objects.Goals as goal
 
@@ -23,8 +20,7 @@ one_more a b c m i first next =
 pub loop-i-init : goal.loop-i-init
 loop-i-init g c =
     record {
-      written = writes-none (g.J.Finalizer.kept c.args.journal.now) (g.J.Finalizer.is_broken c.args.journal.now);
-      kept = g.met.J.Finalizer.keeps_itself c.args.journal.now;
+      told = g.met.J.Finalizer.tells_nothing c.args.journal.now;
       frees = frees-none c.args.heap.now c.args.pages.now;
       linked = c.requires.linked;
       fits = c.requires.fits;
@@ -48,22 +44,15 @@ loop-i-preserved g c =
     let i = c.loop-i.i in
     let within : i < length words = omega (arith, c.requires.within) in
     record {
-      written =
+      told =
           subst
-          (λ (bytes : List ℕ). Writes (g.J.Finalizer.kept c.args.journal.now)
-          (g.J.Finalizer.is_broken c.args.journal.now)
-          (g.J.Finalizer.kept c.free_object.new.journal) (g.J.Finalizer.is_broken c.free_object.new.journal) bytes)
-          (free_lines-next words i within)
-          (writes-append (spelling_of (map lines.Free (take i words)))
-          (spelling_of (lines.Free (slice_index words i) ∷ []))
-          c.loop-i.invariant.written
+          (λ (told : List Told). g.J.Finalizer.tells c.args.journal.now c.free_object.new.journal told)
+          (frees_told-next words i within)
+          (g.met.J.Finalizer.tells_on c.args.journal.now c.loop-i.journal c.free_object.new.journal
+          (map Free (take i words)) (Free (slice_index words i) ∷ []) c.loop-i.invariant.told
           (subst
-          (λ (base : ℕ). Writes (g.J.Finalizer.kept c.loop-i.journal) (g.J.Finalizer.is_broken c.loop-i.journal)
-          (g.J.Finalizer.kept c.free_object.new.journal) (g.J.Finalizer.is_broken c.free_object.new.journal)
-          (spelling_of (lines.Free base ∷ []))) c.get.ensures c.free_object.ensures.written));
-      kept =
-          g.met.J.Finalizer.keeps_on c.args.journal.now c.loop-i.journal c.free_object.new.journal
-          c.loop-i.invariant.kept c.free_object.ensures.kept;
+          (λ (base : ℕ). g.J.Finalizer.tells c.loop-i.journal c.free_object.new.journal (Free base ∷ []))
+          c.get.ensures c.free_object.ensures.told));
       frees =
           subst
           (λ (bases : List ℕ). Frees bases c.args.heap.now c.free_object.new.heap c.args.pages.now

@@ -6,14 +6,7 @@ use Rattle.mm_gc.proofs.gc.Gc.carry_out.Goals as goal
 pub returns-in-New-clause-commands : goal.returns-in-New-clause-commands
 returns-in-New-clause-commands g c =
     tells-commands c.args.self.now c.create.new.self (commands.New c.in-New.shape) (new_reply c.create.result)
-    (record {
-      bytes = g.J.Finalizer.kept c.args.journal.now;
-      broken = g.J.Finalizer.is_broken c.args.journal.now;
-    })
-    (record {
-      bytes = g.J.Finalizer.kept c.create.new.journal;
-      broken = g.J.Finalizer.is_broken c.create.new.journal;
-    })
+    (g.J.Finalizer.tells c.args.journal.now c.create.new.journal)
     c.create.ensures.row
 
 pub returns-in-Put-clause-commands : goal.returns-in-Put-clause-commands
@@ -24,14 +17,7 @@ returns-in-Put-clause-commands g c =
 pub returns-in-Weak-clause-commands : goal.returns-in-Weak-clause-commands
 returns-in-Weak-clause-commands g c =
     tells-commands c.args.self.now c.weak.new.self (commands.Weak c.in-Weak.i) (weak_reply c.weak.result)
-    (record {
-      bytes = g.J.Finalizer.kept c.args.journal.now;
-      broken = g.J.Finalizer.is_broken c.args.journal.now;
-    })
-    (record {
-      bytes = g.J.Finalizer.kept c.weak.new.journal;
-      broken = g.J.Finalizer.is_broken c.weak.new.journal;
-    })
+    (g.J.Finalizer.tells c.args.journal.now c.weak.new.journal)
     c.weak.ensures.row
 
 pub returns-in-AreaPut-clause-commands : goal.returns-in-AreaPut-clause-commands
@@ -43,12 +29,5 @@ returns-in-AreaPut-clause-commands g c =
 pub returns-in-Step-clause-commands : goal.returns-in-Step-clause-commands
 returns-in-Step-clause-commands g c =
     tells-commands c.args.self.now c.step.new.self (commands.Step c.in-Step.k) (done_reply c.step.result)
-    (record {
-      bytes = g.J.Finalizer.kept c.args.journal.now;
-      broken = g.J.Finalizer.is_broken c.args.journal.now;
-    })
-    (record {
-      bytes = g.J.Finalizer.kept c.step.new.journal;
-      broken = g.J.Finalizer.is_broken c.step.new.journal;
-    })
+    (g.J.Finalizer.tells c.args.journal.now c.step.new.journal)
     c.step.ensures.row

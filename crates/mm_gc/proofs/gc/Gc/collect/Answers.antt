@@ -88,17 +88,9 @@ returns-clause-row g c =
       freed = old.freed + found.result;
     } in
     subst (λ (gc : Gc). Tells gc after commands.Collect replies.Done
-    (record { bytes = g.J.Finalizer.kept c.args.journal.now; broken = g.J.Finalizer.is_broken c.args.journal.now })
-    (record {
-      bytes = g.J.Finalizer.kept found.new.journal;
-      broken = g.J.Finalizer.is_broken found.new.journal;
-    })) c.self.view_is
+    (g.J.Finalizer.tells c.args.journal.now found.new.journal)) c.self.view_is
     (tells-collected old c.self.invariant c.mark_all.new.heap found.new.region found.new.count c.mark_all.new.marker
     c.end.new.self dead (location_of found.new.dead) found.result (has g c) c.mark_all.ensures.runs c.end.ensures.idle
     found.ensures.dead (so_many g c) commands.Collect
-    (record { bytes = g.J.Finalizer.kept c.args.journal.now; broken = g.J.Finalizer.is_broken c.args.journal.now })
-    (record {
-      bytes = g.J.Finalizer.kept found.new.journal;
-      broken = g.J.Finalizer.is_broken found.new.journal;
-    })
-    (collect-row (view_of_gc old) dead (c.mark_all.ensures.unreached dead found.ensures.bases)) found.ensures.written)
+    (g.J.Finalizer.tells c.args.journal.now found.new.journal)
+    (collect-row (view_of_gc old) dead (c.mark_all.ensures.unreached dead found.ensures.bases)) found.ensures.told)

@@ -5,10 +5,7 @@ use Rattle.mm_gc.proofs.gc.Gc.end.Goals as goal
 pub returns-then-len-self-clause-ends : goal.returns-then-len-self-clause-ends
 returns-then-len-self-clause-ends g c =
     ends-below c.args.self.now c.args.refused
-    (record {
-      bytes = g.J.Finalizer.kept c.args.journal.now;
-      broken = g.J.Finalizer.is_broken c.args.journal.now;
-    })
+    (g.J.Finalizer.tells c.args.journal.now c.args.journal.now) (g.met.J.Finalizer.tells_nothing c.args.journal.now)
     c.if-refused.false
     (below-threshold c.args.self.now (gc_of c.self.inside) c.self.view_is c.self.invariant c.len.result c.len.ensures
     c.if-len-self.true)
@@ -16,14 +13,7 @@ returns-then-len-self-clause-ends g c =
 pub returns-clause-ends : goal.returns-clause-ends
 returns-clause-ends g c =
     ends-reap c.args.self.now c.reap_at_end.new.self c.args.refused
-    (record {
-      bytes = g.J.Finalizer.kept c.args.journal.now;
-      broken = g.J.Finalizer.is_broken c.args.journal.now;
-    })
-    (record {
-      bytes = g.J.Finalizer.kept c.reap_at_end.new.journal;
-      broken = g.J.Finalizer.is_broken c.reap_at_end.new.journal;
-    })
+    (g.J.Finalizer.tells c.args.journal.now c.reap_at_end.new.journal)
     c.if-refused.false
     (at-threshold c.args.self.now (gc_of c.self.inside) c.self.view_is c.self.invariant c.len.result c.len.ensures
     c.if-len-self.false)

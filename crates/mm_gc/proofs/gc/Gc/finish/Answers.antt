@@ -9,7 +9,7 @@ use Rattle.mm_object.specs.Object.{views_of}
 use Rattle.mm_object.specs.Heap.{Heap}
 use Rattle.mm_gc.specs.Gc.{Gc, objects_in, freed_since, view_of_gc}
 use Rattle.mm_gc.specs.Inside.{gc_of}
-use Rattle.mm_gc.specs.Rows.{Kept, Tells}
+use Rattle.mm_gc.specs.Rows.{Tells}
 use Rattle.mm_gc.specs.Steps.{IsFinishCost}
 use Rattle.mm_gc.proofs.Colours.Alike.{AreAlike}
 use Rattle.mm_gc.proofs.Colours.AlikeHeaps.{views-alike, rest-alike}
@@ -27,12 +27,10 @@ use Rattle.mm_gc.proofs.gc.Gc.finish.Goals as goal
 pub returns-then-not-running-clause-row : goal.returns-then-not-running-clause-row
 returns-then-not-running-clause-row g c =
     let gc = gc_of c.self.inside in
-    let kept : Kept = record {
-      bytes = g.J.Finalizer.kept c.args.journal.now;
-      broken = g.J.Finalizer.is_broken c.args.journal.now;
-    } in
-    subst (λ (gc : Gc). Tells gc gc commands.Finish (replies.Refused refusals.Idle) kept kept) c.self.view_is
-    (tells-refused gc commands.Finish refusals.Idle kept
+    subst (λ (gc : Gc). Tells gc gc commands.Finish (replies.Refused refusals.Idle)
+    (g.J.Finalizer.tells c.args.journal.now c.args.journal.now)) c.self.view_is
+    (tells-refused gc commands.Finish refusals.Idle (g.J.Finalizer.tells c.args.journal.now c.args.journal.now)
+    (g.met.J.Finalizer.tells_nothing c.args.journal.now)
     (finish-idle (view_of_gc gc) (idle-told gc (sym c.running.ensures ∙ c.if-not-running.true))))
 
 pub mark_rest-requires-clause-keeps : goal.mark_rest-requires-clause-keeps
@@ -115,21 +113,13 @@ returns-clause-row g c =
       freed = old.freed + found.result;
     } in
     subst (λ (gc : Gc). Tells gc after commands.Finish replies.Done
-    (record { bytes = g.J.Finalizer.kept c.args.journal.now; broken = g.J.Finalizer.is_broken c.args.journal.now })
-    (record {
-      bytes = g.J.Finalizer.kept found.new.journal;
-      broken = g.J.Finalizer.is_broken found.new.journal;
-    })) c.self.view_is
+    (g.J.Finalizer.tells c.args.journal.now found.new.journal)) c.self.view_is
     (tells-collected old c.self.invariant c.mark_rest.new.heap found.new.region found.new.count c.mark_rest.new.marker
     c.end.new.self dead (location_of found.new.dead) found.result (has g c) c.mark_rest.ensures.runs c.end.ensures.idle
     found.ensures.dead (so_many g c) commands.Finish
-    (record { bytes = g.J.Finalizer.kept c.args.journal.now; broken = g.J.Finalizer.is_broken c.args.journal.now })
-    (record {
-      bytes = g.J.Finalizer.kept found.new.journal;
-      broken = g.J.Finalizer.is_broken found.new.journal;
-    })
+    (g.J.Finalizer.tells c.args.journal.now found.new.journal)
     (finish-row (view_of_gc old) dead (runs-told old (sym c.running.ensures ∙ c.if-not-running.false))
-    (c.mark_rest.ensures.unmarked dead found.ensures.bases)) found.ensures.written)
+    (c.mark_rest.ensures.unmarked dead found.ensures.bases)) found.ensures.told)
 
 pub returns-clause-cost : goal.returns-clause-cost
 returns-clause-cost g c =

@@ -8,7 +8,7 @@ use Rattle.mm_model.specs.Views.ViewWords.{outside_references}
 use Rattle.mm_words.specs.Location.{location_of}
 use Rattle.mm_gc.specs.Gc.{Gc, view_of_gc}
 use Rattle.mm_gc.specs.Inside.{gc_of}
-use Rattle.mm_gc.specs.Rows.{Kept, Tells}
+use Rattle.mm_gc.specs.Rows.{Tells}
 use Rattle.mm_gc.specs.Steps.{IsReapCost}
 use Rattle.mm_gc.proofs.Marking.Begun.{has_counts, holds_tight}
 use Rattle.mm_gc.proofs.Frees.Freed.{freed-fits, reaps-shows}
@@ -112,14 +112,7 @@ returns-clause-row g c =
     let view = view_of_gc old in
     let found = c.free_reapable-found in
     let dead = take found.result found.new.dead.words in
-    let before : Kept = record {
-      bytes = g.J.Finalizer.kept c.args.journal.now;
-      broken = g.J.Finalizer.is_broken c.args.journal.now;
-    } in
-    let after : Kept = record {
-      bytes = g.J.Finalizer.kept found.new.journal;
-      broken = g.J.Finalizer.is_broken found.new.journal;
-    } in
+    let heard = g.J.Finalizer.tells c.args.journal.now found.new.journal in
     let now : Gc = record old {
       region = found.new.region;
       table = found.new.count;
@@ -128,12 +121,12 @@ returns-clause-row g c =
       threshold = c.max-self-inside.result;
       freed = old.freed + found.result;
     } in
-    subst (λ (gc : Gc). Tells gc now commands.Reap replies.Done before after) c.self.view_is
+    subst (λ (gc : Gc). Tells gc now commands.Reap replies.Done heard) c.self.view_is
     (tells-reaped old c.self.invariant found.new.region found.new.count c.forget_freed.new.marker dead
     (location_of found.new.dead) found.result c.max-self-inside.result (has g c) c.forget_freed.ensures.forgotten
-    c.forget_freed.ensures.known c.forget_freed.ensures.few found.ensures.dead (so_many g c) (limit g c) before after
+    c.forget_freed.ensures.known c.forget_freed.ensures.few found.ensures.dead (so_many g c) (limit g c) heard
     (found.ensures.bases (outside_references view) (has_counts old c.self.invariant))
-    (found.ensures.written view refl))
+    (found.ensures.told view refl))
 
 pub returns-clause-cost : goal.returns-clause-cost
 returns-clause-cost g c =

@@ -1,4 +1,4 @@
-use Rattle.std.proofs.Common.{◌+◌, ◌*◌, rules, arith}
+use Rattle.std.proofs.Common.{◌+◌, ◌*◌, arith}
 use Rattle.mm_gc.specs.Gc.{view_of_gc}
 use Rattle.mm_gc.specs.Steps.{marking_in}
 use Rattle.mm_gc.proofs.Marking.Stepping.{scanning-begins, scanning-goes_on, scanning-drained, paid-on, part-few}
@@ -9,17 +9,9 @@ parts-preserved g c =
     record {
       scanning = scanning-goes_on (view_of_gc c.args.self.now) c.args.k c.parts.cost (view_of_gc c.parts.self)
           (view_of_gc c.scan_next.new.self) c.in-Some.slots
-          (record {
-            bytes = g.J.Finalizer.kept c.args.journal.now;
-            broken = g.J.Finalizer.is_broken c.args.journal.now;
-          })
-          (record { bytes = g.J.Finalizer.kept c.parts.journal; broken = g.J.Finalizer.is_broken c.parts.journal })
-          (record {
-            bytes = g.J.Finalizer.kept c.scan_next.new.journal;
-            broken = g.J.Finalizer.is_broken c.scan_next.new.journal;
-          })
+          (g.J.Finalizer.tells c.args.journal.now c.parts.journal) (g.J.Finalizer.tells c.parts.journal c.scan_next.new.journal) (g.J.Finalizer.tells c.args.journal.now c.scan_next.new.journal)
+          (g.met.J.Finalizer.tells_on c.args.journal.now c.parts.journal c.scan_next.new.journal)
           c.parts.invariant.scanning c.parts-test.true c.in-Some.ensures.part;
-      kept = search rules;
       runs = c.scan_next.ensures.runs;
       paid = λ stale few.
           paid-on (marking_in c.parts.self) (marking_in c.scan_next.new.self) c.parts.steps c.scan_next.new.steps
@@ -28,11 +20,7 @@ parts-preserved g c =
           (c.parts.invariant.paid stale few) c.in-Some.ensures.cost (omega arith);
       few =
           let slots = part-few (view_of_gc c.parts.self) (view_of_gc c.scan_next.new.self) c.in-Some.slots
-          (record { bytes = g.J.Finalizer.kept c.parts.journal; broken = g.J.Finalizer.is_broken c.parts.journal })
-          (record {
-            bytes = g.J.Finalizer.kept c.scan_next.new.journal;
-            broken = g.J.Finalizer.is_broken c.scan_next.new.journal;
-          })
+          (g.J.Finalizer.tells c.parts.journal c.scan_next.new.journal)
           c.in-Some.ensures.part in
           omega (arith, slots, c.parts-test.true);
     }
@@ -41,11 +29,7 @@ pub parts-init : goal.parts-init
 parts-init g c =
     record {
       scanning = scanning-begins (view_of_gc c.args.self.now) c.args.k
-          (record {
-            bytes = g.J.Finalizer.kept c.args.journal.now;
-            broken = g.J.Finalizer.is_broken c.args.journal.now;
-          });
-      kept = search rules;
+          (g.J.Finalizer.tells c.args.journal.now c.args.journal.now) (g.met.J.Finalizer.tells_nothing c.args.journal.now);
       runs = c.requires;
       paid = λ stale few. record { left = stale; few = few; paid = omega arith };
       few = omega arith;
@@ -65,10 +49,6 @@ pub returns-in-None-clause-scans : goal.returns-in-None-clause-scans
 returns-in-None-clause-scans g c =
     scanning-drained (view_of_gc c.args.self.now) c.args.k c.parts.cost (view_of_gc c.parts.self)
     (view_of_gc c.scan_next.new.self)
-    (record { bytes = g.J.Finalizer.kept c.args.journal.now; broken = g.J.Finalizer.is_broken c.args.journal.now })
-    (record { bytes = g.J.Finalizer.kept c.parts.journal; broken = g.J.Finalizer.is_broken c.parts.journal })
-    (record {
-      bytes = g.J.Finalizer.kept c.scan_next.new.journal;
-      broken = g.J.Finalizer.is_broken c.scan_next.new.journal;
-    })
+    (g.J.Finalizer.tells c.args.journal.now c.parts.journal) (g.J.Finalizer.tells c.parts.journal c.scan_next.new.journal) (g.J.Finalizer.tells c.args.journal.now c.scan_next.new.journal)
+    (g.met.J.Finalizer.tells_on c.args.journal.now c.parts.journal c.scan_next.new.journal)
     c.parts.invariant.scanning c.parts-test.true c.in-None.ensures.part

@@ -9,9 +9,7 @@ abbrev pub invariant-parts : goal.invariant-parts
 invariant-parts g l =
     record {
       scanning : IsScanning (view_of_gc l.fn.self) l.k l.cost (view_of_gc l.self)
-          (record { bytes = g.J.Finalizer.kept l.fn.journal; broken = g.J.Finalizer.is_broken l.fn.journal })
-          (record { bytes = g.J.Finalizer.kept l.journal; broken = g.J.Finalizer.is_broken l.journal });
-      kept : g.J.Finalizer.keeps l.fn.journal l.journal;
+          (g.J.Finalizer.tells l.fn.journal l.journal);
       runs : l.self.marker.running ≡ true;
       paid : (stale : ℕ) → HasFewStale (marking_in l.fn.self) stale
           → IsPaid (marking_in l.self) l.steps (l.fn.steps + 16 * l.cost + 8 * stale);

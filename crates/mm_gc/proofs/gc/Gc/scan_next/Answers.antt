@@ -1,17 +1,15 @@
-use Rattle.std.proofs.Common.{◌≡◌, ℕ, ◌+◌, ◌*◌, [], ◌∷◌, Option, None, true, sym, ap, ◌∙◌, subst}
+use Rattle.std.proofs.Common.{◌≡◌, ℕ, ◌+◌, ◌*◌, List, [], ◌∷◌, Option, None, true, sym, ap, ◌∙◌, subst}
 use Rattle.std.specs.Prelude.{unwrap_or}
 use Rattle.mm_mark.specs.Marker.{marking}
 use Rattle.mm_mark.specs.Stale.{HasFewStale, IsPaid, slots_of}
 use Rattle.mm_gc.specs.Gc.{Gc, view_of_gc}
 use Rattle.mm_gc.specs.Inside.{gc_of}
 use Rattle.mm_gc.specs.Phases.{ScanAnswer, HasNoneToScan}
-use Rattle.mm_gc.specs.Rows.{Kept, WritesLines}
+use Rattle.mm_sweep.specs.Told.{Told, Scan}
 use Rattle.mm_gc.specs.Showing.{IsShowing}
 use Rattle.mm_gc.specs.Steps.{marking_in}
-use Rattle.mm_model.specs.declared.line.Line.TheVariants as lines
 use Rattle.mm_gc.proofs.Marking.Begun.{keeps-gray, runs-told}
 use Rattle.mm_gc.proofs.Marking.Scanning.{part-scanned, none-scanned, keeps-scanned, answer-shows}
-use Rattle.mm_gc.proofs.Keeping.Untouched.{writes-line}
 use Rattle.mm_gc.proofs.gc.Gc.scan_next.Given.{Over}
 use Rattle.mm_gc.proofs.gc.Gc.scan_next.Goals as goal
 use Rattle.mm_gc.proofs.gc.Gc.scan_next.Goals.{in-Some, in-None}
@@ -20,17 +18,8 @@ pub scan_part-requires-clause-keeps : goal.scan_part-requires-clause-keeps
 scan_part-requires-clause-keeps g c = keeps-gray (gc_of c.self.inside) c.self.invariant
 
 module _ (g : Over) (c : goal.Joined-scan_part g) where
-  abbrev before : Kept
-  before = record {
-    bytes = g.J.Finalizer.kept c.args.journal.now;
-    broken = g.J.Finalizer.is_broken c.args.journal.now;
-  }
-
-  abbrev after : Kept
-  after = record {
-    bytes = g.J.Finalizer.kept c.match-scan_part.journal;
-    broken = g.J.Finalizer.is_broken c.match-scan_part.journal;
-  }
+  abbrev heard : List Told → Type 0
+  heard = g.J.Finalizer.tells c.args.journal.now c.match-scan_part.journal
 
   abbrev now : Gc
   now = record (gc_of c.self.inside) {
@@ -48,39 +37,34 @@ module _ (g : Over) (c : goal.Joined-scan_part g) where
   unchanged_partly : c.scan_part.result ≡ None → c.scan_part.new.self.partly ≡ c.self.inside.marker.partly
   unchanged_partly none = c.scan_part.ensures.partly none
 
-  answer : ScanAnswer (view_of_gc (gc_of c.self.inside)) (view_of_gc now) before after c.match-scan_part.result
+  answer : ScanAnswer (view_of_gc (gc_of c.self.inside)) (view_of_gc now) heard c.match-scan_part.result
   answer =
       elim c.match-scan_part.branch [
         | in-Some w ↦
             subst (λ (result : Option ℕ).
-            ScanAnswer (view_of_gc (gc_of c.self.inside)) (view_of_gc now) before after result)
+            ScanAnswer (view_of_gc (gc_of c.self.inside)) (view_of_gc now) heard result)
             (sym w.result-is)
             (part-scanned (gc_of c.self.inside) c.self.invariant c.scan_part.new.heap c.scan_part.new.self runs
-            c.scan_part.ensures.rest c.scan_part.ensures.cycle w.in-Some.part w.in-Some.ensures.part before after
-            (subst (λ (j : g.row.J.Denot). WritesLines before
-            (record { bytes = g.J.Finalizer.kept j; broken = g.J.Finalizer.is_broken j })
-            (lines.Scan w.in-Some.part.base w.in-Some.part.slots ∷ [])) (sym w.journal-is)
-            (writes-line before
-            (record {
-              bytes = g.J.Finalizer.kept w.scan.new.self;
-              broken = g.J.Finalizer.is_broken w.scan.new.self;
-            })
-            (lines.Scan w.in-Some.part.base w.in-Some.part.slots) w.scan.ensures.written)))
+            c.scan_part.ensures.rest c.scan_part.ensures.cycle w.in-Some.part w.in-Some.ensures.part heard
+            (subst (λ (j : g.row.J.Denot). g.J.Finalizer.tells c.args.journal.now j
+            (Scan w.in-Some.part.base w.in-Some.part.slots ∷ [])) (sym w.journal-is) w.scan.ensures))
         | in-None w ↦
             subst (λ (result : Option ℕ).
-            ScanAnswer (view_of_gc (gc_of c.self.inside)) (view_of_gc now) before after result)
+            ScanAnswer (view_of_gc (gc_of c.self.inside)) (view_of_gc now) heard result)
             (sym w.result-is)
-            (subst (λ (j : g.row.J.Denot). HasNoneToScan (view_of_gc (gc_of c.self.inside)) (view_of_gc now) before
-            (record { bytes = g.J.Finalizer.kept j; broken = g.J.Finalizer.is_broken j })) (sym w.journal-is)
+            (subst (λ (j : g.row.J.Denot). HasNoneToScan (view_of_gc (gc_of c.self.inside)) (view_of_gc now)
+            (g.J.Finalizer.tells c.args.journal.now j)) (sym w.journal-is)
             (none-scanned (gc_of c.self.inside) c.self.invariant c.scan_part.new.heap c.scan_part.new.self runs
             c.scan_part.ensures.rest c.scan_part.ensures.cycle w.in-None.ensures.part (unchanged w.in-None.is)
-            (unchanged_partly w.in-None.is) before))
+            (unchanged_partly w.in-None.is)
+            (g.J.Finalizer.tells c.args.journal.now c.args.journal.now)
+            (g.met.J.Finalizer.tells_nothing c.args.journal.now)))
       ]
 
   shown : IsShowing (view_of_gc now)
   shown =
       answer-shows (view_of_gc (gc_of c.self.inside)) (view_of_gc now) c.self.invariant.shown
-      (runs-told (gc_of c.self.inside) runs) c.match-scan_part.result before after answer
+      (runs-told (gc_of c.self.inside) runs) c.match-scan_part.result heard answer
 
 pub invariant_of-self : goal.invariant_of-self
 invariant_of-self g c =
@@ -92,7 +76,7 @@ invariant_of-self g c =
 pub returns-clause-part : goal.returns-clause-part
 returns-clause-part g c =
     subst (λ (gc : Gc).
-    ScanAnswer (view_of_gc gc) (view_of_gc (now g c)) (before g c) (after g c) c.match-scan_part.result)
+    ScanAnswer (view_of_gc gc) (view_of_gc (now g c)) (heard g c) c.match-scan_part.result)
     c.self.view_is (answer g c)
 
 pub returns-clause-cost : goal.returns-clause-cost

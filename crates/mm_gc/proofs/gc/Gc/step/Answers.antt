@@ -5,7 +5,7 @@ use Rattle.mm_model.specs.declared.reply.Reply.TheVariants as replies
 use Rattle.mm_gc.specs.Gc.{Gc, freed_since, view_of_gc}
 use Rattle.mm_gc.specs.Kept.{KeepsGc}
 use Rattle.mm_gc.specs.Inside.{gc_of}
-use Rattle.mm_gc.specs.Rows.{Kept, Tells}
+use Rattle.mm_gc.specs.Rows.{Tells}
 use Rattle.mm_gc.proofs.Marking.Begun.{runs-told, idle-told}
 use Rattle.mm_gc.proofs.Rows.Phases.{step-idle}
 use Rattle.mm_gc.proofs.Marking.Stepping.{tells-scanned}
@@ -16,12 +16,10 @@ pub returns-then-not-running-clause-row : goal.returns-then-not-running-clause-r
 returns-then-not-running-clause-row g c =
     let gc = gc_of c.self.inside in
     let command = commands.Step c.args.k in
-    let kept : Kept = record {
-      bytes = g.J.Finalizer.kept c.args.journal.now;
-      broken = g.J.Finalizer.is_broken c.args.journal.now;
-    } in
-    subst (λ (gc : Gc). Tells gc gc command (replies.Refused refusals.Idle) kept kept) c.self.view_is
-    (tells-refused gc command refusals.Idle kept
+    subst (λ (gc : Gc). Tells gc gc command (replies.Refused refusals.Idle)
+    (g.J.Finalizer.tells c.args.journal.now c.args.journal.now)) c.self.view_is
+    (tells-refused gc command refusals.Idle (g.J.Finalizer.tells c.args.journal.now c.args.journal.now)
+    (g.met.J.Finalizer.tells_nothing c.args.journal.now)
     (step-idle (view_of_gc gc) c.args.k (idle-told gc (sym c.running.ensures ∙ c.if-not-running.true))))
 
 pub returns-clause-row : goal.returns-clause-row
@@ -29,11 +27,7 @@ returns-clause-row g c =
     let runs : c.args.self.now.marker.running ≡ true =
     ap (λ (gc : Gc). gc.marker.running) (sym c.self.view_is) ∙ sym c.running.ensures ∙ c.if-not-running.false in
     tells-scanned c.args.self.now c.scan_for.new.self c.args.k
-    (record { bytes = g.J.Finalizer.kept c.args.journal.now; broken = g.J.Finalizer.is_broken c.args.journal.now })
-    (record {
-      bytes = g.J.Finalizer.kept c.scan_for.new.journal;
-      broken = g.J.Finalizer.is_broken c.scan_for.new.journal;
-    })
+    (g.J.Finalizer.tells c.args.journal.now c.scan_for.new.journal)
     (runs-told c.args.self.now runs) c.scan_for.ensures.scans
 
 pub returns-clause-cost : goal.returns-clause-cost

@@ -14,54 +14,50 @@ use Rattle.mm_gc.proofs.Meaning.{unmeant-answers, begins-read}
 use Rattle.mm_gc.proofs.Rows.Making.{weak-no_cell, weak-nothing}
 use Rattle.mm_gc.proofs.gc.Gc.weak.Goals as goal
 
-pub returns-in_err-target-clause-row : goal.returns-in_err-target-clause-row
-returns-in_err-target-clause-row g c =
-    let gc = c.args.self.now in
-    let p = err_from_is_err_and c.from_residual.result c.from_residual.ensures.1 in
-    rw (p.1, p.2)
-    (tells-answered gc gc (commands.Weak c.args.i) (replies.Refused c.in_err-target.field-0.0)
-    (record {
-      bytes = g.J.Finalizer.kept c.args.journal.now;
-      broken = g.J.Finalizer.is_broken c.args.journal.now;
-    })
-    (unmeant-answers gc c.args.i (commands.Weak c.args.i) c.in_err-target.field-0.0 c.in_err-target.ensures.answer
-    (weak-no_cell (view_of_gc gc) c.args.i) (weak-nothing (view_of_gc gc) c.args.i)))
+pub returns-in_err-target : goal.returns-in_err-target
+returns-in_err-target g c =
+    record {
+      row = let gc = c.args.self.now in
+          let p = err_from_is_err_and c.from_residual.result c.from_residual.ensures.1 in
+          rw (p.1, p.2)
+          (tells-answered gc gc (commands.Weak c.args.i) (replies.Refused c.in_err-target.field-0.0)
+          (g.J.Finalizer.tells c.args.journal.now c.args.journal.now) (g.met.J.Finalizer.tells_nothing c.args.journal.now)
+          (unmeant-answers gc c.args.i (commands.Weak c.args.i) c.in_err-target.field-0.0 c.in_err-target.ensures.answer
+          (weak-no_cell (view_of_gc gc) c.args.i) (weak-nothing (view_of_gc gc) c.args.i)));
+    }
 
-pub returns-then-is_weak-clause-row : goal.returns-then-is_weak-clause-row
-returns-then-is_weak-clause-row g c =
-    let m = c.in_ok-target.field-0 in
-    weak-no_weak c.args.self.now c.args.i m.word m.found c.in_ok-target.ensures.answer
-    (record {
-      bytes = g.J.Finalizer.kept c.args.journal.now;
-      broken = g.J.Finalizer.is_broken c.args.journal.now;
-    })
-    (sym c.is_weak.ensures ∙ c.if-is_weak.true)
+pub returns-then-is_weak : goal.returns-then-is_weak
+returns-then-is_weak g c =
+    record {
+      row = let m = c.in_ok-target.field-0 in
+          weak-no_weak c.args.self.now c.args.i m.word m.found c.in_ok-target.ensures.answer
+          (g.J.Finalizer.tells c.args.journal.now c.args.journal.now) (g.met.J.Finalizer.tells_nothing c.args.journal.now)
+          (sym c.is_weak.ensures ∙ c.if-is_weak.true);
+    }
 
-pub returns-then-is_stack_full-clause-row : goal.returns-then-is_stack_full-clause-row
-returns-then-is_stack_full-clause-row g c =
-    let m = c.in_ok-target.field-0 in
-    weak-stack_full c.args.self.now c.args.i m.word m.found c.in_ok-target.ensures.answer
-    (sym c.is_weak.ensures ∙ c.if-is_weak.false)
-    (record {
-      bytes = g.J.Finalizer.kept c.args.journal.now;
-      broken = g.J.Finalizer.is_broken c.args.journal.now;
-    })
-    (sym c.is_stack_full.ensures ∙ c.if-is_stack_full.true)
+pub returns-then-is_stack_full : goal.returns-then-is_stack_full
+returns-then-is_stack_full g c =
+    record {
+      row = let m = c.in_ok-target.field-0 in
+          weak-stack_full c.args.self.now c.args.i m.word m.found c.in_ok-target.ensures.answer
+          (sym c.is_weak.ensures ∙ c.if-is_weak.false)
+          (g.J.Finalizer.tells c.args.journal.now c.args.journal.now) (g.met.J.Finalizer.tells_nothing c.args.journal.now)
+          (sym c.is_stack_full.ensures ∙ c.if-is_stack_full.true);
+    }
 
-pub returns-then-weak-ne0-clause-row : goal.returns-then-weak-ne0-clause-row
-returns-then-weak-ne0-clause-row g c =
-    let m = c.in_ok-target.field-0 in
-    weak-kept_tells c.args.self.now c.args.i m.word m.found c.in_ok-target.ensures.answer
-    (sym c.is_weak.ensures ∙ c.if-is_weak.false)
-    (record {
-      bytes = g.J.Finalizer.kept c.args.journal.now;
-      broken = g.J.Finalizer.is_broken c.args.journal.now;
-    })
-    c.push_word.new.self c.link-weak.result c.in_ok-base.base
-    (c.link-weak.ensures.word c.in_ok-target.ensures.answer.object
-    (begins-read c.args.self.now (gc_of c.self.inside) c.args.i m.word m.found c.self.view_is
-    c.in_ok-target.ensures.answer))
-    c.if-weak-ne0.true c.in_ok-base.ensures
+pub returns-then-weak-ne0 : goal.returns-then-weak-ne0
+returns-then-weak-ne0 g c =
+    record {
+      row = let m = c.in_ok-target.field-0 in
+          weak-kept_tells c.args.self.now c.args.i m.word m.found c.in_ok-target.ensures.answer
+          (sym c.is_weak.ensures ∙ c.if-is_weak.false)
+          (g.J.Finalizer.tells c.args.journal.now c.args.journal.now) (g.met.J.Finalizer.tells_nothing c.args.journal.now)
+          c.push_word.new.self c.link-weak.result c.in_ok-base.base
+          (c.link-weak.ensures.word c.in_ok-target.ensures.answer.object
+          (begins-read c.args.self.now (gc_of c.self.inside) c.args.i m.word m.found c.self.view_is
+          c.in_ok-target.ensures.answer))
+          c.if-weak-ne0.true c.in_ok-base.ensures;
+    }
 
 pub search-requires-clause-wanted : goal.search-requires-clause-wanted
 search-requires-clause-wanted g c =
@@ -77,72 +73,41 @@ pub unreachable-requires : goal.unreachable-requires
 unreachable-requires g c =
     let m = c.in_ok-target.field-0 in
     weak-no_area c.args.self.now c.search.new.self
-    (record {
-      bytes = g.J.Finalizer.kept c.args.journal.now;
-      broken = g.J.Finalizer.is_broken c.args.journal.now;
-    })
-    (record {
-      bytes = g.J.Finalizer.kept c.search.new.journal;
-      broken = g.J.Finalizer.is_broken c.search.new.journal;
-    })
+    (g.J.Finalizer.tells c.args.journal.now c.search.new.journal)
     m.found.base c.in-Some-Area.field-0-0
     (subst
     (λ (made : Made). Searches c.args.self.now c.search.new.self (wanted.WeakOf m.found.base) (Some made)
-    (record {
-      bytes = g.J.Finalizer.kept c.args.journal.now;
-      broken = g.J.Finalizer.is_broken c.args.journal.now;
-    })
-    (record {
-      bytes = g.J.Finalizer.kept c.search.new.journal;
-      broken = g.J.Finalizer.is_broken c.search.new.journal;
-    }))
+    (g.J.Finalizer.tells c.args.journal.now c.search.new.journal))
     c.in-Some-Area.field-0-is c.in-Some-Area.ensures.searched)
 
-pub returns-in-Some-Object-clause-row : goal.returns-in-Some-Object-clause-row
-returns-in-Some-Object-clause-row g c =
-    let m = c.in_ok-target.field-0 in
-    weak-searched c.args.self.now c.args.i m.word m.found c.in_ok-target.ensures.answer
-    (sym c.is_weak.ensures ∙ c.if-is_weak.false) c.link-weak.result
-    (c.link-weak.ensures.word c.in_ok-target.ensures.answer.object
-    (begins-read c.args.self.now (gc_of c.self.inside) c.args.i m.word m.found c.self.view_is
-    c.in_ok-target.ensures.answer))
-    c.if-weak-ne0.false (sym c.is_stack_full.ensures ∙ c.if-is_stack_full.false) c.search.new.self
-    (record {
-      bytes = g.J.Finalizer.kept c.args.journal.now;
-      broken = g.J.Finalizer.is_broken c.args.journal.now;
-    })
-    (record {
-      bytes = g.J.Finalizer.kept c.search.new.journal;
-      broken = g.J.Finalizer.is_broken c.search.new.journal;
-    })
-    (Some (made_variants.Object c.in-Some-Object.base))
-    (subst
-    (λ (made : Made). Searches c.args.self.now c.search.new.self (wanted.WeakOf m.found.base) (Some made)
-    (record {
-      bytes = g.J.Finalizer.kept c.args.journal.now;
-      broken = g.J.Finalizer.is_broken c.args.journal.now;
-    })
-    (record {
-      bytes = g.J.Finalizer.kept c.search.new.journal;
-      broken = g.J.Finalizer.is_broken c.search.new.journal;
-    }))
-    c.in-Some-Object.field-0-is c.in-Some-Object.ensures.searched)
+pub returns-in-Some-Object : goal.returns-in-Some-Object
+returns-in-Some-Object g c =
+    record {
+      row = let m = c.in_ok-target.field-0 in
+          weak-searched c.args.self.now c.args.i m.word m.found c.in_ok-target.ensures.answer
+          (sym c.is_weak.ensures ∙ c.if-is_weak.false) c.link-weak.result
+          (c.link-weak.ensures.word c.in_ok-target.ensures.answer.object
+          (begins-read c.args.self.now (gc_of c.self.inside) c.args.i m.word m.found c.self.view_is
+          c.in_ok-target.ensures.answer))
+          c.if-weak-ne0.false (sym c.is_stack_full.ensures ∙ c.if-is_stack_full.false) c.search.new.self
+          (g.J.Finalizer.tells c.args.journal.now c.search.new.journal)
+          (Some (made_variants.Object c.in-Some-Object.base))
+          (subst
+          (λ (made : Made). Searches c.args.self.now c.search.new.self (wanted.WeakOf m.found.base) (Some made)
+          (g.J.Finalizer.tells c.args.journal.now c.search.new.journal))
+          c.in-Some-Object.field-0-is c.in-Some-Object.ensures.searched);
+    }
 
-pub returns-in-None-clause-row : goal.returns-in-None-clause-row
-returns-in-None-clause-row g c =
-    let m = c.in_ok-target.field-0 in
-    weak-searched c.args.self.now c.args.i m.word m.found c.in_ok-target.ensures.answer
-    (sym c.is_weak.ensures ∙ c.if-is_weak.false) c.link-weak.result
-    (c.link-weak.ensures.word c.in_ok-target.ensures.answer.object
-    (begins-read c.args.self.now (gc_of c.self.inside) c.args.i m.word m.found c.self.view_is
-    c.in_ok-target.ensures.answer))
-    c.if-weak-ne0.false (sym c.is_stack_full.ensures ∙ c.if-is_stack_full.false) c.search.new.self
-    (record {
-      bytes = g.J.Finalizer.kept c.args.journal.now;
-      broken = g.J.Finalizer.is_broken c.args.journal.now;
-    })
-    (record {
-      bytes = g.J.Finalizer.kept c.search.new.journal;
-      broken = g.J.Finalizer.is_broken c.search.new.journal;
-    })
-    None c.in-None.ensures.searched
+pub returns-in-None : goal.returns-in-None
+returns-in-None g c =
+    record {
+      row = let m = c.in_ok-target.field-0 in
+          weak-searched c.args.self.now c.args.i m.word m.found c.in_ok-target.ensures.answer
+          (sym c.is_weak.ensures ∙ c.if-is_weak.false) c.link-weak.result
+          (c.link-weak.ensures.word c.in_ok-target.ensures.answer.object
+          (begins-read c.args.self.now (gc_of c.self.inside) c.args.i m.word m.found c.self.view_is
+          c.in_ok-target.ensures.answer))
+          c.if-weak-ne0.false (sym c.is_stack_full.ensures ∙ c.if-is_stack_full.false) c.search.new.self
+          (g.J.Finalizer.tells c.args.journal.now c.search.new.journal)
+          None c.in-None.ensures.searched;
+    }

@@ -1,0 +1,3 @@
+pub mod Heard
+pub mod Lasting
+pub mod Words

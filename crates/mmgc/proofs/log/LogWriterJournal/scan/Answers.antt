@@ -1,0 +1,6 @@
+use Rattle.mm_model.specs.declared.line.Line.TheVariants as lines
+use Rattle.mmgc.specs.Keeping.{writes-line}
+use Rattle.mmgc.proofs.log.LogWriterJournal.scan.Goals as goal
+
+pub returns : goal.returns
+returns g c = (writes-line (lines.Scan c.args.base c.args.slots) c.line.ensures.written, c.line.ensures.kept)
