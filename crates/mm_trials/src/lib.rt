@@ -19,6 +19,8 @@ mod places;
 #[cfg(test)]
 mod reading;
 #[cfg(test)]
+mod small_heaps;
+#[cfg(test)]
 mod told;
 #[cfg(test)]
 mod trial;
