@@ -1,7 +1,11 @@
 pub mod Answers
+pub mod Changed
 pub mod Fitting
+pub mod Grains
 pub mod Lines
 pub mod References
+pub mod Resolving
+pub mod Shown
 pub mod Spellings
 pub mod Stacks
 pub mod Zeros

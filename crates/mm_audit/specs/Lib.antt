@@ -1,3 +1,4 @@
 pub mod Audit
 pub mod Counts
+pub mod Objects
 pub mod Stack

@@ -5,7 +5,9 @@
 mod answer;
 mod count;
 mod counts;
+mod header;
 mod laws;
+mod objects;
 mod stack;
 #[cfg(test)]
 mod tests;
@@ -13,11 +15,13 @@ mod tests;
 pub use answer::Answer;
 pub use count::Count;
 pub use counts::Counts;
+pub use header::{Found, Header};
 pub use laws::{
     a_rest_is_no_spelling, a_write_moves_one_reference, an_answer_is_determined, each_front_fits,
     every_log_has_an_answer, lines_make_up_a_log, spellings_are_lines,
     zeros_are_zero_count_objects,
 };
+pub use objects::Objects;
 pub use stack::Stack;
 
 /// Want of memory, the one refusal of this crate.

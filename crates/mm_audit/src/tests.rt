@@ -1,5 +1,6 @@
-// Counts and a stack, worked out by hand.
-use crate::{Count, Counts, Stack};
+// Counts, a stack and objects, worked out by hand.
+use crate::{Count, Counts, Found, Header, Objects, Stack};
+use mm_model::{Colour, Kind, Shape};
 use std::test::Fail;
 
 #[test]
@@ -32,5 +33,53 @@ fn a_stack_is_read_from_the_top(rt: HostRuntime) -> Result<(), Fail> {
     stack.pop(2);
     assert_eq!(&rt; stack.len(), 1);
     assert_eq!(&rt; stack.get(0), 7);
+    Ok(())
+}
+
+// What `new t 1 4` bears.
+const SHAPE: Shape = Shape {
+    kind: Kind::Traced,
+    finalize: false,
+    counted: 1,
+    slots: 4,
+};
+
+const HEADER: Header = Header {
+    extent: 32,
+    kind: Kind::Traced,
+    finalize: false,
+    counted: 1,
+    slots: 4,
+    sticky: false,
+    partner: None,
+    colour: Colour::White,
+};
+
+#[test]
+fn an_object_is_found_by_a_word_that_falls_in_it(rt: HostRuntime) -> Result<(), Fail> {
+    let mut objects = Objects::make(rt.alloc(), 2)?;
+    objects.bear(4096, 32, SHAPE, Colour::White);
+    let found = Found {
+        base: 4096,
+        header: HEADER,
+    };
+    assert_eq!(&rt; objects.find(4095), None);
+    assert_eq!(&rt; objects.find(4096), Some(found));
+    assert_eq!(&rt; objects.find(4127), Some(found));
+    assert_eq!(&rt; objects.find(4128), None);
+    assert_eq!(&rt; objects.get(4096), Some(HEADER));
+    assert_eq!(&rt; objects.get(4112), None);
+    objects.free(4096);
+    assert_eq!(&rt; objects.find(4096), None);
+    Ok(())
+}
+
+#[test]
+fn a_slot_has_the_word_that_was_put_last(rt: HostRuntime) -> Result<(), Fail> {
+    let mut objects = Objects::make(rt.alloc(), 2)?;
+    objects.bear(4096, 32, SHAPE, Colour::White);
+    objects.put(4096, 2, 7);
+    assert_eq!(&rt; objects.slot(4096, 2), 7);
+    assert_eq!(&rt; objects.slots(4096), [0, 0, 7, 0].as_slice());
     Ok(())
 }

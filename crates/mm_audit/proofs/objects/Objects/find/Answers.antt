@@ -1,0 +1,85 @@
+-- A word's grain tells where the object begins in which it may fall.
+use Rattle.std.proofs.Common.{◌*◌, ◌/◌, Option, Some, ap, ◌∙◌, sym, arith}
+use Rattle.std.specs.Option.{option_map}
+use Rattle.std.proofs.lemmas.Option.{slice_get_read, none-some}
+use Rattle.mm_model.specs.Views.ViewWords.{resolved_in}
+use Rattle.mm_audit.specs.declared.header.Header.{Header}
+use Rattle.mm_audit.specs.Objects.{found_of}
+use Rattle.mm_audit.proofs.Changed.{header-shown, inside_same}
+use Rattle.mm_audit.proofs.Resolving.{FallsAt, resolved-kept, resolved-none, resolved-unless, falls_below}
+use Rattle.mm_audit.proofs.objects.Objects.find.Goals as goal
+
+pub returns-then-len-inner : goal.returns-then-len-inner
+returns-then-len-inner c =
+    let s = c.self.inside in
+    let len = s.begins.ok.0 in
+    let none = resolved-none s.entries.items s.begins.items s.words.items c.self.invariant c.args.word
+    (λ grain header at.
+    let below = falls_below s.entries.items s.begins.items s.words.items c.self.invariant c.args.word grain header at in
+    absurd (omega arith)) in
+    ap (option_map found_of) (sym none ∙ ap (λ v. resolved_in v c.args.word) c.self.view_is)
+
+pub index-requires : goal.index-requires
+index-requires c =
+    let s = c.self.inside in
+    let len = s.begins.ok.0 in
+    let more = s.entries.ok.0 in
+    let told = slice_get_read s.begins.items _ (c.args.word / 16) c.index-grain.result.now len (omega arith)
+    c.index-grain.ensures in
+    let from = c.self.invariant.not_behind (c.args.word / 16) c.index-grain.result.now told in
+    let each = c.self.invariant.each_grain in
+    omega arith
+
+pub returns-in_err-header : goal.returns-in_err-header
+returns-in_err-header c =
+    let s = c.self.inside in
+    let grain = c.index-grain.result.now in
+    let len = s.begins.ok.0 in
+    let more = s.entries.ok.0 in
+    let tells = slice_get_read s.begins.items _ (c.args.word / 16) grain len (omega arith) c.index-grain.ensures in
+    let from = c.self.invariant.not_behind (c.args.word / 16) grain tells in
+    let each = c.self.invariant.each_grain in
+    let told = slice_get_read s.entries.items _ grain c.index.result.now more (omega arith) c.index.ensures in
+    let none = resolved-unless s.entries.items s.begins.items s.words.items c.self.invariant c.args.word grain tells
+    c.index.result.now told (λ header is below. absurd (none-some header (sym (c.in_err-header.was) ∙ is))) in
+    c.from_residual.ensures
+    ∙ ap (option_map found_of) (sym none ∙ ap (λ v. resolved_in v c.args.word) c.self.view_is)
+
+pub returns-then-word-base : goal.returns-then-word-base
+returns-then-word-base c =
+    let s = c.self.inside in
+    let grain = c.index-grain.result.now in
+    let header = c.in_ok-header.header in
+    let len = s.begins.ok.0 in
+    let more = s.entries.ok.0 in
+    let tells = slice_get_read s.begins.items _ (c.args.word / 16) grain len (omega arith) c.index-grain.ensures in
+    let from = c.self.invariant.not_behind (c.args.word / 16) grain tells in
+    let each = c.self.invariant.each_grain in
+    let told = slice_get_read s.entries.items _ grain c.index.result.now more (omega arith) c.index.ensures in
+    let is = told ∙ ap (λ (e : Option Header). Some e) (c.in_ok-header.was) in
+    let at : FallsAt s.entries.items s.begins.items s.words.items c.self.invariant c.args.word grain header =
+    record { is = is; from = omega arith; to = omega arith } in
+    let found = resolved-kept s.entries.items s.begins.items s.words.items c.self.invariant c.args.word grain header at
+    in
+    ap (λ (h : Header). Some (record { base = 16 * grain; header = h }))
+    (sym (header-shown s.entries.items s.begins.items s.words.items c.self.invariant grain header is))
+    ∙ ap (option_map found_of) (sym found ∙ ap (λ v. resolved_in v c.args.word) c.self.view_is)
+
+pub returns-else-word-base : goal.returns-else-word-base
+returns-else-word-base c =
+    let s = c.self.inside in
+    let grain = c.index-grain.result.now in
+    let len = s.begins.ok.0 in
+    let more = s.entries.ok.0 in
+    let tells = slice_get_read s.begins.items _ (c.args.word / 16) grain len (omega arith) c.index-grain.ensures in
+    let from = c.self.invariant.not_behind (c.args.word / 16) grain tells in
+    let each = c.self.invariant.each_grain in
+    let told = slice_get_read s.entries.items _ grain c.index.result.now more (omega arith) c.index.ensures in
+    let past = c.if-word-base.false in
+    let none = resolved-unless s.entries.items s.begins.items s.words.items c.self.invariant c.args.word grain tells
+    c.index.result.now told
+    (λ header is below.
+    let same = inside_same header c.in_ok-header.header (sym is ∙ c.in_ok-header.was) in
+    let extent = ap (λ (h : Header). h.extent) same in
+    omega arith) in
+    ap (option_map found_of) (sym none ∙ ap (λ v. resolved_in v c.args.word) c.self.view_is)

@@ -1,0 +1,35 @@
+-- An entry is empty.
+use Rattle.std.proofs.Common.{◌≡◌, ◌/◌, length, ap, ◌∙◌, sym, arith}
+use Rattle.std.specs.Prelude.{None}
+use Rattle.std.proofs.lemmas.List.{length-set}
+use Rattle.mm_model.specs.Views.ByBase.{with_entry}
+use Rattle.mm_audit.specs.Objects.{shown}
+use Rattle.mm_audit.proofs.Shown.{length-shown}
+use Rattle.mm_audit.proofs.Changed.{shown-freed, kept-freed}
+use Rattle.mm_audit.proofs.objects.Objects.free.Goals as goal
+
+pub index_mut-requires : goal.index_mut-requires
+index_mut-requires c =
+    let s = c.self.inside in
+    let size : length (shown s.words.items s.entries.items) ≡ length c.args.self.now = ap length c.self.view_is in
+    let len = s.entries.ok.0 in
+    omega (arith, length-shown s.words.items s.entries.items)
+
+pub invariant_of-self : goal.invariant_of-self
+invariant_of-self c =
+    let s = c.self.inside in
+    kept-freed s.entries.items s.begins.items s.words.items c.self.invariant (c.args.base / 16)
+
+pub returns-clause-freed : goal.returns-clause-freed
+returns-clause-freed c =
+    let s = c.self.inside in
+    let size : length (shown s.words.items s.entries.items) ≡ length c.args.self.now = ap length c.self.view_is in
+    shown-freed s.entries.items s.begins.items s.words.items c.self.invariant c.args.base
+    (omega (arith, length-shown s.words.items s.entries.items))
+    ∙ ap (with_entry c.args.base None) c.self.view_is
+
+pub returns-clause-size : goal.returns-clause-size
+returns-clause-size c =
+    let s = c.self.inside in
+    length-shown s.words.items _ ∙ length-set s.entries.items (c.args.base / 16) None
+    ∙ sym (length-shown s.words.items s.entries.items) ∙ ap length c.self.view_is
