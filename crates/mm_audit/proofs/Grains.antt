@@ -1,16 +1,18 @@
 -- Each object has its grains to itself, and what changes in the grains of one changes no other.
-use Rattle.std.proofs.Common.{◌≡◌, ◌≢◌, ℕ, ◌+◌, ◌*◌, ◌<◌, ◌≤◌, ◌⊎◌, inl, inr, ⊎_elim, Bool, true, not, ◌&&◌, List}
-use Rattle.std.proofs.Common.{length, Option, Some, sym, ap, ◌∙◌, arith}
+use Rattle.std.proofs.Common.{◌≡◌, ◌≢◌, ℕ, ◌+◌, ◌*◌, ◌/◌, ◌%◌, ◌<◌, ◌≤◌, ◌⊎◌, inl, inr, ⊎_elim, Bool, true, not, ◌&&◌}
+use Rattle.std.proofs.Common.{List, length, Option, Some, None, sym, ap, ◌∙◌, arith}
 use Rattle.std.specs.Prelude.{IsTrue, slice_get, slice_set, nat_lt}
 use Rattle.std.specs.List.{list_any}
 use Rattle.std.proofs.lemmas.Bool.{cases_lt}
 use Rattle.std.proofs.lemmas.Bool.Decides.{nat_tests}
+use Rattle.std.proofs.Math.ListN.{get_or}
 use Rattle.std.proofs.lemmas.List.{length-set}
+use Rattle.std.proofs.lemmas.Option.{slice_get-get_or}
 use Rattle.mm_model.specs.Places.Place.{is_vacant, overlaps}
-use Rattle.mm_model.specs.Views.ByBase.{Begins, Based, based}
+use Rattle.mm_model.specs.Views.ByBase.{Begins, Based, based, with_entry}
 use Rattle.mm_model.specs.Views.ObjectView.{ObjectView, ObjectsByBase, piece_of_object, pieces_of_objects}
 use Rattle.mm_model.proofs.Lists.Keyed.{any-map}
-use Rattle.mm_model.proofs.Lists.Replaced.{get-set_cases}
+use Rattle.mm_model.proofs.Lists.Replaced.{get-set_same, get-set_cases}
 use Rattle.mm_model.proofs.View.ByBase.Entries.{begins_any}
 use Rattle.mm_audit.specs.declared.header.Header.{Header}
 use Rattle.mm_audit.specs.Objects.{object_with, object_in, IsRoomy, KeepsObjects}
@@ -121,3 +123,16 @@ module _ (entries : List (Option Header)) (begins words : List ℕ) (keeps : Kee
             (get-set_cases entries grain k entry (Some header) is);
         not_behind = keeps.not_behind;
       }
+
+-- what was entered at a base begins there
+pub entered-begins : (objects before : ObjectsByBase) (base : ℕ) (object : ObjectView)
+    → objects ≡ with_entry base (Some object) before → base % 16 ≡ 0 → base < 16 * length before
+    → Begins objects base object
+entered-begins objects before base object is aligned inside =
+    let was = slice_get-get_or before (base / 16) None (omega arith) in
+    record {
+      grain = base / 16;
+      aligned = omega arith;
+      is = ap (λ v. slice_get v (base / 16)) is
+          ∙ get-set_same before (base / 16) (get_or before (base / 16) None) (Some object) was;
+    }
