@@ -1,19 +1,21 @@
 -- Each object has its grains to itself, and what changes in the grains of one changes no other.
 use Rattle.std.proofs.Common.{◌≡◌, ◌≢◌, ℕ, ◌+◌, ◌*◌, ◌/◌, ◌%◌, ◌<◌, ◌≤◌, ◌⊎◌, inl, inr, ⊎_elim, Bool, true, not, ◌&&◌}
-use Rattle.std.proofs.Common.{List, length, Option, Some, None, sym, ap, ◌∙◌, arith}
-use Rattle.std.specs.Prelude.{IsTrue, slice_get, slice_set, nat_lt}
+use Rattle.std.proofs.Common.{List, length, map, Option, Some, None, refl, sym, ap, ◌∙◌, arith}
+use Rattle.std.specs.Prelude.{IsTrue, is_some, slice_get, slice_set, nat_lt}
+use Rattle.std.specs.Option.{option_map}
 use Rattle.std.specs.List.{list_any}
 use Rattle.std.proofs.lemmas.Bool.{cases_lt}
 use Rattle.std.proofs.lemmas.Bool.Decides.{nat_tests}
 use Rattle.std.proofs.Math.ListN.{get_or}
 use Rattle.std.proofs.lemmas.List.{length-set}
-use Rattle.std.proofs.lemmas.Option.{slice_get-get_or}
+use Rattle.std.proofs.lemmas.Option.{slice_get-get_or, slice_get-map}
 use Rattle.mm_model.specs.Places.Place.{is_vacant, overlaps}
 use Rattle.mm_model.specs.Views.ByBase.{Begins, Based, based, with_entry}
 use Rattle.mm_model.specs.Views.ObjectView.{ObjectView, ObjectsByBase, piece_of_object, pieces_of_objects}
 use Rattle.mm_model.proofs.Lists.Keyed.{any-map}
-use Rattle.mm_model.proofs.Lists.Replaced.{get-set_same, get-set_cases}
+use Rattle.mm_model.proofs.Lists.Replaced.{get-set_same, get-set_cases, map-set}
 use Rattle.mm_model.proofs.View.ByBase.Entries.{begins_any}
+use Rattle.mm_audit.specs.Bits.{IsMarked}
 use Rattle.mm_audit.specs.declared.header.Header.{Header}
 use Rattle.mm_audit.specs.Objects.{object_with, object_in, IsRoomy, KeepsObjects}
 use Rattle.mm_audit.proofs.Shown.{parts_alike}
@@ -123,6 +125,27 @@ module _ (entries : List (Option Header)) (begins words : List ℕ) (keeps : Kee
             (get-set_cases entries grain k entry (Some header) is);
         not_behind = keeps.not_behind;
       }
+
+-- the grains at which an object begins
+pub taken-entry : (entries : List (Option Header)) (grain : ℕ) (header : Header)
+    → slice_get entries grain ≡ Some (Some header) → IsMarked (map is_some entries) grain
+taken-entry entries grain header is = slice_get-map is_some entries grain ∙ ap (option_map is_some) is
+
+pub entry-taken : (entries : List (Option Header)) (grain : ℕ) → IsMarked (map is_some entries) grain
+    → (header : Header) × (slice_get entries grain ≡ Some (Some header))
+entry-taken entries grain marked =
+    split (slice_get entries grain) refl (sym (slice_get-map is_some entries grain) ∙ marked)
+  where
+    split : (told : Option (Option Header)) → slice_get entries grain ≡ told → option_map is_some told ≡ Some true
+        → (header : Header) × (slice_get entries grain ≡ Some (Some header))
+    split None e is = cc
+    split (Some None) e is = cc
+    split (Some (Some header)) e is = (header, e)
+
+pub taken-set : (entries : List (Option Header)) (taken : List Bool) → taken ≡ map is_some entries → (grain : ℕ)
+    (entry : Option Header) → slice_set taken grain (is_some entry) ≡ map is_some (slice_set entries grain entry)
+taken-set entries taken marks grain entry =
+    ap (λ v. slice_set v grain (is_some entry)) marks ∙ sym (map-set is_some entries grain entry)
 
 -- what was entered at a base begins there
 pub entered-begins : (objects before : ObjectsByBase) (base : ℕ) (object : ObjectView)

@@ -3,9 +3,12 @@ pub mod Changed
 pub mod Fitting
 pub mod Grains
 pub mod Lines
+pub mod Marks
 pub mod References
 pub mod Resolving
 pub mod Shown
 pub mod Spellings
 pub mod Stacks
+pub mod Used
+pub mod Vacant
 pub mod Zeros

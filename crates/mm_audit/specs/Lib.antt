@@ -1,4 +1,6 @@
 pub mod Audit
+pub mod Bits
 pub mod Counts
+pub mod Numbers
 pub mod Objects
 pub mod Stack

@@ -1,7 +1,7 @@
 -- The live objects by base, as they are kept: their headers by grain, the words of the region, and for each grain the
 -- one at which the object begins that has it.
 use Rattle.std.specs.Prelude.{◌≡◌, ℕ, ◌+◌, ◌*◌, ◌%◌, ◌^◌, ◌<◌, ◌≤◌, IsTrue, List, [], ◌∷◌, length, take, drop}
-use Rattle.std.specs.Prelude.{Option, Some, None, slice_get}
+use Rattle.std.specs.Prelude.{Bool, map, Option, Some, None, is_some, slice_get}
 use Rattle.std.specs.Option.{option_map}
 use Rattle.mm_model.specs.declared.object.Colour.{Colour}
 use Rattle.mm_model.specs.declared.object.Shape.{Shape}
@@ -75,6 +75,16 @@ pub record IsLike (objects : ObjectsByBase) (base : ℕ) (header : Header) : Typ
   pub extent : header.extent ≡ object.extent
   pub slots : header.slots ≡ length object.words
 
+-- the lowest base of an object from an address on
+pub record IsNextObject (objects : ObjectsByBase) (from base : ℕ) : Type 0 where
+  pub is : IsObject objects base
+  pub reached : from ≤ base
+  pub least : (lower : ℕ) (object : ObjectView) → from ≤ lower → Begins objects lower object → base ≤ lower
+
+-- none begins there or behind
+abbrev pub NoObjectFrom : ObjectsByBase → ℕ → Type 0
+NoObjectFrom objects from = (base : ℕ) (object : ObjectView) → from ≤ base → Begins objects base object → ⊥
+
 -- Inner: one number stands at each of so many places from the first on, and all other places are as they were.
 pub record IsFilled (before after : List ℕ) (first count number : ℕ) : Type 0 where
   pub size : length after ≡ length before
@@ -118,3 +128,8 @@ pub record KeepsObjects (entries : List (Option Header)) (begins words : List �
       → (inner : ℕ) → grain ≤ inner → 16 * inner < 16 * grain + header.extent → slice_get begins inner ≡ Some grain
   -- an object begins at its first grain
   pub not_behind : (inner grain : ℕ) → slice_get begins inner ≡ Some grain → grain ≤ inner
+
+-- the same, with a mark for each grain at which an object begins
+pub record KeepsMarked (entries : List (Option Header)) (begins words : List ℕ) (taken : List Bool) : Type 0 where
+  pub objects : KeepsObjects entries begins words
+  pub marks : taken ≡ map is_some entries

@@ -3,10 +3,12 @@
 #![tactic(auto)]
 
 mod answer;
+mod bits;
 mod count;
 mod counts;
 mod header;
 mod laws;
+mod numbers;
 mod objects;
 mod stack;
 #[cfg(test)]
@@ -21,6 +23,7 @@ pub use laws::{
     every_log_has_an_answer, lines_make_up_a_log, spellings_are_lines,
     zeros_are_zero_count_objects,
 };
+pub use numbers::Numbers;
 pub use objects::Objects;
 pub use stack::Stack;
 

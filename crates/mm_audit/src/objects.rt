@@ -1,16 +1,17 @@
 // The live objects by base.
 ghost use Rattle.std.specs.Prelude.{◌≡◌, ◌+◌, ◌*◌, ◌/◌, ◌<◌, ◌≤◌, true, length, replicate, slice_get, Some, None};
-ghost use Rattle.std.specs.Prelude.{IfOk};
+ghost use Rattle.std.specs.Prelude.{◌%◌, IfOk, MatchOption};
 ghost use Rattle.std.specs.Option.{option_map};
 ghost use Rattle.mm_model.specs.Views.ByBase.{Begins, with_entry};
 ghost use Rattle.mm_model.specs.Views.ObjectView.{ObjectView};
 ghost use Rattle.mm_model.specs.Views.ViewWords.{object_at, resolved_in};
 ghost use Rattle.mm_audit.specs.Counts.{with_word};
 ghost use Rattle.mm_audit.specs.Objects.{header_of, found_of, object_with, newborn_of, IsObject, HasSlot, IsRoomFor};
-ghost use Rattle.mm_audit.specs.Objects.{HasHeader, IsFilled, IsLike};
+ghost use Rattle.mm_audit.specs.Objects.{HasHeader, IsFilled, IsLike, IsNextObject, NoObjectFrom};
 
 use crate::NoMemory;
 use crate::header::{Found, Header};
+use crate::numbers::Numbers;
 use mm_model::{Colour, Shape};
 use std::alloc::Global;
 use std::marker::Model;
@@ -31,27 +32,29 @@ const HEADER_WORDS: u32 = 4;
 
 /// The live objects of a region, by base.
 ///
-/// No call but `make` takes memory. To bear an object takes some steps for each 16 bytes of it. Any other call takes
-/// the same time however many objects and pages there are.
+/// No call but `make` takes memory. To bear an object takes some steps for each 16 bytes of it. `next` looks at one
+/// word for each 64 KiB that it passes over. Any other call takes the same time however many objects and pages there are.
 #[derive(Drop)]
 pub struct Objects {
     // By grain.
     entries: Vec<Option<Header>>,
     // Where the object begins that has a grain, by grain.
     begins: Vec<u32>,
+    // The grains at which an object begins.
+    taken: Numbers,
     // The words of the region: slot s of the object at a base is word `base / 4 + 4 + s`.
     words: Vec<u32>,
 }
 
 impl Model for Objects {
     ghost use Rattle.mm_model.specs.Views.ObjectView.{ObjectsByBase};
-    ghost use Rattle.mm_audit.specs.Objects.{shown, KeepsObjects};
+    ghost use Rattle.mm_audit.specs.Objects.{shown, KeepsMarked};
 
     ghost Value = { ObjectsByBase };
 
     ghost view = { λ s. shown s.words.items s.entries.items };
 
-    ghost invariant = { λ s. KeepsObjects s.entries.items s.begins.items s.words.items };
+    ghost invariant = { λ s. KeepsMarked s.entries.items s.begins.items s.words.items s.taken };
 }
 
 // The header of an object.
@@ -83,10 +86,12 @@ impl Objects {
         let grains = (PAGE_GRAINS * pages) as usize;
         let entries = vec![in alloc; None; grains]?;
         let begins = vec![in alloc; 0; grains]?;
+        let taken = Numbers::make(alloc, PAGE_GRAINS * pages)?;
         let words = vec![in alloc; 0; 4 * grains]?;
         Ok(Objects {
             entries,
             begins,
+            taken,
             words,
         })
     }
@@ -117,6 +122,21 @@ impl Objects {
             Some(Found { base, header })
         } else {
             None
+        }
+    }
+
+    /// The base of the lowest object that begins at an address or behind it.
+    pub fn next(&self, from: u32) -> Option<u32>
+        requires aligned { from % 16 ≡ 0 }
+        ensures { MatchOption result (NoObjectFrom self.now from) (IsNextObject self.now from) }
+    {
+        let grain = from / GRAIN;
+        if self.entries.len() <= grain as usize {
+            return None;
+        }
+        match self.taken.next(grain) {
+            None => None,
+            Some(next) => Some(GRAIN * next),
         }
     }
 
@@ -153,6 +173,7 @@ impl Objects {
             0,
         );
         self.entries[grain as usize] = Some(Header::newborn(extent, shape, colour));
+        self.taken.insert(grain);
     }
 
     /// The object at a base was freed.
@@ -162,6 +183,7 @@ impl Objects {
         ensures size { length self.new ≡ length self.old }
     {
         self.entries[(base / GRAIN) as usize] = None;
+        self.taken.remove(base / GRAIN);
     }
 
     /// Another word in a slot.

@@ -69,6 +69,8 @@ fn an_object_is_found_by_a_word_that_falls_in_it(rt: HostRuntime) -> Result<(), 
     assert_eq!(&rt; objects.find(4128), None);
     assert_eq!(&rt; objects.get(4096), Some(HEADER));
     assert_eq!(&rt; objects.get(4112), None);
+    assert_eq!(&rt; objects.next(0), Some(4096));
+    assert_eq!(&rt; objects.next(4112), None);
     objects.free(4096);
     assert_eq!(&rt; objects.find(4096), None);
     Ok(())

@@ -1,9 +1,11 @@
 -- An entry is empty.
 use Rattle.std.proofs.Common.{◌≡◌, ◌/◌, length, ap, ◌∙◌, sym, arith}
-use Rattle.std.specs.Prelude.{None}
-use Rattle.std.proofs.lemmas.List.{length-set}
+use Rattle.std.specs.Prelude.{None, is_some}
+use Rattle.std.proofs.lemmas.List.{length-set, length-map}
 use Rattle.mm_model.specs.Views.ByBase.{with_entry}
 use Rattle.mm_audit.specs.Objects.{shown}
+use Rattle.mm_audit.specs.declared.header.Header.{Header}
+use Rattle.mm_audit.proofs.Grains.{taken-set}
 use Rattle.mm_audit.proofs.Shown.{length-shown}
 use Rattle.mm_audit.proofs.Changed.{shown-freed, kept-freed}
 use Rattle.mm_audit.proofs.objects.Objects.free.Goals as goal
@@ -15,16 +17,33 @@ index_mut-requires c =
     let len = s.entries.ok.0 in
     omega (arith, length-shown s.words.items s.entries.items)
 
+pub remove-requires : goal.remove-requires
+remove-requires c =
+    let s = c.self.inside in
+    let size : length (shown s.words.items s.entries.items) ≡ length c.args.self.now = ap length c.self.view_is in
+    let marks = ap length c.self.invariant.marks in
+    record {
+      inside = omega (
+        arith,
+        length-shown s.words.items s.entries.items,
+        length-map s.entries.items (is_some {T = Header}),
+        c.requires.inside,
+      );
+    }
+
 pub invariant_of-self : goal.invariant_of-self
 invariant_of-self c =
     let s = c.self.inside in
-    kept-freed s.entries.items s.begins.items s.words.items c.self.invariant (c.args.base / 16)
+    record {
+      objects = kept-freed s.entries.items s.begins.items s.words.items c.self.invariant.objects (c.args.base / 16);
+      marks = c.remove.ensures ∙ taken-set s.entries.items s.taken c.self.invariant.marks (c.args.base / 16) None;
+    }
 
 pub returns-clause-freed : goal.returns-clause-freed
 returns-clause-freed c =
     let s = c.self.inside in
     let size : length (shown s.words.items s.entries.items) ≡ length c.args.self.now = ap length c.self.view_is in
-    shown-freed s.entries.items s.begins.items s.words.items c.self.invariant c.args.base
+    shown-freed s.entries.items s.begins.items s.words.items c.self.invariant.objects c.args.base
     (omega (arith, length-shown s.words.items s.entries.items))
     ∙ ap (with_entry c.args.base None) c.self.view_is
 

@@ -33,6 +33,6 @@ returns c =
     let len = s.entries.ok.0 in
     let told = slice_get_read s.entries.items _ (c.args.base / 16) c.index.result.now len (omega arith) c.index.ensures
     in
-    object_at-told s.entries.items s.begins.items s.words.items c.self.invariant c.args.base (omega arith)
+    object_at-told s.entries.items s.begins.items s.words.items c.self.invariant.objects c.args.base (omega arith)
     c.index.result.now told
     ∙ ap (λ v. option_map (λ (o : Based ObjectView). header_of o.value) (object_at v c.args.base)) c.self.view_is

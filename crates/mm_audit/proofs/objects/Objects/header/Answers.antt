@@ -21,4 +21,4 @@ returns c object there =
     let one = begins-kept s.words.items s.entries.items c.args.base object begins in
     let read = ap (λ es. slice_get es (c.args.base / 16)) (sym c.deref.ensures.value) ∙ c.header_in.ensures in
     inside_same c.header_in.result one.header (inside_same _ _ (sym read ∙ one.is))
-    ∙ sym (header-kept s.entries.items s.begins.items s.words.items c.self.invariant c.args.base object begins)
+    ∙ sym (header-kept s.entries.items s.begins.items s.words.items c.self.invariant.objects c.args.base object begins)

@@ -1,9 +1,11 @@
 -- One header changes.
-use Rattle.std.proofs.Common.{◌/◌, length, Some, ap, ◌∙◌, sym, subst, arith}
+use Rattle.std.proofs.Common.{◌/◌, length, Some, refl, ap, ◌∙◌, sym, subst, arith}
+use Rattle.std.specs.Prelude.{is_some}
 use Rattle.std.proofs.lemmas.List.{length-set}
 use Rattle.std.proofs.lemmas.Option.{slice_get_within}
 use Rattle.mm_model.specs.Views.ByBase.{Begins, with_entry}
 use Rattle.mm_model.specs.Views.ObjectView.{ObjectView}
+use Rattle.mm_model.proofs.Lists.Replaced.{map-set_alike}
 use Rattle.mm_model.proofs.View.ByBase.Entries.{begins_same}
 use Rattle.mm_audit.specs.Objects.{object_with}
 use Rattle.mm_audit.proofs.Shown.{length-shown, begins-kept}
@@ -25,8 +27,15 @@ invariant_of-self c =
     let s = c.self.inside in
     let like = c.requires.alike in
     let begins = subst (λ v. Begins v c.args.base like.object) (sym c.self.view_is) like.begins in
-    kept-rewritten s.entries.items s.begins.items s.words.items c.self.invariant c.args.base like.object begins
-    c.args.header like.extent like.slots
+    let kept = begins-kept s.words.items s.entries.items c.args.base like.object begins in
+    record {
+      objects = kept-rewritten s.entries.items s.begins.items s.words.items c.self.invariant.objects c.args.base
+          like.object begins c.args.header like.extent like.slots;
+      marks = c.self.invariant.marks
+          ∙ sym
+          (map-set_alike is_some s.entries.items (c.args.base / 16) (Some kept.header) (Some c.args.header) kept.is
+          refl);
+    }
 
 pub returns-clause-rewritten : goal.returns-clause-rewritten
 returns-clause-rewritten c object there =
@@ -35,7 +44,7 @@ returns-clause-rewritten c object there =
     let same = begins_same c.args.self.now c.args.base like.object object like.begins there in
     let slots = like.slots ∙ ap (λ (o : ObjectView). length o.words) same in
     let begins = subst (λ v. Begins v c.args.base object) (sym c.self.view_is) there in
-    shown-rewritten s.entries.items s.begins.items s.words.items c.self.invariant c.args.base object begins
+    shown-rewritten s.entries.items s.begins.items s.words.items c.self.invariant.objects c.args.base object begins
     c.args.header slots
     ∙ ap (with_entry c.args.base (Some (object_with object.words c.args.header))) c.self.view_is
 

@@ -12,10 +12,10 @@ overflow_add-base-2 c =
     let s = c.self.inside in
     let slot = c.requires.slot in
     let begins = subst (λ v. Begins v c.args.base slot.object) (sym c.self.view_is) slot.begins in
-    let place = slot-place s.entries.items s.begins.items s.words.items c.self.invariant c.args.base slot.object
+    let place = slot-place s.entries.items s.begins.items s.words.items c.self.invariant.objects c.args.base slot.object
     begins c.args.slot slot.within in
-    let each = c.self.invariant.each_word in
-    let few = c.self.invariant.few in
+    let each = c.self.invariant.objects.each_word in
+    let few = c.self.invariant.objects.few in
     omega arith
 
 pub index-requires : goal.index-requires
@@ -24,7 +24,7 @@ index-requires c =
     let slot = c.requires.slot in
     let begins = subst (λ v. Begins v c.args.base slot.object) (sym c.self.view_is) slot.begins in
     let len = s.words.ok.0 in
-    let place = slot-place s.entries.items s.begins.items s.words.items c.self.invariant c.args.base slot.object
+    let place = slot-place s.entries.items s.begins.items s.words.items c.self.invariant.objects c.args.base slot.object
     begins c.args.slot slot.within in
     omega arith
 
@@ -35,8 +35,8 @@ returns c object there =
     let same = begins_same c.args.self.now c.args.base slot.object object slot.begins there in
     let below = subst (λ (o : ObjectView). c.args.slot < length o.words) same slot.within in
     let begins = subst (λ v. Begins v c.args.base object) (sym c.self.view_is) there in
-    let place = slot-place s.entries.items s.begins.items s.words.items c.self.invariant c.args.base object begins
+    let place = slot-place s.entries.items s.begins.items s.words.items c.self.invariant.objects c.args.base object begins
     c.args.slot below in
     let len = s.words.ok.0 in
-    slot-kept s.entries.items s.begins.items s.words.items c.self.invariant c.args.base object begins c.args.slot below
+    slot-kept s.entries.items s.begins.items s.words.items c.self.invariant.objects c.args.base object begins c.args.slot below
     ∙ ap (λ n. Some n) (sym (get_or_read s.words.items _ _ place c.index.ensures 0))
