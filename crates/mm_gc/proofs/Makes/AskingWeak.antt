@@ -49,8 +49,8 @@ module _ (gc : Gc) (i word : ℕ) (found : Found) (m : IsMeant gc i word found) 
   pub weak-no_weak : (heard : List Told → Type 0) → heard [] → is_weak found.shape.kind ≡ true
       → Tells gc gc (commands.Weak i) (replies.Refused refusals.NoWeak) heard
   weak-no_weak heard nothing weak =
-      tells-refused gc (commands.Weak i) refusals.NoWeak heard nothing (rows.weak-weak (view_of_gc gc) i word meant means
-      (kind weak))
+      tells-refused gc (commands.Weak i) refusals.NoWeak heard nothing
+      (rows.weak-weak (view_of_gc gc) i word meant means (kind weak))
 
   module _ (strong : is_weak found.shape.kind ≡ false) where
     pub weak-stack_full : (heard : List Told → Type 0) → heard [] → (length gc.stack.words == gc.settings.stack) ≡ true

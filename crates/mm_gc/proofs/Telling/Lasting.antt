@@ -30,7 +30,8 @@ use Rattle.mm_model.specs.Views.ViewEffect.{view_new_effect, view_weak_effect, v
 use Rattle.mm_model.specs.Views.ViewEffect.{newborn_view, with_colour, view_look_effect, view_begun}
 use Rattle.mm_model.specs.Views.ViewEffect.{view_done, view_pushed, view_put_effect, view_area_put_effect}
 use Rattle.mm_model.specs.Views.ViewEffect.{view_without_area}
-use Rattle.mm_model.specs.Views.ViewPhase.{unless_listed, view_after_release, view_released, view_reaped, view_collected}
+use Rattle.mm_model.specs.Views.ViewPhase.{unless_listed, view_after_release, view_released, view_reaped}
+use Rattle.mm_model.specs.Views.ViewPhase.{view_collected}
 use Rattle.mm_model.specs.Views.ViewStep.{IsViewRow, ViewRowUnless, ViewCarries, ViewSearches, ViewMakes, ViewMakesWeak}
 use Rattle.mm_model.specs.Views.ViewStep.{view_part_done, view_part_slots, slots_done_in, with_partly, ViewScansAll}
 use Rattle.mm_model.specs.Views.ViewStep.{ViewIsPlain}
@@ -197,7 +198,8 @@ unnamed stack outside base object only = split (names_at stack base object) refl
     split false e = e
     split true e =
         absurd (never (is_counted object.kind) (not object.sticky) (outside base == 0)
-        (subst (λ (named : Bool). IsTrue (is_counted object.kind && not object.sticky && not named && outside base == 0))
+        (subst
+        (λ (named : Bool). IsTrue (is_counted object.kind && not object.sticky && not named && outside base == 0))
         e only))
 
 pub reapable-unnamed : (objects : ObjectsByBase) (stack : List ℕ) (outside : ℕ → ℕ) (base : ℕ)
