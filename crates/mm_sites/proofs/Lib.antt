@@ -3,6 +3,7 @@ pub mod Empty
 pub mod Entered
 pub mod Kept
 pub mod Living
+pub mod OneMore
 pub mod Parallel
 pub mod Texts
 pub mod Totals

@@ -1,11 +1,12 @@
 // Laws of the sites of commands and births, and of what is entered.
-ghost use Rattle.std.specs.Prelude.{◌≡◌, ℕ, ◌+◌, ◌++◌, List, [], length, Ok, Some, None};
+ghost use Rattle.std.specs.Prelude.{◌≡◌, ℕ, ◌+◌, ◌++◌, ◌∷◌, List, [], length, Ok, Some, None};
 ghost use Rattle.mm_model.specs.Good.{IsGood};
 ghost use Rattle.mm_model.specs.State.{State};
 ghost use Rattle.mm_model.specs.Logs.Trace.{line_reading, reading_from, trace_reading};
-ghost use Rattle.mm_model.specs.Logs.Turns.{Turn, births_in};
+ghost use Rattle.mm_model.specs.Logs.Turns.{Turn, births_of, births_in};
 ghost use Rattle.mm_sites.specs.Births.{birth_sites, total_in};
 ghost use Rattle.mm_sites.specs.Entries.{EntriesByBase, total_of};
+ghost use Rattle.mm_sites.specs.Following.{sites_with};
 ghost use Rattle.mm_sites.specs.Lines.{site_line, sites_of_lines, sites_of_trace};
 ghost use Rattle.mm_sites.specs.Living.{AreEntered};
 ghost use Rattle.mm_sites.specs.Text.{site_text, sites_text, texts_below};
@@ -28,6 +29,13 @@ pub fn each_command_has_a_site()
 pub fn each_birth_has_a_site()
     ensures { (turns : List Turn) (sites : List ℕ) → length sites ≡ length turns
         → length (birth_sites turns sites) ≡ length (births_in turns) }
+{}
+
+/// What is born in one more turn has the site of the turn's command, and its sites come behind those before.
+pub fn sites_of_births_come_one_after_another()
+    ensures { (turns : List Turn) (turn : Turn) (sites : List ℕ) (site : ℕ) → length sites ≡ length turns
+        → birth_sites (turns ++ turn ∷ []) (sites ++ site ∷ [])
+        ≡ sites_with site (birth_sites turns sites) (births_of turn) }
 {}
 
 /// Where exactly the live objects of a state are entered, the totals of the entries are those of the state.
