@@ -1,13 +1,15 @@
 // Laws of the sites of commands and births, and of what is entered.
-ghost use Rattle.std.specs.Prelude.{◌≡◌, ℕ, ◌+◌, ◌++◌, ◌∷◌, List, [], length, Ok, Some, None};
+ghost use Rattle.std.specs.Prelude.{◌≡◌, ℕ, ◌+◌, ◌++◌, ◌∷◌, List, [], length, Ok, Err, Some, None, unwrap_or};
+ghost use Rattle.mm_model.specs.declared.command.Command.{Command};
+ghost use Rattle.mm_model.specs.declared.refusal.LineFault.{LineFault};
 ghost use Rattle.mm_model.specs.Good.{IsGood};
 ghost use Rattle.mm_model.specs.State.{State};
-ghost use Rattle.mm_model.specs.Logs.Trace.{line_reading, reading_from, trace_reading};
+ghost use Rattle.mm_model.specs.Logs.Trace.{line_reading, reading_from, trace_reading, FaultAt};
 ghost use Rattle.mm_model.specs.Logs.Turns.{Turn, births_of, births_in};
 ghost use Rattle.mm_sites.specs.Births.{birth_sites, total_in};
 ghost use Rattle.mm_sites.specs.Entries.{EntriesByBase, total_of};
 ghost use Rattle.mm_sites.specs.Following.{sites_with};
-ghost use Rattle.mm_sites.specs.Lines.{site_line, sites_of_lines, sites_of_trace};
+ghost use Rattle.mm_sites.specs.Lines.{site_line, site_after, sites_of_lines, sites_of_trace};
 ghost use Rattle.mm_sites.specs.Living.{AreEntered};
 ghost use Rattle.mm_sites.specs.Text.{site_text, sites_text, texts_below};
 ghost use Rattle.mm_sites.specs.declared.site_total.SiteTotal.{SiteTotal};
@@ -36,6 +38,22 @@ pub fn sites_of_births_come_one_after_another()
     ensures { (turns : List Turn) (turn : Turn) (sites : List ℕ) (site : ℕ) → length sites ≡ length turns
         → birth_sites (turns ++ turn ∷ []) (sites ++ site ∷ [])
         ≡ sites_with site (birth_sites turns sites) (births_of turn) }
+{}
+
+/// One more line has the site that the lines before it name last, where it is a command and no fault stands before it.
+pub fn sites_of_lines_come_one_after_another()
+    ensures command { (n : ℕ) (lines : List (List ℕ)) (line : List ℕ) (command : Command) →
+        (reading_from line_reading n lines).fault ≡ None → line_reading line ≡ Ok (Some command)
+        → sites_of_lines (lines ++ line ∷ []) ≡ sites_of_lines lines ++ site_after lines ∷ [] }
+    ensures passed_over { (lines : List (List ℕ)) (line : List ℕ) → line_reading line ≡ Ok None
+        → sites_of_lines (lines ++ line ∷ []) ≡ sites_of_lines lines }
+    ensures fault { (lines : List (List ℕ)) (line : List ℕ) (fault : LineFault) → line_reading line ≡ Err fault
+        → sites_of_lines (lines ++ line ∷ []) ≡ sites_of_lines lines }
+    ensures behind_a_fault { (n : ℕ) (lines : List (List ℕ)) (line : List ℕ) (fault : FaultAt) →
+        (reading_from line_reading n lines).fault ≡ Some fault
+        → sites_of_lines (lines ++ line ∷ []) ≡ sites_of_lines lines }
+    ensures site { (lines : List (List ℕ)) (line : List ℕ) →
+        site_after (lines ++ line ∷ []) ≡ unwrap_or (site_line line) (site_after lines) }
 {}
 
 /// Where exactly the live objects of a state are entered, the totals of the entries are those of the state.
