@@ -1,6 +1,7 @@
 pub mod Bounds
 pub mod Empty
 pub mod Entered
+pub mod Following
 pub mod Kept
 pub mod Living
 pub mod OneMore

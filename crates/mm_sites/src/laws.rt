@@ -1,14 +1,18 @@
 // Laws of the sites of commands and births, and of what is entered.
-ghost use Rattle.std.specs.Prelude.{◌≡◌, ℕ, ◌+◌, ◌++◌, ◌∷◌, List, [], length, Ok, Err, Some, None, unwrap_or};
+ghost use Rattle.std.specs.Prelude.{◌≡◌, ℕ, ◌+◌, ◌*◌, ◌≤◌, ◌++◌, ◌∷◌, List, [], length, Ok, Err, Some, None};
+ghost use Rattle.std.specs.Prelude.{unwrap_or};
 ghost use Rattle.mm_model.specs.declared.command.Command.{Command};
+ghost use Rattle.mm_model.specs.declared.line.Line.{Line};
 ghost use Rattle.mm_model.specs.declared.refusal.LineFault.{LineFault};
+ghost use Rattle.mm_model.specs.After.{freed_bases};
 ghost use Rattle.mm_model.specs.Good.{IsGood};
 ghost use Rattle.mm_model.specs.State.{State};
+ghost use Rattle.mm_model.specs.Step.{IsStep};
 ghost use Rattle.mm_model.specs.Logs.Trace.{line_reading, reading_from, trace_reading, FaultAt};
-ghost use Rattle.mm_model.specs.Logs.Turns.{Turn, births_of, births_in};
+ghost use Rattle.mm_model.specs.Logs.Turns.{Turn, Born, births_if, births_of, births_in, reply_in};
 ghost use Rattle.mm_sites.specs.Births.{birth_sites, total_in};
-ghost use Rattle.mm_sites.specs.Entries.{EntriesByBase, total_of};
-ghost use Rattle.mm_sites.specs.Following.{sites_with};
+ghost use Rattle.mm_sites.specs.Entries.{EntriesByBase, total_of, without};
+ghost use Rattle.mm_sites.specs.Following.{sites_with, with_births};
 ghost use Rattle.mm_sites.specs.Lines.{site_line, site_after, sites_of_lines, sites_of_trace};
 ghost use Rattle.mm_sites.specs.Living.{AreEntered};
 ghost use Rattle.mm_sites.specs.Text.{site_text, sites_text, texts_below};
@@ -61,6 +65,21 @@ pub fn totals_are_those_of_the_living()
     ensures { (a : State) (sites : List ℕ) (entries : EntriesByBase) (site : ℕ) → IsGood a
         → length sites ≡ length a.objects → AreEntered a sites entries
         → total_of entries site ≡ total_in a sites site }
+{}
+
+/// Where exactly the live objects of a state are entered, those after a command are: without what its lines free, and
+/// then with what it bore, which has the command's site.
+pub fn entries_follow_a_command()
+    ensures entered { (a : State) (command : Command) (group : List Line) (b : State) (sites : List ℕ) (site : ℕ)
+        (entries : EntriesByBase) → IsGood a → IsStep a command group b → length sites ≡ length a.objects
+        → 256 * a.settings.max ≤ length entries → AreEntered a sites entries
+        → AreEntered b (sites_with site sites (births_if a command (reply_in group)))
+        (with_births site (without entries (freed_bases group)) (births_if a command (reply_in group))) }
+    ensures births { (a : State) (command : Command) (group : List Line) (b : State) (sites : List ℕ) (site : ℕ)
+        → IsStep a command group b → length sites ≡ length a.objects
+        → length (sites_with site sites (births_if a command (reply_in group))) ≡ length b.objects }
+    ensures room { (site : ℕ) (entries : EntriesByBase) (bases : List ℕ) (births : List Born)
+        → length (with_births site (without entries bases) births) ≡ length entries }
 {}
 
 /// The text of all sites is that of site after site.

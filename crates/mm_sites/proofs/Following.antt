@@ -1,0 +1,5 @@
+pub mod Bearing
+pub mod Commands
+pub mod Freeing
+pub mod Spans
+pub mod Steps
