@@ -12,7 +12,7 @@ ghost use Rattle.mm_model.specs.Logs.Trace.{line_reading, reading_from, trace_re
 ghost use Rattle.mm_model.specs.Logs.Turns.{Turn, Born, births_if, births_of, births_in, reply_in};
 ghost use Rattle.mm_sites.specs.Births.{birth_sites, total_in};
 ghost use Rattle.mm_sites.specs.Entries.{EntriesByBase, total_of, without};
-ghost use Rattle.mm_sites.specs.Following.{sites_with, with_births};
+ghost use Rattle.mm_sites.specs.Following.{IsFreeAt, sites_with, with_births};
 ghost use Rattle.mm_sites.specs.Lines.{site_line, site_after, sites_of_lines, sites_of_trace};
 ghost use Rattle.mm_sites.specs.Living.{AreEntered};
 ghost use Rattle.mm_sites.specs.Text.{site_text, sites_text, texts_below};
@@ -67,8 +67,8 @@ pub fn totals_are_those_of_the_living()
         → total_of entries site ≡ total_in a sites site }
 {}
 
-/// Where exactly the live objects of a state are entered, those after a command are: without what its lines free, and
-/// then with what it bore, which has the command's site.
+/// Where exactly the live objects of a state are entered, so are those after a command: what its lines free is taken
+/// away first, and then what it bore is entered, with the command's site.
 pub fn entries_follow_a_command()
     ensures entered { (a : State) (command : Command) (group : List Line) (b : State) (sites : List ℕ) (site : ℕ)
         (entries : EntriesByBase) → IsGood a → IsStep a command group b → length sites ≡ length a.objects
@@ -80,6 +80,14 @@ pub fn entries_follow_a_command()
         → length (sites_with site sites (births_if a command (reply_in group))) ≡ length b.objects }
     ensures room { (site : ℕ) (entries : EntriesByBase) (bases : List ℕ) (births : List Born)
         → length (with_births site (without entries bases) births) ≡ length entries }
+{}
+
+/// What a command bears begins where nothing is entered any more, once what its lines free is taken away.
+pub fn births_are_where_nothing_is_entered()
+    ensures { (a : State) (command : Command) (group : List Line) (b : State) (sites : List ℕ)
+        (entries : EntriesByBase) (born : Born) → IsGood a → IsStep a command group b → AreEntered a sites entries
+        → births_if a command (reply_in group) ≡ born ∷ []
+        → IsFreeAt (256 * a.settings.max) (without entries (freed_bases group)) born.base }
 {}
 
 /// The text of all sites is that of site after site.

@@ -11,12 +11,6 @@ use Rattle.mm_pace.specs.Recent.{extent_born, since, work_begun}
 abbrev pub bytes_of : Turn → ℕ
 bytes_of turn = sum_by extent_born (births_of turn)
 
--- the bytes that an object takes
-pub record IsExtent (bytes : ℕ) : Type 0 where
-  pub least : 16 ≤ bytes
-  pub most : bytes ≤ 4198400
-  pub grained : bytes % 16 ≡ 0
-
 -- The pacer counts what the turns say that lead to a state. Of the last turn so many bytes were born for which no step
 -- was asked yet.
 pub record Counts (turns : List Turn) (a : State) (unpaid : ℕ) (pace : Pace) : Type 0 where

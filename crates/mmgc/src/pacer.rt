@@ -9,13 +9,13 @@ ghost use Rattle.mm_model.specs.declared.reply.Reply.TheVariants as replies;
 ghost use Rattle.mm_model.specs.declared.settings.Settings.{Settings};
 ghost use Rattle.mm_model.specs.Good.{IsGood};
 ghost use Rattle.mm_model.specs.Logs.Turns.{Turn, births_if};
-ghost use Rattle.mm_model.specs.Places.SizeClass.{extent_of, object_bytes};
 ghost use Rattle.mm_model.specs.State.{State};
 ghost use Rattle.mm_model.specs.Views.View.{Shows};
 ghost use Rattle.mm_pace.specs.Recent.{extent_born};
 ghost use Rattle.mm_pace.specs.Rules.{due_begin, due_finish, due_step, rules_at};
 ghost use Rattle.mm_pace.specs.Work.{is_running, work_of};
-ghost use Rattle.mmgc.specs.Counting.{IsExtent, IsNoted, bytes_of, changes};
+ghost use Rattle.mm_sited.specs.Extents.{IsExtent};
+ghost use Rattle.mmgc.specs.Counting.{IsNoted, bytes_of, changes};
 ghost use Rattle.mmgc.specs.Logging.{driver_of, kept_by, left_of, KeepsOn};
 ghost use Rattle.mmgc.specs.Pacing.{Advances, Applies, AppliesAll, CanDrive, Drives, IsDriven, IsFresh, IsReady};
 ghost use Rattle.mmgc.specs.Pacing.{Paces};
@@ -24,7 +24,6 @@ ghost use Rattle.mmgc.specs.Requests.{IsRate};
 use crate::execute::execute;
 use crate::log::LogWriter;
 use crate::work::work_of;
-use mm_cells::{class_of, extent_of};
 use mm_gc::Gc;
 use mm_io::Sink;
 use mm_model::{Command, Reply};
@@ -32,6 +31,7 @@ use mm_pace::{
     Pace, begin_begins_a_cycle, bytes_and_work_are_counted_on, paced_lists_can_be_carried_on,
     the_last_turn_tells_of_the_state,
 };
+use mm_sited::object_extent;
 use std::marker::Brand;
 use std::sync::ledger::Blank;
 
@@ -39,15 +39,6 @@ use std::sync::ledger::Blank;
 #[derive(Drop)]
 pub(crate) struct Pacer {
     pub(crate) pace: Option<Pace>,
-}
-
-/// The bytes that an object with so many slots takes.
-fn object_extent(slots: u32) -> u32
-    requires { slots ≤ 1048575 }
-    ensures value { result ≡ extent_of (object_bytes slots) }
-    ensures extent { IsExtent result }
-{
-    extent_of(class_of(16 + 4 * slots))
 }
 
 /// The bytes that were born in a command, by its reply.

@@ -5,6 +5,7 @@ mod faults;
 mod large;
 mod paced;
 mod pieces;
+mod recount;
 mod rows;
 mod text;
 mod words;

@@ -30,7 +30,7 @@ use Rattle.mm_laws.proofs.Keeping.FollowingSteps.{keeps-searched, strong-allowed
 use Rattle.mm_laws.proofs.Keeping.Seeing.{SeesSame, is_put, same-plain}
 
 -- a command that bears nothing, whatever it replies
-births_if-none : (a : State) (command : Command) → ((base : ℕ) → born_at a command base ≡ [])
+pub births_if-none : (a : State) (command : Command) → ((base : ℕ) → born_at a command base ≡ [])
     → (reply : Reply) → births_if a command (Some reply) ≡ []
 births_if-none a command none (replies.New base) = none base
 births_if-none a command none replies.Done = refl

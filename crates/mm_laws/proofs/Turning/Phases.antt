@@ -51,6 +51,13 @@ use Rattle.mm_model.proofs.Steps.Determining.{row_as, tail_of, row_after-carried
 use Rattle.mm_model.proofs.Steps.Groups.{phases_in-phase_lines, freed_bases-phase_lines, freed_bases-append}
 use Rattle.mm_laws.proofs.Turning.Bearing.{Views, SeesBorn, bears-new, bears-weak, bears-area}
 
+-- a scan frees nothing
+pub freed_bases-scanned : (a : State) (births : List ℕ) (log : List Line) (b : State) → AreScanned a births log b
+    → freed_bases log ≡ []
+freed_bases-scanned a [] log b scanned = ap freed_bases scanned.0
+freed_bases-scanned a (birth ∷ births) log b scanned =
+    ap freed_bases scanned.3 ∙ freed_bases-scanned (part_done a birth scanned.0) births scanned.1 b scanned.4
+
 -- what each way of freeing frees
 abbrev pub Dead : Way → State → ℕ → Type 0
 Dead Reaping a birth = IsReapable a birth
@@ -346,12 +353,6 @@ module _ (a : State) (log tail : List Line) (effect : Effect) (good : IsGood a) 
         gone = λ birth h. inl
             (gone-same a effect.state (scanned-objects a m.0.births log effect.state m.0.scanned) birth h);
       }
-    where
-      freed_bases-scanned : (a : State) (births : List ℕ) (log : List Line) (b : State) → AreScanned a births log b
-          → freed_bases log ≡ []
-      freed_bases-scanned a [] log b scanned = ap freed_bases scanned.0
-      freed_bases-scanned a (birth ∷ births) log b scanned =
-          ap freed_bases scanned.3 ∙ freed_bases-scanned (part_done a birth scanned.0) births scanned.1 b scanned.4
   right-carried (commands.Push word) allowed m = right-plain a a (commands.Push word) log effect m.no_lines m.effect_is
   right-carried (commands.Dup i) allowed m = right-plain a a (commands.Dup i) log effect m.no_lines m.effect_is
   right-carried (commands.Pop k) allowed m = right-plain a a (commands.Pop k) log effect m.no_lines m.effect_is

@@ -4,6 +4,7 @@ use Rattle.std.proofs.Common.{append_assoc}
 use Rattle.mm_model.specs.declared.command.Command.{Command}
 use Rattle.mm_model.specs.declared.command.Command.TheVariants as commands
 use Rattle.mm_model.specs.declared.refusal.Refusal.{Refusal}
+use Rattle.mm_model.specs.declared.reply.Reply.{Reply}
 use Rattle.mm_model.specs.declared.line.Line.{Line}
 use Rattle.mm_model.specs.declared.line.Line.TheVariants as lines
 use Rattle.mm_model.specs.declared.line.Phase.{Phase}
@@ -115,3 +116,11 @@ group-step a command group b step = split (refusal a command) step
     split : (because : Option Refusal) → IsStepUnless because a command group b → is_group group ≡ true
     split (Some because) m = ap is_group m.group_is
     split None m = group-carried a command group b m
+
+-- the one reply of a group is its last line
+pub reply-last : (front : List Line) (reply : Reply) → is_group (front ++ lines.Reply reply ∷ []) ≡ true
+    → reply_in (front ++ lines.Reply reply ∷ []) ≡ Some reply
+reply-last [] reply group = refl
+reply-last (lines.Reply other ∷ []) reply group = cc
+reply-last (lines.Reply other ∷ line ∷ front) reply group = cc
+reply-last (line ∷ front) reply group = reply-last front reply group

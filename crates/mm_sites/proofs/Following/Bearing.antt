@@ -49,7 +49,7 @@ module _ (a b : State) (born : Born) (bears : SeesBorn span span_of a (born ∷ 
       (one.0, sym newest-base ∙ one.1, one.2)
 
   -- each object that lived lives
-  lives_on : (birth : ℕ) (object : Object) → Lives a birth object → Stands b.objects birth (span object)
+  pub lives_on : (birth : ℕ) (object : Object) → Lives a birth object → Stands b.objects birth (span object)
   lives_on birth object h =
       stands b.objects birth (span object)
       (ap (λ (ss : List Span). slice_get ss birth) bears

@@ -35,7 +35,8 @@ use Rattle.mm_model.proofs.Good.Making.Searching.{searched_is_found}
 use Rattle.mm_model.proofs.Steps.Groups.{freed_bases-phase_lines, freed_bases-append}
 use Rattle.mm_laws.proofs.Keeping.FollowingSteps.{keeps-searched, strong-allowed, scanned-objects}
 use Rattle.mm_laws.proofs.Keeping.Seeing.{SeesSame, same-object, same-plain}
-use Rattle.mm_laws.proofs.Turning.Bearing.{SeesBorn, bears-new, bears-weak}
+use Rattle.mm_laws.proofs.Turning.Bearing.{SeesBorn, bears-new, bears-weak, births_if-none}
+use Rattle.mm_laws.proofs.Turning.Phases.{freed_bases-scanned}
 use Rattle.mm_sites.specs.Entries.{EntriesByBase, without}
 use Rattle.mm_sites.specs.Living.{AreEntered}
 use Rattle.mm_sites.proofs.Following.Freeing.{entered-released, without-append}
@@ -109,25 +110,13 @@ pub data Bears (a middle : State) (births : List Born) (b : State) : Type 0 wher
   One_born : (born : Born) → births ≡ born ∷ [] → SeesBorn span span_of middle (born ∷ []) b
       → slice_get (stack_words b) 0 ≡ Some born.base → b.settings ≡ a.settings → Bears a middle births b
 
--- a command that bears nothing, whatever it replies
-births-none : (a : State) (command : Command) → ((base : ℕ) → born_at a command base ≡ [])
-    → (reply : Reply) → births_if a command (Some reply) ≡ []
-births-none a command none (replies.New base) = none base
-births-none a command none replies.Done = refl
-births-none a command none replies.Loose = refl
-births-none a command none (replies.Word word) = refl
-births-none a command none (replies.Area area) = refl
-births-none a command none (replies.Object found) = refl
-births-none a command none replies.Nothing = refl
-births-none a command none (replies.Stat stat) = refl
-births-none a command none (replies.Refused because) = refl
-
 -- a row frees first, and then bears
 pub record Follows (a : State) (command : Command) (log : List Line) (effect : Effect) : Type 0 where
   pub middle : State
   pub leaves : LeavesEntered a log middle
   pub bears : Bears a middle (births_if a command (Some effect.reply)) effect.state
 
+-- what is made of the place that a search found: an object, a weak reference, or an area
 module _ (a m : State) (settings : m.settings ≡ a.settings) where
   bears-one_new : (shape : Shape) (found : Option ℕ)
       → Bears a m (births_if a (commands.New shape) (Some (new_effect m shape found).reply))
@@ -153,21 +142,15 @@ module _ (a m : State) (settings : m.settings ≡ a.settings) where
       Bears a m (births_if a (commands.Weak i) (Some (made o).reply)) (made o).state) (sym is)
       (One_born born refl sees refl settings)
 
-  bears-no_area : (command : Command) (scanned : Bool) (counted cells : ℕ) (found : Option ℕ)
-      → ((base : ℕ) → born_at a command base ≡ [])
-      → Bears a m (births_if a command (Some (area_effect m scanned counted cells found).reply))
-      (area_effect m scanned counted cells found).state
-  bears-no_area command scanned counted cells None none =
-      Nothing_born (births-none a command none (replies.Refused refusals.Full)) refl
-  bears-no_area command scanned counted cells (Some base) none =
-      let effect = area_effect m scanned counted cells (Some base) in
-      Nothing_born (births-none a command none effect.reply) refl
-
-freed_bases-scanned : (a : State) (births : List ℕ) (log : List Line) (b : State) → AreScanned a births log b
-    → freed_bases log ≡ []
-freed_bases-scanned a [] log b scanned = ap freed_bases scanned.0
-freed_bases-scanned a (birth ∷ births) log b scanned =
-    ap freed_bases scanned.3 ∙ freed_bases-scanned (part_done a birth scanned.0) births scanned.1 b scanned.4
+bears-no_area : (a m : State) (command : Command) (scanned : Bool) (counted cells : ℕ) (found : Option ℕ)
+    → ((base : ℕ) → born_at a command base ≡ [])
+    → Bears a m (births_if a command (Some (area_effect m scanned counted cells found).reply))
+    (area_effect m scanned counted cells found).state
+bears-no_area a m command scanned counted cells None none =
+    Nothing_born (births_if-none a command none (replies.Refused refusals.Full)) refl
+bears-no_area a m command scanned counted cells (Some base) none =
+    let effect = area_effect m scanned counted cells (Some base) in
+    Nothing_born (births_if-none a command none effect.reply) refl
 
 module _ (a : State) (log : List Line) (effect : Effect) where
   follows-makes : (family : Family) (bytes : ℕ) (made : State → Option ℕ → Effect) (command : Command) → IsGood a
@@ -192,7 +175,7 @@ module _ (a : State) (log : List Line) (effect : Effect) where
   follows-plain : (command : Command) → ((base : ℕ) → born_at a command base ≡ [])
       → IsPlain log effect (plain_effect a command) → Follows a command log effect
   follows-plain command none m =
-      follows-alone command (births-none a command none effect.reply)
+      follows-alone command (births_if-none a command none effect.reply)
       (leaves-same a log effect.state (ap freed_bases m.no_lines)
       (ap (λ (e : Effect). map span e.state.objects) m.effect_is
       ∙ same-plain span spans.unstuck a command (λ _ _ _ _. refl)))
@@ -201,7 +184,7 @@ module _ (a : State) (log : List Line) (effect : Effect) where
       → ((base : ℕ) → born_at a command base ≡ []) → log ≡ phase_lines what a bases
       → SeesSame span (released bases a) b → effect.state ≡ b → Follows a command log effect
   follows-phase command what bases b none log_is same state_is =
-      follows-alone command (births-none a command none effect.reply)
+      follows-alone command (births_if-none a command none effect.reply)
       (leaves-phase what a bases log effect.state log_is
       (ap (λ (s : State). map span s.objects) state_is ∙ same))
 
@@ -237,11 +220,10 @@ module _ (a : State) (log : List Line) (effect : Effect) where
       (strong-allowed a i m.target m.object allowed m.target_is m.object_is).is m.object.partner good m.makes
   follows-carried (commands.Root counted cells) good allowed m =
       follows-makes _ _ _ (commands.Root counted cells) good m
-      (λ settings. bears-no_area a m.state settings (commands.Root counted cells) true counted cells m.found
-      (λ _. refl))
+      (λ settings. bears-no_area a m.state (commands.Root counted cells) true counted cells m.found (λ _. refl))
   follows-carried (commands.Fixed cells) good allowed m =
       follows-makes _ _ _ (commands.Fixed cells) good m
-      (λ settings. bears-no_area a m.state settings (commands.Fixed cells) false 0 cells m.found (λ _. refl))
+      (λ settings. bears-no_area a m.state (commands.Fixed cells) false 0 cells m.found (λ _. refl))
   follows-carried commands.Reap good allowed m =
       follows-phase commands.Reap Reap m.0.dead (reaped m.0.dead a) (λ _. refl) m.0.log_is refl m.0.state
   follows-carried commands.Collect good allowed m =
@@ -249,7 +231,7 @@ module _ (a : State) (log : List Line) (effect : Effect) where
   follows-carried commands.Finish good allowed m =
       follows-phase commands.Finish Collect m.0.lost (collected m.0.lost a) (λ _. refl) m.0.log_is refl m.0.state
   follows-carried (commands.Step k) good allowed m =
-      follows-alone (commands.Step k) (births-none a (commands.Step k) (λ _. refl) effect.reply)
+      follows-alone (commands.Step k) (births_if-none a (commands.Step k) (λ _. refl) effect.reply)
       (leaves-same a log effect.state (freed_bases-scanned a m.0.births log effect.state m.0.scanned)
       (ap (map span) (scanned-objects a m.0.births log effect.state m.0.scanned)))
   follows-carried (commands.Push word) good allowed m = follows-plain (commands.Push word) (λ _. refl) m

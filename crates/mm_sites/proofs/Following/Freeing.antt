@@ -62,7 +62,7 @@ module _ (entries : EntriesByBase) (base b : ℕ) (entry : Entry) where
       split false e = h
 
 -- what begins afterwards began before, and isn't listed
-begins-without : (bases : List ℕ) (entries : EntriesByBase) (b : ℕ) (entry : Entry)
+pub begins-without : (bases : List ℕ) (entries : EntriesByBase) (b : ℕ) (entry : Entry)
     → Begins (without entries bases) b entry → Begins entries b entry × (lists bases b ≡ false)
 begins-without [] entries b entry h = (h, refl)
 begins-without (base ∷ bases) entries b entry h =

@@ -77,7 +77,7 @@ module _ (a m b : State) (births : List Born) (site : ℕ) (placed : IsPlaced b.
       subst (λ bs. without (with_births site entries bs) bases ≡ with_births site (without entries bases) bs) (sym is)
       (without-with_entry born.base (omega arith) (Some (entry_of_birth site born)) bases entries unlisted)
 
-freed_bases-carried : (a : State) (command : Command) (group : List Line) (b : State)
+pub freed_bases-carried : (a : State) (command : Command) (group : List Line) (b : State)
     → (m : IsCarriedOut a command group b) → freed_bases group ≡ freed_bases m.log ++ freed_bases m.end_log
 freed_bases-carried a command group b m =
     let reply = lines.Reply m.effect.reply ∷ [] in

@@ -25,7 +25,7 @@ use Rattle.mm_model.specs.Views.View.{Shows}
 use Rattle.mm_model.proofs.Text.Journals.{writes-none, writes-append}
 use Rattle.mm_laws.proofs.Turning.Faithful.{steps-more}
 use Rattle.mm_laws.proofs.Turning.Knowing.{turn_of}
-use Rattle.mm_laws.proofs.Turning.Replies.{group-step}
+use Rattle.mm_laws.proofs.Turning.Replies.{group-step, reply-last}
 use Rattle.mm_gc.specs.Gc.{Gc, totals_in, view_of_gc}
 use Rattle.mm_gc.specs.Rows.{IsStepOf}
 use Rattle.mmgc.specs.Writing.{Kept}
@@ -66,14 +66,6 @@ groups-push : (turns : List Turn) (turn : Turn) → AllByRecursion (λ (t : Turn
     → IsTrue (is_group turn.group) → AllByRecursion (λ (t : Turn). IsTrue (is_group t.group)) (turns ++ turn ∷ [])
 groups-push [] turn all own = (own, tt)
 groups-push (x ∷ turns) turn all own = (all.0, groups-push turns turn all.1 own)
-
--- the one reply of a group is its last line
-pub reply-last : (front : List Line) (reply : Reply) → is_group (front ++ lines.Reply reply ∷ []) ≡ true
-    → reply_in (front ++ lines.Reply reply ∷ []) ≡ Some reply
-reply-last [] reply group = refl
-reply-last (lines.Reply other ∷ []) reply group = cc
-reply-last (lines.Reply other ∷ line ∷ front) reply group = cc
-reply-last (line ∷ front) reply group = reply-last front reply group
 
 is_some-map : {X Y : Type 0} (f : X → Y) (found : Option X) → is_some (option_map f found) ≡ is_some found
 is_some-map f None = refl

@@ -108,11 +108,11 @@ fn paced_traces_have_their_logs(rt: HostRuntime) -> Result<(), Fail> {
     Ok(())
 }
 
-fn check_file(
+fn check_file<'a>(
     rt: &impl Abort,
     alloc: Global,
-    words: &[&str],
-    trace: &[u8],
+    words: &'a [&'a str],
+    trace: &'a [u8],
     log: &[u8],
 ) -> Result<(), Fail> {
     let given = Given {

@@ -1,0 +1,4 @@
+pub mod Executing
+pub mod Extents
+pub mod Following
+pub mod Taking
