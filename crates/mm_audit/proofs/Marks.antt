@@ -1,11 +1,11 @@
 -- Single bits of words, and the marks that they are.
-use Rattle.std.proofs.Common.{◌≡◌, ◌≢◌, ℕ, ◌+◌, ◌-◌, ◌*◌, ◌/◌, ◌%◌, ◌^◌, ◌<◌, ◌≤◌, Bool, true, false, nat_eq, eqb-true, List}
-use Rattle.std.proofs.Common.{length, map, replicate, slice_index, slice_set, Option, Some, None, w64, inl, inr, ⊎_elim, refl, sym, ap, zero-add}
+use Rattle.std.proofs.Common.{◌≡◌, ◌≢◌, ℕ, ◌+◌, ◌-◌, ◌*◌, ◌/◌, ◌%◌, ◌^◌, ◌<◌, ◌≤◌, Bool, true, false, nat_eq, eqb-true}
+use Rattle.std.proofs.Common.{List, length, replicate, slice_index, slice_set, Option, Some, None, w64, ⊎_elim}
+use Rattle.std.proofs.Common.{sym, ap, zero-add}
 use Rattle.std.proofs.Common.{MatchOption}
 use Rattle.std.proofs.Common.{◌∙◌, arith}
 use Rattle.std.specs.Prelude.{slice_get}
 use Rattle.std.specs.Int.{bit_at, trailing_zeros}
-use Rattle.std.specs.List.{range_with_len}
 use Rattle.std.proofs.Math.ListN.{get_or}
 use Rattle.std.proofs.Math.Nat.{div-le_self}
 use Rattle.std.proofs.lemmas.Bool.{cases_eq, cases_lt}
@@ -13,9 +13,9 @@ use Rattle.std.proofs.lemmas.List.{ext_get_or, get_or-set_same, get_or-set_other
 use Rattle.std.proofs.lemmas.List.{length-replicate, length-set}
 use Rattle.std.proofs.lemmas.List.FromFn.{get_or-map-range_with_len, length-map-range_with_len}
 use Rattle.std.proofs.lemmas.Nat.{shr-shr}
-use Rattle.std.proofs.lemmas.Nat.Bits.{bit_at-trailing_zeros, bit_at-zero, bit_at_above, bit_at-lt}
-use Rattle.std.proofs.lemmas.Option.{slice_get-get_or, slice_get_within, get_or_from_slice_get}
-use Rattle.mm_audit.specs.Bits.{IsMarked, NoneBetween, NoneFrom, IsNext, IsNextBeside, bit_of, ChangesBit, bits_of, KeepsBits}
+use Rattle.std.proofs.lemmas.Nat.Bits.{bit_at-trailing_zeros, bit_at-zero, bit_at_above}
+use Rattle.std.proofs.lemmas.Option.{slice_get-get_or, slice_get_within}
+use Rattle.mm_audit.specs.Bits.{IsMarked, NoneBetween, IsNextBeside, bit_of, ChangesBit, bits_of, KeepsBits}
 use Rattle.mm_audit.specs.Bits.{NoneBeside, IsLowestBeside}
 
 -- a bit of a word that is 0

@@ -1,14 +1,14 @@
 -- The words that have a mark, where a mark is set or taken away.
 use Rattle.std.proofs.Common.{◌≡◌, ◌≢◌, ℕ, ◌+◌, ◌*◌, ◌/◌, ◌^◌, ◌<◌, ◌≤◌, Bool, true, false, List, length, replicate}
-use Rattle.std.proofs.Common.{Some, None, ⊎_elim, refl, sym, ap, ◌∙◌, subst, ◌⊎◌, arith}
+use Rattle.std.proofs.Common.{Some, ⊎_elim, sym, ap, ◌∙◌, subst, arith}
 use Rattle.std.specs.Prelude.{slice_get, slice_set}
 use Rattle.std.proofs.Math.ListN.{get_or}
 use Rattle.std.proofs.lemmas.Bool.{cases_eq, cases_lt}
 use Rattle.std.proofs.lemmas.List.{length-set, length-replicate, get_or-replicate}
 use Rattle.std.proofs.lemmas.Option.{slice_get-get_or, slice_get_within, get_or_from_slice_get}
 use Rattle.mm_model.proofs.Lists.Replaced.{get-set_same, get-set_other, get-set_cases}
-use Rattle.mm_audit.specs.Bits.{IsMarked, NoneBetween, NoneFrom, IsNext, IsNextBeside}
-use Rattle.mm_audit.specs.Numbers.{HasMark, KeepsUsed}
+use Rattle.mm_audit.specs.Bits.{IsMarked, NoneBetween, NoneFrom, IsNext}
+use Rattle.mm_audit.specs.Numbers.{KeepsUsed}
 
 mark-same : (marks : List Bool) (n : ℕ) → n < length marks → IsMarked (slice_set marks n true) n
 mark-same marks n inside =
@@ -153,7 +153,8 @@ none-marked limit n marked =
     let within : n < limit =
     omega (arith, slice_get_within (replicate limit false) n true marked, length-replicate limit false) in
     clash
-    (sym (get_or-replicate limit n false false within) ∙ get_or_from_slice_get (replicate limit false) n true false marked)
+    (sym (get_or-replicate limit n false false within)
+    ∙ get_or_from_slice_get (replicate limit false) n true false marked)
   where
     clash : false ≡ true → ⊥
     clash e = cc

@@ -1,7 +1,8 @@
 // Marks of numbers, 64 in a word.
-ghost use Rattle.std.specs.Prelude.{◌≡◌, ◌+◌, ◌*◌, ◌/◌, ◌^◌, ◌<◌, ◌≤◌, true, false, nat_eq, length, replicate, slice_get};
-ghost use Rattle.std.specs.Prelude.{slice_set, Some, IfOk, MatchOption};
-ghost use Rattle.mm_audit.specs.Bits.{bit_of, ChangesBit, NoneBetween, NoneFrom, NoneBeside, IsLowestBeside, IsNext, IsNextBeside};
+ghost use Rattle.std.specs.Prelude.{◌≡◌, ◌+◌, ◌*◌, ◌/◌, ◌^◌, ◌<◌, ◌≤◌, true, false, nat_eq, length, replicate};
+ghost use Rattle.std.specs.Prelude.{slice_get, slice_set, Some, IfOk, MatchOption};
+ghost use Rattle.mm_audit.specs.Bits.{bit_of, ChangesBit, NoneBetween, NoneFrom, NoneBeside, IsLowestBeside};
+ghost use Rattle.mm_audit.specs.Bits.{IsNext, IsNextBeside};
 
 use crate::NoMemory;
 use std::alloc::Global;

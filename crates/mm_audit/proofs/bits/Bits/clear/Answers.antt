@@ -1,5 +1,5 @@
 -- One mark is taken away.
-use Rattle.std.proofs.Common.{◌≡◌, ◌<◌, false, length, ap, ◌∙◌, arith}
+use Rattle.std.proofs.Common.{◌≡◌, false, length, ap, ◌∙◌, arith}
 use Rattle.std.specs.Prelude.{slice_set}
 use Rattle.mm_audit.specs.Bits.{bits_of}
 use Rattle.mm_audit.proofs.Marks.{length-bits, bits-changed, kept-changed}

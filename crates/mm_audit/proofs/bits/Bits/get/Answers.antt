@@ -1,5 +1,5 @@
 -- A bit tells its mark.
-use Rattle.std.proofs.Common.{◌≡◌, ◌<◌, nat_eq, length, Some, sym, ap, ◌∙◌, arith}
+use Rattle.std.proofs.Common.{◌≡◌, nat_eq, length, Some, sym, ap, ◌∙◌, arith}
 use Rattle.std.specs.Prelude.{slice_get}
 use Rattle.mm_audit.specs.Bits.{bit_of, bits_of}
 use Rattle.mm_audit.proofs.Marks.{length-bits, bits-told}

@@ -1,5 +1,5 @@
 -- Past the limit nothing is marked.
-use Rattle.std.proofs.Common.{◌≡◌, ◌<◌, length, true, ap, arith}
+use Rattle.std.proofs.Common.{◌≡◌, length, true, ap, arith}
 use Rattle.std.proofs.lemmas.Option.{slice_get_within}
 use Rattle.mm_audit.specs.Bits.{bits_of}
 use Rattle.mm_audit.proofs.Marks.{length-bits}

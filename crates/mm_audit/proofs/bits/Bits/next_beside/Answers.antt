@@ -1,5 +1,5 @@
 -- The lowest bit in a word is the next mark.
-use Rattle.std.proofs.Common.{◌≡◌, ◌+◌, ◌*◌, ◌/◌, ◌<◌, length, subst, ap, arith, MatchOption}
+use Rattle.std.proofs.Common.{◌≡◌, ◌+◌, ◌*◌, ◌/◌, length, subst, ap, arith, MatchOption}
 use Rattle.mm_audit.specs.Bits.{NoneBetween, NoneBeside, IsLowestBeside, IsNextBeside, bits_of}
 use Rattle.mm_audit.proofs.Marks.{length-bits, beside-next}
 use Rattle.mm_audit.proofs.bits.Bits.next_beside.Goals as goal

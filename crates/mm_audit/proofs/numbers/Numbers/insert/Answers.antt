@@ -1,5 +1,5 @@
 -- The word of a member is used.
-use Rattle.std.proofs.Common.{◌/◌, ◌<◌, true, List, Bool, length, sym, subst}
+use Rattle.std.proofs.Common.{◌<◌, true, List, Bool, length, sym, subst}
 use Rattle.std.specs.Prelude.{slice_set}
 use Rattle.mm_audit.specs.Numbers.{KeepsUsed}
 use Rattle.mm_audit.proofs.Used.{used-set}

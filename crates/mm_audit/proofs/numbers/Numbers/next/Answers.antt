@@ -1,6 +1,6 @@
 -- The next word that has a member has the next member.
-use Rattle.std.proofs.Common.{◌*◌, ◌<◌, length, arith}
-use Rattle.mm_audit.proofs.Used.{used-within, next-word, none-further, none-used}
+use Rattle.std.proofs.Common.{arith}
+use Rattle.mm_audit.proofs.Used.{used-within}
 use Rattle.mm_audit.proofs.numbers.Numbers.next.Goals as goal
 
 pub overflow_mul-word : goal.overflow_mul-word

@@ -67,8 +67,8 @@ returns-clause-born c =
     let room = subst (λ v. IsRoomFor v c.args.base c.args.extent c.args.shape.slots) (sym c.self.view_is)
     c.requires.room in
     ap (λ (h : Header). shown words (slice_set s.entries.items (c.args.base / 16) (Some h))) c.newborn.ensures
-    ∙ shown-born s.entries.items s.begins.items s.words.items c.self.invariant.objects c.args.base c.args.extent c.args.shape
-    c.args.colour room begins words c.fill.ensures c.fill-2.ensures
+    ∙ shown-born s.entries.items s.begins.items s.words.items c.self.invariant.objects c.args.base c.args.extent
+    c.args.shape c.args.colour room begins words c.fill.ensures c.fill-2.ensures
     ∙ ap (with_entry c.args.base (Some (newborn_of c.args.extent c.args.shape c.args.colour))) c.self.view_is
 
 pub returns-clause-size : goal.returns-clause-size

@@ -15,7 +15,8 @@ returns-then-len-inner c =
     let len = s.begins.ok.0 in
     let none = resolved-none s.entries.items s.begins.items s.words.items c.self.invariant.objects c.args.word
     (λ grain header at.
-    let below = falls_below s.entries.items s.begins.items s.words.items c.self.invariant.objects c.args.word grain header at in
+    let below = falls_below s.entries.items s.begins.items s.words.items c.self.invariant.objects c.args.word grain
+    header at in
     absurd (omega arith)) in
     ap (option_map found_of) (sym none ∙ ap (λ v. resolved_in v c.args.word) c.self.view_is)
 
@@ -40,8 +41,9 @@ returns-in_err-header c =
     let from = c.self.invariant.objects.not_behind (c.args.word / 16) grain tells in
     let each = c.self.invariant.objects.each_grain in
     let told = slice_get_read s.entries.items _ grain c.index.result.now more (omega arith) c.index.ensures in
-    let none = resolved-unless s.entries.items s.begins.items s.words.items c.self.invariant.objects c.args.word grain tells
-    c.index.result.now told (λ header is below. absurd (none-some header (sym (c.in_err-header.was) ∙ is))) in
+    let none = resolved-unless s.entries.items s.begins.items s.words.items c.self.invariant.objects c.args.word
+    grain tells c.index.result.now told
+    (λ header is below. absurd (none-some header (sym (c.in_err-header.was) ∙ is))) in
     c.from_residual.ensures
     ∙ ap (option_map found_of) (sym none ∙ ap (λ v. resolved_in v c.args.word) c.self.view_is)
 
@@ -80,8 +82,8 @@ returns-else-word-base c =
     let each = c.self.invariant.objects.each_grain in
     let told = slice_get_read s.entries.items _ grain c.index.result.now more (omega arith) c.index.ensures in
     let past = c.if-word-base.false in
-    let none = resolved-unless s.entries.items s.begins.items s.words.items c.self.invariant.objects c.args.word grain tells
-    c.index.result.now told
+    let none = resolved-unless s.entries.items s.begins.items s.words.items c.self.invariant.objects c.args.word
+    grain tells c.index.result.now told
     (λ header is below.
     let same = inside_same header c.in_ok-header.header (sym is ∙ c.in_ok-header.was) in
     let extent = ap (λ (h : Header). h.extent) same in

@@ -1,5 +1,5 @@
 -- No header shows no object.
-use Rattle.std.proofs.Common.{◌≡◌, ◌*◌, ◌≤◌, length, replicate, None, ap, ◌∙◌, rules, arith}
+use Rattle.std.proofs.Common.{◌≡◌, ◌*◌, length, replicate, None, ap, ◌∙◌, rules, arith}
 use Rattle.mm_audit.specs.Objects.{shown}
 use Rattle.mm_audit.proofs.Shown.{shown-replicate}
 use Rattle.mm_audit.proofs.Vacant.{none-kept}

@@ -1,6 +1,5 @@
 -- The next grain that is marked is that of the next object.
-use Rattle.std.proofs.Common.{◌≡◌, ◌*◌, ◌/◌, ◌%◌, ◌<◌, ◌≤◌, List, Bool, Some, length, map, ap, sym, subst, arith}
-use Rattle.std.specs.Prelude.{is_some}
+use Rattle.std.proofs.Common.{◌*◌, ◌/◌, List, Bool, Some, sym, subst, arith}
 use Rattle.std.proofs.lemmas.Option.{slice_get_within}
 use Rattle.mm_model.specs.Views.ByBase.{Begins}
 use Rattle.mm_audit.specs.Bits.{IsMarked}

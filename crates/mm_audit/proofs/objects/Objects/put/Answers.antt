@@ -36,8 +36,8 @@ returns-clause-written c object there =
     let same = begins_same c.args.self.now c.args.base slot.object object slot.begins there in
     let below = subst (λ (o : ObjectView). c.args.slot < length o.words) same slot.within in
     let begins = subst (λ v. Begins v c.args.base object) (sym c.self.view_is) there in
-    shown-written s.entries.items s.begins.items s.words.items c.self.invariant.objects c.args.base object begins c.args.slot
-    c.args.word below
+    shown-written s.entries.items s.begins.items s.words.items c.self.invariant.objects c.args.base object begins
+    c.args.slot c.args.word below
     ∙ ap (with_entry c.args.base (Some (with_word c.args.slot c.args.word object))) c.self.view_is
 
 pub returns-clause-size : goal.returns-clause-size

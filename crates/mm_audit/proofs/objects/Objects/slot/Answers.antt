@@ -35,8 +35,9 @@ returns c object there =
     let same = begins_same c.args.self.now c.args.base slot.object object slot.begins there in
     let below = subst (λ (o : ObjectView). c.args.slot < length o.words) same slot.within in
     let begins = subst (λ v. Begins v c.args.base object) (sym c.self.view_is) there in
-    let place = slot-place s.entries.items s.begins.items s.words.items c.self.invariant.objects c.args.base object begins
-    c.args.slot below in
+    let place = slot-place s.entries.items s.begins.items s.words.items c.self.invariant.objects c.args.base object
+    begins c.args.slot below in
     let len = s.words.ok.0 in
-    slot-kept s.entries.items s.begins.items s.words.items c.self.invariant.objects c.args.base object begins c.args.slot below
+    slot-kept s.entries.items s.begins.items s.words.items c.self.invariant.objects c.args.base object begins
+    c.args.slot below
     ∙ ap (λ n. Some n) (sym (get_or_read s.words.items _ _ place c.index.ensures 0))

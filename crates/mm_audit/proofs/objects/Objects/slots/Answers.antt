@@ -23,7 +23,8 @@ returns c object there =
     let read = ap (λ es. slice_get es (c.args.base / 16)) (sym c.deref.ensures.value) ∙ c.header_in-header.ensures in
     let header = inside_same c.header_in-header.result one.header (inside_same _ _ (sym read ∙ one.is)) in
     let slots = ap (λ (h : Header). h.slots) header
-    ∙ sym (object-slots s.entries.items s.begins.items s.words.items c.self.invariant.objects c.args.base object begins) in
+    ∙ sym (object-slots s.entries.items s.begins.items s.words.items c.self.invariant.objects c.args.base object begins)
+    in
     let first = c.args.base / 4 + 4 in
     let count : first + c.header_in-header.result.slots - first ≡ length object.words = omega (arith, slots) in
     ap (λ ws. take (first + c.header_in-header.result.slots - first) (drop first ws)) c.deref-2.ensures.value
