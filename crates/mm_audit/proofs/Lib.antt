@@ -6,6 +6,7 @@ pub mod Lines
 pub mod Marks
 pub mod References
 pub mod Resolving
+pub mod Shades
 pub mod Shown
 pub mod Spellings
 pub mod Stacks

@@ -14,7 +14,8 @@ use Rattle.mm_model.proofs.Lists.Growing.{find-Some, find-only}
 use Rattle.mm_model.proofs.Places.Falling.{falls_from, falls_within}
 use Rattle.mm_model.proofs.View.ByBase.Entries.{based_at, begins_at, begins_same}
 use Rattle.mm_audit.specs.declared.header.Header.{Header}
-use Rattle.mm_audit.specs.Objects.{header_of, object_in, shown, KeepsObjects}
+use Rattle.mm_audit.specs.declared.header.Found.{Found}
+use Rattle.mm_audit.specs.Objects.{header_of, found_of, object_in, shown, KeepsObjects}
 use Rattle.mm_audit.proofs.Changed.{header-shown, inside_same}
 use Rattle.mm_audit.proofs.Shown.{begins-kept, kept-begins}
 
@@ -116,6 +117,24 @@ module _ (entries : List (Option Header)) (begins words : List ℕ) (keeps : Kee
       let own = falls_at word o.base o.value found.0 found.1 in
       never own.0 own.1 own.2)
 
+  -- it falls in one object alone
+  pub falls-once : (word base other : ℕ) (object more : ObjectView) → Begins (shown words entries) base object
+      → Begins (shown words entries) other more → falls word base object.extent ≡ true
+      → falls word other more.extent ≡ true → other ≡ base
+  falls-once word base other object more is also here there =
+      let one = falls_at word base object is here in
+      let two = falls_at word other more also there in
+      let same = inside_same two.0 one.0
+      (sym (falls_told word two.0 two.1 two.2) ∙ falls_told word one.0 one.1 one.2) in
+      two.3 ∙ ap (λ n. 16 * n) same ∙ sym one.3
+
+  pub resolved-alone : (word base : ℕ) (object : ObjectView) → Begins (shown words entries) base object
+      → falls word base object.extent ≡ true
+      → resolved_in (shown words entries) word ≡ Some (record { base = base; value = object })
+  resolved-alone word base object is here =
+      find-begins (λ o. falls word o.base o.value.extent) (shown words entries) base object is here
+      (λ other more also there. falls-once word base other object more is also here there)
+
   -- an entry tells what begins at its base
   pub object_at-told : (base : ℕ) → base % 16 ≡ 0 → (told : Option Header)
       → slice_get entries (base / 16) ≡ Some told
@@ -151,3 +170,30 @@ module _ (entries : List (Option Header)) (begins words : List ℕ) (keeps : Kee
       let entry = inside_same told (Some header) (sym is ∙ ap (slice_get entries) same ∙ at.is) in
       let to = at.to in
       never header entry (omega arith))
+
+-- what was found begins at its base, and the word falls in it
+pub record IsTold (objects : ObjectsByBase) (word : ℕ) (found : Found) : Type 0 where
+  pub object : ObjectView
+  pub begins : Begins objects found.base object
+  pub here : falls word found.base object.extent ≡ true
+  pub header_is : header_of object ≡ found.header
+  pub resolves : resolved_in objects word ≡ Some (record { base = found.base; value = object })
+
+pub told-found : (objects : ObjectsByBase) (word : ℕ) (found : Found)
+    → Some found ≡ option_map found_of (resolved_in objects word) → IsTold objects word found
+told-found objects word found is = split (resolved_in objects word) refl is
+  where
+    split : (told : Option (Based ObjectView)) → resolved_in objects word ≡ told
+        → Some found ≡ option_map found_of told → IsTold objects word found
+    split None e is = cc
+    split (Some o) e is =
+        let own = found-begins (λ (o : Based ObjectView). falls word o.base o.value.extent) objects o e in
+        let same : found ≡ found_of o = cc in
+        let base : found.base ≡ o.base = ap (λ (f : Found). f.base) same in
+        record {
+          object = o.value;
+          begins = subst (λ b. Begins objects b o.value) (sym base) own.0;
+          here = subst (λ b. falls word b o.value.extent ≡ true) (sym base) own.1;
+          header_is = sym (ap (λ (f : Found). f.header) same);
+          resolves = e ∙ ap (λ b. Some (record { base = b; value = o.value })) (sym base);
+        }

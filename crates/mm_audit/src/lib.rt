@@ -10,6 +10,7 @@ mod header;
 mod laws;
 mod numbers;
 mod objects;
+mod shading;
 mod stack;
 #[cfg(test)]
 mod tests;

@@ -1,7 +1,8 @@
 // The live objects by base.
-ghost use Rattle.std.specs.Prelude.{◌≡◌, ◌+◌, ◌*◌, ◌/◌, ◌<◌, ◌≤◌, true, length, replicate, slice_get, Some, None};
+ghost use Rattle.std.specs.Prelude.{◌≡◌, ℕ, ◌+◌, ◌*◌, ◌/◌, ◌<◌, ◌≤◌, true, length, replicate, slice_get, Some, None};
 ghost use Rattle.std.specs.Prelude.{◌%◌, IfOk, MatchOption};
 ghost use Rattle.std.specs.Option.{option_map};
+ghost use Rattle.mm_model.specs.Words.{falls};
 ghost use Rattle.mm_model.specs.Views.ByBase.{Begins, with_entry};
 ghost use Rattle.mm_model.specs.Views.ObjectView.{ObjectView};
 ghost use Rattle.mm_model.specs.Views.ViewWords.{object_at, resolved_in};
@@ -110,7 +111,10 @@ impl Objects {
 
     /// The object in which a word falls, if it falls in one.
     pub fn find(&self, word: u32) -> Option<Found>
-        ensures { result ≡ option_map found_of (resolved_in self.now word) }
+        ensures found { result ≡ option_map found_of (resolved_in self.now word) }
+        ensures alone { (base : ℕ) (object : ObjectView) → Begins self.now base object
+            → falls word base object.extent ≡ true
+            → resolved_in self.now word ≡ Some (record { base = base; value = object }) }
     {
         let inner = (word / GRAIN) as usize;
         if self.begins.len() <= inner {

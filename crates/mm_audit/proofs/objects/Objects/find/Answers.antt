@@ -1,16 +1,18 @@
 -- A word's grain tells where the object begins in which it may fall.
-use Rattle.std.proofs.Common.{◌≡◌, ◌*◌, ◌/◌, Option, Some, ap, ◌∙◌, sym, arith}
+use Rattle.std.proofs.Common.{◌≡◌, ◌*◌, ◌/◌, Option, Some, ap, ◌∙◌, sym, subst, arith}
 use Rattle.std.specs.Option.{option_map}
 use Rattle.std.proofs.lemmas.Option.{slice_get_read, none-some}
+use Rattle.mm_model.specs.Views.ByBase.{Begins}
 use Rattle.mm_model.specs.Views.ViewWords.{resolved_in}
 use Rattle.mm_audit.specs.declared.header.Header.{Header}
 use Rattle.mm_audit.specs.Objects.{header_of, found_of, object_in}
 use Rattle.mm_audit.proofs.Changed.{header-shown, inside_same}
-use Rattle.mm_audit.proofs.Resolving.{FallsAt, resolved-kept, resolved-none, resolved-unless, falls_below}
+use Rattle.mm_audit.proofs.Resolving.{FallsAt, resolved-kept, resolved-none, resolved-unless}
+use Rattle.mm_audit.proofs.Resolving.{resolved-alone, falls_below}
 use Rattle.mm_audit.proofs.objects.Objects.find.Goals as goal
 
-pub returns-then-len-inner : goal.returns-then-len-inner
-returns-then-len-inner c =
+pub returns-then-len-inner-clause-found : goal.returns-then-len-inner-clause-found
+returns-then-len-inner-clause-found c =
     let s = c.self.inside in
     let len = s.begins.ok.0 in
     let none = resolved-none s.entries.items s.begins.items s.words.items c.self.invariant.objects c.args.word
@@ -31,8 +33,8 @@ index-requires c =
     let each = c.self.invariant.objects.each_grain in
     omega arith
 
-pub returns-in_err-header : goal.returns-in_err-header
-returns-in_err-header c =
+pub returns-in_err-header-clause-found : goal.returns-in_err-header-clause-found
+returns-in_err-header-clause-found c =
     let s = c.self.inside in
     let grain = c.index-grain.result.now in
     let len = s.begins.ok.0 in
@@ -47,8 +49,8 @@ returns-in_err-header c =
     c.from_residual.ensures
     ∙ ap (option_map found_of) (sym none ∙ ap (λ v. resolved_in v c.args.word) c.self.view_is)
 
-pub returns-then-word-base : goal.returns-then-word-base
-returns-then-word-base c =
+pub returns-then-word-base-clause-found : goal.returns-then-word-base-clause-found
+returns-then-word-base-clause-found c =
     let s = c.self.inside in
     let grain = c.index-grain.result.now in
     let header = c.in_ok-header.header in
@@ -71,8 +73,8 @@ returns-then-word-base c =
     ap (λ (h : Header). Some (record { base = 16 * grain; header = h })) (sym whole)
     ∙ ap (option_map found_of) (sym found)
 
-pub returns-else-word-base : goal.returns-else-word-base
-returns-else-word-base c =
+pub returns-else-word-base-clause-found : goal.returns-else-word-base-clause-found
+returns-else-word-base-clause-found c =
     let s = c.self.inside in
     let grain = c.index-grain.result.now in
     let len = s.begins.ok.0 in
@@ -89,3 +91,31 @@ returns-else-word-base c =
     let extent = ap (λ (h : Header). h.extent) same in
     omega arith) in
     ap (option_map found_of) (sym none ∙ ap (λ v. resolved_in v c.args.word) c.self.view_is)
+
+pub returns-then-len-inner-clause-alone : goal.returns-then-len-inner-clause-alone
+returns-then-len-inner-clause-alone c base object there here =
+    let s = c.self.inside in
+    ap (λ v. resolved_in v c.args.word) (sym c.self.view_is)
+    ∙ resolved-alone s.entries.items s.begins.items s.words.items c.self.invariant.objects c.args.word base object
+    (subst (λ v. Begins v base object) (sym c.self.view_is) there) here
+
+pub returns-in_err-header-clause-alone : goal.returns-in_err-header-clause-alone
+returns-in_err-header-clause-alone c base object there here =
+    let s = c.self.inside in
+    ap (λ v. resolved_in v c.args.word) (sym c.self.view_is)
+    ∙ resolved-alone s.entries.items s.begins.items s.words.items c.self.invariant.objects c.args.word base object
+    (subst (λ v. Begins v base object) (sym c.self.view_is) there) here
+
+pub returns-then-word-base-clause-alone : goal.returns-then-word-base-clause-alone
+returns-then-word-base-clause-alone c base object there here =
+    let s = c.self.inside in
+    ap (λ v. resolved_in v c.args.word) (sym c.self.view_is)
+    ∙ resolved-alone s.entries.items s.begins.items s.words.items c.self.invariant.objects c.args.word base object
+    (subst (λ v. Begins v base object) (sym c.self.view_is) there) here
+
+pub returns-else-word-base-clause-alone : goal.returns-else-word-base-clause-alone
+returns-else-word-base-clause-alone c base object there here =
+    let s = c.self.inside in
+    ap (λ v. resolved_in v c.args.word) (sym c.self.view_is)
+    ∙ resolved-alone s.entries.items s.begins.items s.words.items c.self.invariant.objects c.args.word base object
+    (subst (λ v. Begins v base object) (sym c.self.view_is) there) here
