@@ -1,6 +1,6 @@
 -- What one word makes gray, where it falls in one object alone.
-use Rattle.std.proofs.Common.{◌≡◌, ℕ, Bool, true, false, ◌&&◌, ◌||◌, if◌then◌else◌, [], ◌∷◌, Option, Some, None, refl}
-use Rattle.std.proofs.Common.{sym, ap, ◌∙◌}
+use Rattle.std.proofs.Common.{◌≡◌, ℕ, Bool, true, false, ◌&&◌, ◌||◌, if◌then◌else◌, [], ◌∷◌, Option, Some, None}
+use Rattle.std.proofs.Common.{refl, sym, ap, ◌∙◌}
 use Rattle.std.specs.Option.{option_map}
 use Rattle.mm_model.specs.declared.object.Colour.TheVariants.{Gray}
 use Rattle.mm_model.specs.Words.{falls}
@@ -82,7 +82,8 @@ module _ (objects : ObjectsByBase) (word : ℕ) (found : Found) (told : IsTold o
       ≡ with_entry found.base (Some (record told.object { colour = Gray })) objects
   white-grayed white =
       grayed-one objects word found.base told.object told.begins told.here white
-      (λ other more there here. ap (λ (o : Based ObjectView). o.base) (same (record { base = other; value = more }) there here))
+      (λ other more there here.
+      ap (λ (o : Based ObjectView). o.base) (same (record { base = other; value = more }) there here))
 
   -- what isn't white stays
   pub coloured-grayed : is_white told.object.colour ≡ false → with_grayed_objects (word ∷ []) objects ≡ objects
@@ -90,7 +91,9 @@ module _ (objects : ObjectsByBase) (word : ℕ) (found : Found) (told : IsTold o
       grayed-none objects word
       (λ base object begins here white.
       clash
-      (sym coloured ∙ ap (λ (o : Based ObjectView). is_white o.value.colour) (sym (same (record { base = base; value = object }) begins here))
+      (sym coloured
+      ∙ ap (λ (o : Based ObjectView). is_white o.value.colour)
+      (sym (same (record { base = base; value = object }) begins here))
       ∙ white))
     where
       clash : false ≡ true → ⊥

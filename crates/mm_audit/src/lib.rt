@@ -8,6 +8,7 @@ mod count;
 mod counts;
 mod header;
 mod laws;
+mod meaning;
 mod numbers;
 mod objects;
 mod shading;
