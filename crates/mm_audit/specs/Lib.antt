@@ -3,4 +3,5 @@ pub mod Bits
 pub mod Counts
 pub mod Numbers
 pub mod Objects
+pub mod Parts
 pub mod Stack

@@ -11,6 +11,10 @@ ghost use Rattle.mm_model.specs.Object.{is_scanned};
 ghost use Rattle.mm_model.specs.Views.ByBase.{Begins, with_entry};
 ghost use Rattle.mm_model.specs.Views.SetsByBase.{count_at, zero_count_of};
 ghost use Rattle.mm_audit.specs.Counts.{counts_of, zeros_in, one_if, with_word};
+ghost use Rattle.mm_model.specs.Views.View.{View};
+ghost use Rattle.mm_model.specs.Views.ViewWords.{view_zero_count};
+ghost use Rattle.mm_model.specs.Views.ViewTests.{tests_of_view};
+ghost use Rattle.mm_audit.specs.Parts.{Parts, ShowParts};
 ghost use Rattle.mm_audit.specs.declared.answer.Answer.{Answer};
 ghost use Rattle.mm_audit.specs.declared.answer.Answer.TheVariants as answers;
 ghost use Rattle.mm_audit.specs.Audit.{log_lines, IsWholeLog, Fits, IsAudited};
@@ -62,6 +66,16 @@ pub fn a_rest_is_no_spelling()
 pub fn zeros_are_zero_count_objects()
     ensures { (objects : ObjectsByBase) (outside : ℕ → ℕ) →
         zeros_in (counts_of objects outside) ≡ zero_count_of objects outside }
+{}
+
+/// The parts of a state show one view, and what is kept beside it tells the number of zero-count objects and whether the
+/// stack is full.
+pub fn parts_show_a_view()
+    ensures one { (parts : Parts) (view other : View) → ShowParts parts view → ShowParts parts other → view ≡ other }
+    ensures zeros { (parts : Parts) (view : View) → ShowParts parts view
+        → zeros_in parts.counts ≡ view_zero_count view }
+    ensures full { (parts : Parts) (view : View) → ShowParts parts view
+        → (length parts.stack.words == parts.stack.limit) ≡ (tests_of_view view).is_stack_full }
 {}
 
 /// Where a counted slot is written, the base that stood there is held once less, and the one that is written once more.
