@@ -27,7 +27,8 @@ module _ (objects : ObjectsByBase) (key : Based ObjectView → Bool)
     → find key (based objects) ≡ Some (record { base = base; value = object })) where
   any-found : list_any (λ o. counts o && key o) (based objects) ≡ option_map_or counts (find key (based objects)) false
   any-found =
-      same_tests (list_any (λ o. counts o && key o) (based objects)) (option_map_or counts (find key (based objects)) false)
+      same_tests (list_any (λ o. counts o && key o) (based objects))
+      (option_map_or counts (find key (based objects)) false)
       there (back (find key (based objects)) refl)
     where
       there : list_any (λ o. counts o && key o) (based objects) ≡ true

@@ -5,7 +5,9 @@ use Rattle.std.specs.Prelude.{is_some, slice_get}
 use Rattle.std.proofs.lemmas.List.{length-replicate, get_or-replicate}
 use Rattle.std.proofs.lemmas.Option.{slice_get_within, get_or_from_slice_get}
 use Rattle.mm_audit.specs.declared.header.Header.{Header}
-use Rattle.mm_audit.specs.Objects.{KeepsMarked}
+use Rattle.mm_audit.specs.Objects.{is_gray_header, grays_among, KeepsMarked}
+use Rattle.std.proofs.Common.{cond, zero-add}
+use Rattle.std.proofs.lemmas.List.Sums.{sum_by-cons}
 
 replicate-get : {X : Type 0} (n k : ℕ) (x y : X) → slice_get (replicate n x) k ≡ Some y → x ≡ y
 replicate-get {X} n k x y is =
@@ -16,12 +18,19 @@ none_taken : (n : ℕ) → replicate n false ≡ map (is_some {T = Header}) (rep
 none_taken zero = refl
 none_taken (suc n) = ap (λ (rest : List Bool). false ∷ rest) (none_taken n)
 
+none_gray : (n : ℕ) → grays_among (replicate n None) ≡ 0
+none_gray zero = refl
+none_gray (suc n) =
+    sum_by-cons (λ e. cond (is_gray_header e) 1 0) None (replicate n None) ∙ zero-add (grays_among (replicate n None))
+    ∙ none_gray n
+
 clash : (header : Header) → None ≡ Some header → ⊥
 clash header e = cc
 
 pub none-kept : (grains : ℕ) → grains ≤ 2 ^ 20 → (entries : List (Option Header)) (begins words : List ℕ)
     (taken : List Bool) → entries ≡ replicate grains None → begins ≡ replicate grains 0
-    → length words ≡ 4 * grains → taken ≡ replicate grains false → KeepsMarked entries begins words taken
+    → length words ≡ 4 * grains → taken ≡ replicate grains false
+    → KeepsMarked entries begins words taken 0
 none-kept grains few entries begins words taken empty zeros size unmarked =
     record {
       objects = record {
@@ -35,6 +44,7 @@ none-kept grains few entries begins words taken empty zeros size unmarked =
             replicate-get grains inner 0 grain (ap (λ (row : List ℕ). slice_get row inner) (sym zeros) ∙ is) in
             omega arith;
       };
+      right = sym (none_gray grains) ∙ ap grays_among (sym empty);
       marks = unmarked ∙ none_taken grains ∙ ap (map is_some) (sym empty);
     }
   where

@@ -1,9 +1,12 @@
 -- The live objects by base, as they are kept: their headers by grain, the words of the region, and for each grain the
 -- one at which the object begins that has it.
 use Rattle.std.specs.Prelude.{◌≡◌, ℕ, ◌+◌, ◌*◌, ◌%◌, ◌^◌, ◌<◌, ◌≤◌, IsTrue, List, [], ◌∷◌, length, take, drop}
-use Rattle.std.specs.Prelude.{Bool, map, Option, Some, None, is_some, slice_get}
-use Rattle.std.specs.Option.{option_map}
+use Rattle.std.specs.Prelude.{Bool, false, map, Option, Some, None, is_some, slice_get}
+use Rattle.std.specs.List.{count_by}
+use Rattle.std.specs.Option.{option_map, option_map_or}
 use Rattle.mm_model.specs.declared.object.Colour.{Colour}
+use Rattle.mm_model.specs.declared.object.Colour.TheVariants.{Gray}
+use Rattle.mm_model.specs.Sets.Marking.{is_gray}
 use Rattle.mm_model.specs.declared.object.Shape.{Shape}
 use Rattle.mm_model.specs.Places.SizeClass.{object_bytes}
 use Rattle.mm_model.specs.Places.Place.{is_vacant}
@@ -75,6 +78,17 @@ pub record IsLike (objects : ObjectsByBase) (base : ℕ) (header : Header) : Typ
   pub extent : header.extent ≡ object.extent
   pub slots : header.slots ≡ length object.words
 
+-- a gray object stands there
+abbrev pub is_gray_object : Option ObjectView → Bool
+is_gray_object entry = option_map_or (λ object. is_gray object.colour) entry false
+
+-- how many gray objects there are
+abbrev pub grays_in : ObjectsByBase → ℕ
+grays_in objects = count_by is_gray_object objects
+
+abbrev pub NoneIsGray : ObjectsByBase → Type 0
+NoneIsGray objects = (base : ℕ) (object : ObjectView) → Begins objects base object → object.colour ≡ Gray → ⊥
+
 -- the lowest base of an object from an address on
 pub record IsNextObject (objects : ObjectsByBase) (from base : ℕ) : Type 0 where
   pub is : IsObject objects base
@@ -129,7 +143,16 @@ pub record KeepsObjects (entries : List (Option Header)) (begins words : List �
   -- an object begins at its first grain
   pub not_behind : (inner grain : ℕ) → slice_get begins inner ≡ Some grain → grain ≤ inner
 
--- the same, with a mark for each grain at which an object begins
-pub record KeepsMarked (entries : List (Option Header)) (begins words : List ℕ) (taken : List Bool) : Type 0 where
+-- the header of a gray object stands there, and how many do
+abbrev pub is_gray_header : Option Header → Bool
+is_gray_header entry = option_map_or (λ header. is_gray header.colour) entry false
+
+abbrev pub grays_among : List (Option Header) → ℕ
+grays_among entries = count_by is_gray_header entries
+
+-- the same, with a mark for each grain at which an object begins, and the number of gray objects
+pub record KeepsMarked (entries : List (Option Header)) (begins words : List ℕ) (taken : List Bool)
+    (grays : ℕ) : Type 0 where
   pub objects : KeepsObjects entries begins words
   pub marks : taken ≡ map is_some entries
+  pub right : grays ≡ grays_among entries

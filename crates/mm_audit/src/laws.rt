@@ -68,8 +68,8 @@ pub fn zeros_are_zero_count_objects()
         zeros_in (counts_of objects outside) ≡ zero_count_of objects outside }
 {}
 
-/// The parts of a state show one view, and what is kept beside it tells the number of zero-count objects and whether the
-/// stack is full.
+/// The parts of a state show one view, and what is kept beside it tells the number of zero-count objects and whether
+/// the stack is full.
 pub fn parts_show_a_view()
     ensures one { (parts : Parts) (view other : View) → ShowParts parts view → ShowParts parts other → view ≡ other }
     ensures zeros { (parts : Parts) (view : View) → ShowParts parts view

@@ -1,6 +1,6 @@
 // The live objects by base.
 ghost use Rattle.std.specs.Prelude.{◌≡◌, ℕ, ◌+◌, ◌*◌, ◌/◌, ◌<◌, ◌≤◌, true, length, replicate, slice_get, Some, None};
-ghost use Rattle.std.specs.Prelude.{◌%◌, IfOk, MatchOption};
+ghost use Rattle.std.specs.Prelude.{◌%◌, ◌^◌, ◌↔◌, IfOk, MatchOption, slice_set};
 ghost use Rattle.std.specs.Option.{option_map};
 ghost use Rattle.mm_model.specs.Words.{falls};
 ghost use Rattle.mm_model.specs.Views.ByBase.{Begins, with_entry};
@@ -9,6 +9,7 @@ ghost use Rattle.mm_model.specs.Views.ViewWords.{object_at, resolved_in};
 ghost use Rattle.mm_audit.specs.Counts.{with_word};
 ghost use Rattle.mm_audit.specs.Objects.{header_of, found_of, object_with, newborn_of, IsObject, HasSlot, IsRoomFor};
 ghost use Rattle.mm_audit.specs.Objects.{HasHeader, IsFilled, IsLike, IsNextObject, NoObjectFrom};
+ghost use Rattle.mm_audit.specs.Objects.{is_gray_header, grays_among, grays_in, NoneIsGray};
 
 use crate::NoMemory;
 use crate::header::{Found, Header};
@@ -44,6 +45,8 @@ pub struct Objects {
     begins: Vec<u32>,
     // The grains at which an object begins.
     taken: Numbers,
+    // How many objects are gray.
+    grays: u32,
     // The words of the region: slot s of the object at a base is word `base / 4 + 4 + s`.
     words: Vec<u32>,
 }
@@ -56,7 +59,7 @@ impl Model for Objects {
 
     ghost view = { λ s. shown s.words.items s.entries.items };
 
-    ghost invariant = { λ s. KeepsMarked s.entries.items s.begins.items s.words.items s.taken };
+    ghost invariant = { λ s. KeepsMarked s.entries.items s.begins.items s.words.items s.taken s.grays };
 }
 
 // The header of an object.
@@ -68,6 +71,38 @@ fn header_in(entries: &[Option<Header>], base: u32) -> Header
         None => unreachable!(),
         Some(header) => header,
     }
+}
+
+fn is_gray(entry: Option<Header>) -> bool
+    ensures { result ≡ is_gray_header entry }
+{
+    match entry {
+        None => false,
+        Some(header) => match header.colour {
+            Colour::Gray => true,
+            Colour::White | Colour::Black => false,
+        },
+    }
+}
+
+// Another entry for a grain. Answers how many gray objects there are then.
+fn enter(entries: &mut Vec<Option<Header>>, grays: u32, grain: u32, entry: Option<Header>) -> u32
+    requires inside { grain < length entries.old.items }
+    requires few { length entries.old.items ≤ 2 ^ 20 }
+    requires right { grays ≡ grays_among entries.old.items }
+    ensures entry { entries.new.items ≡ slice_set entries.old.items grain entry }
+    ensures grays { result ≡ grays_among entries.new.items }
+{
+    let before = entries[grain as usize];
+    entries[grain as usize] = entry;
+    let mut count = grays;
+    if is_gray(before) {
+        count -= 1;
+    }
+    if is_gray(entry) {
+        count += 1;
+    }
+    count
 }
 
 // One number at each of so many places from the first on.
@@ -94,8 +129,17 @@ impl Objects {
             entries,
             begins,
             taken,
+            grays: 0,
             words,
         })
+    }
+
+    /// How many objects are gray.
+    pub fn grays(&self) -> u32
+        ensures number { result ≡ grays_in self.now }
+        ensures none { (result ≡ 0) ↔ NoneIsGray self.now }
+    {
+        self.grays
     }
 
     /// The object that begins at a base, if one does.
@@ -177,7 +221,8 @@ impl Objects {
             shape.slots,
             0,
         );
-        self.entries[grain as usize] = Some(Header::newborn(extent, shape, colour));
+        let header = Header::newborn(extent, shape, colour);
+        self.grays = enter(&mut self.entries, self.grays, grain, Some(header));
         self.taken.insert(grain);
     }
 
@@ -187,7 +232,7 @@ impl Objects {
         ensures freed { self.new ≡ with_entry base None self.old }
         ensures size { length self.new ≡ length self.old }
     {
-        self.entries[(base / GRAIN) as usize] = None;
+        self.grays = enter(&mut self.entries, self.grays, base / GRAIN, None);
         self.taken.remove(base / GRAIN);
     }
 
@@ -208,7 +253,7 @@ impl Objects {
             → self.new ≡ with_entry base (Some (object_with object.words header)) self.old }
         ensures size { length self.new ≡ length self.old }
     {
-        self.entries[(base / GRAIN) as usize] = Some(header);
+        self.grays = enter(&mut self.entries, self.grays, base / GRAIN, Some(header));
     }
 
     // The header of an object.

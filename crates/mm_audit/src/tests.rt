@@ -71,8 +71,11 @@ fn an_object_is_found_by_a_word_that_falls_in_it(rt: HostRuntime) -> Result<(), 
     assert_eq!(&rt; objects.get(4112), None);
     assert_eq!(&rt; objects.next(0), Some(4096));
     assert_eq!(&rt; objects.next(4112), None);
+    objects.shade(4100);
+    assert_eq!(&rt; objects.grays(), 1);
     objects.free(4096);
     assert_eq!(&rt; objects.find(4096), None);
+    assert_eq!(&rt; objects.grays(), 0);
     Ok(())
 }
 

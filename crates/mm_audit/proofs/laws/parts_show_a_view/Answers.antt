@@ -1,5 +1,5 @@
 -- Each part of the view is what is kept.
-use Rattle.std.proofs.Common.{◌≡◌, ◌==◌, length, sym, ap, ◌∙◌}
+use Rattle.std.proofs.Common.{◌==◌, length, sym, ap, ◌∙◌}
 use Rattle.mm_model.specs.Views.View.{View}
 use Rattle.mm_model.specs.Views.ViewWords.{outside_references}
 use Rattle.mm_audit.specs.Counts.{zeros_in}

@@ -9,6 +9,9 @@ use Rattle.mm_audit.proofs.Grains.{taken-set}
 use Rattle.mm_audit.proofs.Shown.{length-shown}
 use Rattle.mm_audit.proofs.Changed.{shown-born, kept-born}
 use Rattle.mm_audit.proofs.objects.Objects.bear.Goals as goal
+use Rattle.std.proofs.Common.{map}
+use Rattle.std.specs.Prelude.{is_some}
+use Rattle.std.proofs.lemmas.List.{length-map}
 
 pub fill-requires : goal.fill-requires
 fill-requires c =
@@ -32,8 +35,8 @@ fill-requires-2 c =
     let each = c.self.invariant.objects.each_word in
     omega (arith, length-shown s.words.items s.entries.items)
 
-pub index_mut-requires : goal.index_mut-requires
-index_mut-requires c =
+pub enter-self-inside-requires-clause-inside : goal.enter-self-inside-requires-clause-inside
+enter-self-inside-requires-clause-inside c =
     let s = c.self.inside in
     let room = c.requires.room in
     let inside = room.inside in
@@ -49,14 +52,17 @@ invariant_of-self c =
     let words = c.fill-2.new.row.items in
     let room = subst (λ v. IsRoomFor v c.args.base c.args.extent c.args.shape.slots) (sym c.self.view_is)
     c.requires.room in
+    let entry = sym c.enter-self-inside.ensures.entry in
     record {
-      objects = subst
-          (λ (h : Header). KeepsObjects (slice_set s.entries.items (c.args.base / 16) (Some h)) begins words)
-          (sym c.newborn.ensures)
+      objects = subst (λ es. KeepsObjects es begins words) entry
+          (subst (λ (h : Header). KeepsObjects (slice_set s.entries.items (c.args.base / 16) (Some h)) begins words)
+          (sym c.newborn-header.ensures)
           (kept-born s.entries.items s.begins.items s.words.items c.self.invariant.objects c.args.base c.args.extent
-          c.args.shape c.args.colour room begins words c.fill.ensures c.fill-2.ensures);
+          c.args.shape c.args.colour room begins words c.fill.ensures c.fill-2.ensures));
       marks = c.insert.ensures
-          ∙ taken-set s.entries.items s.taken c.self.invariant.marks (c.args.base / 16) (Some c.newborn.result);
+          ∙ taken-set s.entries.items s.taken c.self.invariant.marks (c.args.base / 16) (Some c.newborn-header.result)
+          ∙ ap (map is_some) entry;
+      right = c.enter-self-inside.ensures.grays;
     }
 
 pub returns-clause-born : goal.returns-clause-born
@@ -66,7 +72,8 @@ returns-clause-born c =
     let words = c.fill-2.new.row.items in
     let room = subst (λ v. IsRoomFor v c.args.base c.args.extent c.args.shape.slots) (sym c.self.view_is)
     c.requires.room in
-    ap (λ (h : Header). shown words (slice_set s.entries.items (c.args.base / 16) (Some h))) c.newborn.ensures
+    ap (shown words) c.enter-self-inside.ensures.entry
+    ∙ ap (λ (h : Header). shown words (slice_set s.entries.items (c.args.base / 16) (Some h))) c.newborn-header.ensures
     ∙ shown-born s.entries.items s.begins.items s.words.items c.self.invariant.objects c.args.base c.args.extent
     c.args.shape c.args.colour room begins words c.fill.ensures c.fill-2.ensures
     ∙ ap (with_entry c.args.base (Some (newborn_of c.args.extent c.args.shape c.args.colour))) c.self.view_is
@@ -74,5 +81,23 @@ returns-clause-born c =
 pub returns-clause-size : goal.returns-clause-size
 returns-clause-size c =
     let s = c.self.inside in
-    length-shown _ _ ∙ length-set s.entries.items (c.args.base / 16) (Some c.newborn.result)
+    length-shown c.fill-2.new.row.items c.enter-self-inside.new.entries.items
+    ∙ ap length c.enter-self-inside.ensures.entry
+    ∙ length-set s.entries.items (c.args.base / 16) (Some c.newborn-header.result)
     ∙ sym (length-shown s.words.items s.entries.items) ∙ ap length c.self.view_is
+
+pub insert-requires : goal.insert-requires
+insert-requires c =
+    let s = c.self.inside in
+    let room = c.requires.room in
+    let inside = room.inside in
+    let fits = room.fits in
+    let size : length (shown s.words.items s.entries.items) ≡ length c.args.self.now = ap length c.self.view_is in
+    let marks = ap length c.self.invariant.marks in
+    record {
+      inside = omega (
+        arith,
+        length-shown s.words.items s.entries.items,
+        length-map s.entries.items (is_some {T = Header}),
+      );
+    }

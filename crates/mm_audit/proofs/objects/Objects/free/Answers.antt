@@ -9,9 +9,12 @@ use Rattle.mm_audit.proofs.Grains.{taken-set}
 use Rattle.mm_audit.proofs.Shown.{length-shown}
 use Rattle.mm_audit.proofs.Changed.{shown-freed, kept-freed}
 use Rattle.mm_audit.proofs.objects.Objects.free.Goals as goal
+use Rattle.std.proofs.Common.{map}
+use Rattle.mm_audit.specs.Objects.{KeepsObjects}
+use Rattle.std.proofs.Common.{subst}
 
-pub index_mut-requires : goal.index_mut-requires
-index_mut-requires c =
+pub enter-self-inside-requires-clause-inside : goal.enter-self-inside-requires-clause-inside
+enter-self-inside-requires-clause-inside c =
     let s = c.self.inside in
     let size : length (shown s.words.items s.entries.items) ≡ length c.args.self.now = ap length c.self.view_is in
     let len = s.entries.ok.0 in
@@ -34,21 +37,27 @@ remove-requires c =
 pub invariant_of-self : goal.invariant_of-self
 invariant_of-self c =
     let s = c.self.inside in
+    let entry = sym c.enter-self-inside.ensures.entry in
     record {
-      objects = kept-freed s.entries.items s.begins.items s.words.items c.self.invariant.objects (c.args.base / 16);
-      marks = c.remove.ensures ∙ taken-set s.entries.items s.taken c.self.invariant.marks (c.args.base / 16) None;
+      objects = subst (λ es. KeepsObjects es s.begins.items s.words.items) entry
+          (kept-freed s.entries.items s.begins.items s.words.items c.self.invariant.objects (c.args.base / 16));
+      marks = c.remove.ensures ∙ taken-set s.entries.items s.taken c.self.invariant.marks (c.args.base / 16) None
+          ∙ ap (map is_some) entry;
+      right = c.enter-self-inside.ensures.grays;
     }
 
 pub returns-clause-freed : goal.returns-clause-freed
 returns-clause-freed c =
     let s = c.self.inside in
     let size : length (shown s.words.items s.entries.items) ≡ length c.args.self.now = ap length c.self.view_is in
-    shown-freed s.entries.items s.begins.items s.words.items c.self.invariant.objects c.args.base
+    ap (shown s.words.items) c.enter-self-inside.ensures.entry
+    ∙ shown-freed s.entries.items s.begins.items s.words.items c.self.invariant.objects c.args.base
     (omega (arith, length-shown s.words.items s.entries.items))
     ∙ ap (with_entry c.args.base None) c.self.view_is
 
 pub returns-clause-size : goal.returns-clause-size
 returns-clause-size c =
     let s = c.self.inside in
-    length-shown s.words.items _ ∙ length-set s.entries.items (c.args.base / 16) None
-    ∙ sym (length-shown s.words.items s.entries.items) ∙ ap length c.self.view_is
+    length-shown s.words.items c.enter-self-inside.new.entries.items ∙ ap length c.enter-self-inside.ensures.entry
+    ∙ length-set s.entries.items (c.args.base / 16) None ∙ sym (length-shown s.words.items s.entries.items)
+    ∙ ap length c.self.view_is
