@@ -10,7 +10,7 @@ use Rattle.mm_sites.specs.Entries.{EntriesByBase, total_of}
 use Rattle.mm_sites.specs.Kept.{KeepsTotals}
 use Rattle.mm_sites.proofs.Totals.{objects_at, bytes_at, objects-total, bytes-total}
 
-replicate_only : {X : Type 0} (n : ℕ) (x : X) (k : ℕ) (y : X) → slice_get (replicate n x) k ≡ Some y → y ≡ x
+pub replicate_only : {X : Type 0} (n : ℕ) (x : X) (k : ℕ) (y : X) → slice_get (replicate n x) k ≡ Some y → y ≡ x
 replicate_only zero x k y e = cc
 replicate_only (suc n) x zero y e = cc
 replicate_only (suc n) x (suc k) y e = replicate_only n x k y e

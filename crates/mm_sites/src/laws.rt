@@ -1,12 +1,13 @@
 // Laws of the sites of commands and births, and of what is entered.
 ghost use Rattle.std.specs.Prelude.{◌≡◌, ℕ, ◌+◌, ◌*◌, ◌≤◌, ◌++◌, ◌∷◌, List, [], length, Ok, Err, Some, None};
-ghost use Rattle.std.specs.Prelude.{unwrap_or};
+ghost use Rattle.std.specs.Prelude.{replicate, unwrap_or};
 ghost use Rattle.mm_model.specs.declared.command.Command.{Command};
 ghost use Rattle.mm_model.specs.declared.line.Line.{Line};
 ghost use Rattle.mm_model.specs.declared.refusal.LineFault.{LineFault};
 ghost use Rattle.mm_model.specs.After.{freed_bases};
 ghost use Rattle.mm_model.specs.Good.{IsGood};
-ghost use Rattle.mm_model.specs.State.{State};
+ghost use Rattle.mm_model.specs.declared.settings.Settings.{Settings};
+ghost use Rattle.mm_model.specs.State.{State, empty_state};
 ghost use Rattle.mm_model.specs.Step.{IsStep};
 ghost use Rattle.mm_model.specs.Logs.Trace.{line_reading, reading_from, trace_reading, FaultAt};
 ghost use Rattle.mm_model.specs.Logs.Turns.{Turn, Born, births_if, births_of, births_in, reply_in};
@@ -80,6 +81,11 @@ pub fn entries_follow_a_command()
         → length (sites_with site sites (births_if a command (reply_in group))) ≡ length b.objects }
     ensures room { (site : ℕ) (entries : EntriesByBase) (bases : List ℕ) (births : List Born)
         → length (with_births site (without entries bases) births) ≡ length entries }
+{}
+
+/// Where no object lives, nothing is to be entered.
+pub fn nothing_is_entered_at_first()
+    ensures { (settings : Settings) (grains : ℕ) → AreEntered (empty_state settings) [] (replicate grains None) }
 {}
 
 /// What a command bears begins where nothing is entered any more, once what its lines free is taken away.

@@ -13,7 +13,7 @@ mod text;
 pub use entry::Entry;
 pub use laws::{
     births_are_where_nothing_is_entered, each_birth_has_a_site, each_command_has_a_site,
-    entries_follow_a_command, lines_of_sites_are_passed_over,
+    entries_follow_a_command, lines_of_sites_are_passed_over, nothing_is_entered_at_first,
     sites_of_births_come_one_after_another, sites_of_lines_come_one_after_another,
     texts_come_one_after_another, totals_are_those_of_the_living,
 };
