@@ -3,6 +3,7 @@ pub mod Changed
 pub mod CountedWords
 pub mod Fitting
 pub mod Grains
+pub mod GrayWords
 pub mod Grays
 pub mod Lines
 pub mod Marks

@@ -1,5 +1,6 @@
-// Laws of what an audit answers, that there is one answer for each log and it means what it says, and of counts.
-ghost use Rattle.std.specs.Prelude.{◌≡◌, ℕ, ◌+◌, ◌≤◌, ◌<◌, ◌==◌, IsTrue, List, map, length, Some, slice_get};
+// Laws of what an audit answers, that there is one answer for each log and it means what it says, of counts, and of colours.
+ghost use Rattle.std.specs.Prelude.{◌≡◌, ℕ, ◌+◌, ◌≤◌, ◌<◌, ◌==◌, ◌++◌, IsTrue, List, [], ◌∷◌, map, length, Some};
+ghost use Rattle.std.specs.Prelude.{slice_get};
 ghost use Rattle.std.specs.List.{concat};
 ghost use Rattle.mm_model.specs.declared.command.Command.{Command};
 ghost use Rattle.mm_model.specs.declared.line.Line.{Line};
@@ -9,7 +10,7 @@ ghost use Rattle.mm_model.specs.Logs.Trace.{rest_of, pieces_of, ended_lines};
 ghost use Rattle.mm_model.specs.Views.ObjectView.{ObjectView, ObjectsByBase};
 ghost use Rattle.mm_model.specs.Object.{is_scanned};
 ghost use Rattle.mm_model.specs.Views.ByBase.{Begins, with_entry};
-ghost use Rattle.mm_model.specs.Views.SetsByBase.{count_at, zero_count_of};
+ghost use Rattle.mm_model.specs.Views.SetsByBase.{count_at, zero_count_of, with_grayed_objects};
 ghost use Rattle.mm_audit.specs.Counts.{counts_of, zeros_in, one_if, with_word};
 ghost use Rattle.mm_model.specs.Views.View.{View};
 ghost use Rattle.mm_model.specs.Views.ViewWords.{view_zero_count};
@@ -85,4 +86,12 @@ pub fn a_write_moves_one_reference()
         → slice_get holder.words slot ≡ Some old
         → count_at (with_entry by (Some (with_word slot word holder)) objects) outside base + one_if (old == base)
         ≡ count_at objects outside base + one_if (word == base) }
+{}
+
+/// Words together make gray what one after the other does.
+pub fn words_gray_one_by_one()
+    ensures none { (objects : ObjectsByBase) → with_grayed_objects [] objects ≡ objects }
+    ensures one_more { (objects : ObjectsByBase) (words : List ℕ) (word : ℕ) →
+        with_grayed_objects (words ++ word ∷ []) objects
+        ≡ with_grayed_objects (word ∷ []) (with_grayed_objects words objects) }
 {}
