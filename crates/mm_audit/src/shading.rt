@@ -19,4 +19,14 @@ impl Objects {
             Colour::Gray | Colour::Black => {}
         }
     }
+
+    /// Each white object in which one of the words falls becomes gray.
+    pub fn shade_all(&mut self, words: &[u32])
+        ensures shaded { self.new ≡ with_grayed_objects words.now self.old }
+        ensures size { length self.new ≡ length self.old }
+    {
+        for &word in words {
+            self.shade(word);
+        }
+    }
 }
