@@ -15,4 +15,5 @@ pub mod Spellings
 pub mod Stacks
 pub mod Used
 pub mod Vacant
+pub mod Whitening
 pub mod Zeros

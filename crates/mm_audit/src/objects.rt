@@ -1,6 +1,6 @@
 // The live objects by base.
 ghost use Rattle.std.specs.Prelude.{◌≡◌, ℕ, ◌+◌, ◌*◌, ◌/◌, ◌<◌, ◌≤◌, true, length, replicate, slice_get, Some, None};
-ghost use Rattle.std.specs.Prelude.{◌%◌, ◌^◌, ◌↔◌, IfOk, MatchOption, slice_set};
+ghost use Rattle.std.specs.Prelude.{◌%◌, ◌^◌, ◌↔◌, IfOk, IfSome, MatchOption, slice_set};
 ghost use Rattle.std.specs.Option.{option_map};
 ghost use Rattle.mm_model.specs.Words.{falls};
 ghost use Rattle.mm_model.specs.Views.ByBase.{Begins, with_entry};
@@ -35,8 +35,8 @@ const HEADER_WORDS: u32 = 4;
 /// The live objects of a region, by base.
 ///
 /// No call but `make` takes memory. To bear an object takes some steps for each 16 bytes of it. `next` looks at one
-/// word for each 64 KiB that it passes over. Any other call takes the same time however many objects and pages there
-/// are.
+/// word for each 64 KiB that it passes over, and `whiten` at each object. Any other call takes the same time however many
+/// objects and pages there are, `shade_all` for each word.
 #[derive(Drop)]
 pub struct Objects {
     // By grain.
@@ -177,7 +177,8 @@ impl Objects {
     /// The base of the lowest object that begins at an address or behind it.
     pub fn next(&self, from: u32) -> Option<u32>
         requires aligned { from % 16 ≡ 0 }
-        ensures { MatchOption result (NoObjectFrom self.now from) (IsNextObject self.now from) }
+        ensures next { MatchOption result (NoObjectFrom self.now from) (IsNextObject self.now from) }
+        ensures small { IfSome result (λ base. base + 16 ≤ 2 ^ 24) }
     {
         let grain = from / GRAIN;
         if self.entries.len() <= grain as usize {

@@ -8,8 +8,8 @@ use Rattle.mm_audit.proofs.Grains.{taken-entry, entry-taken}
 use Rattle.mm_audit.proofs.Shown.{begins-kept, kept-begins}
 use Rattle.mm_audit.proofs.objects.Objects.next.Goals as goal
 
-pub returns-then-len-grain : goal.returns-then-len-grain
-returns-then-len-grain c base object from there =
+pub returns-then-len-grain-clause-next : goal.returns-then-len-grain-clause-next
+returns-then-len-grain-clause-next c base object from there =
     let s = c.self.inside in
     let begins = subst (λ v. Begins v base object) (sym c.self.view_is) there in
     let kept = begins-kept s.words.items s.entries.items base object begins in
@@ -28,8 +28,18 @@ overflow_mul-result c =
     let few = c.self.invariant.objects.few in
     omega arith
 
-pub returns-in-None : goal.returns-in-None
-returns-in-None c base object from there =
+pub returns-in-Some-clause-small : goal.returns-in-Some-clause-small
+returns-in-Some-clause-small c =
+    let s = c.self.inside in
+    let next = c.in-Some.next in
+    let marked = subst (λ (v : List Bool). IsMarked v next) c.self.invariant.marks c.in-Some.ensures.marked in
+    let entry = entry-taken s.entries.items next marked in
+    let below = slice_get_within s.entries.items next (Some entry.0) entry.1 in
+    let few = c.self.invariant.objects.few in
+    omega arith
+
+pub returns-in-None-clause-next : goal.returns-in-None-clause-next
+returns-in-None-clause-next c base object from there =
     let s = c.self.inside in
     let begins = subst (λ v. Begins v base object) (sym c.self.view_is) there in
     let kept = begins-kept s.words.items s.entries.items base object begins in
@@ -39,8 +49,8 @@ returns-in-None c base object from there =
     c.in-None.ensures (base / 16) (omega arith)
     (subst (λ (v : List Bool). IsMarked v (base / 16)) (sym c.self.invariant.marks) marked)
 
-pub returns-in-Some : goal.returns-in-Some
-returns-in-Some c =
+pub returns-in-Some-clause-next : goal.returns-in-Some-clause-next
+returns-in-Some-clause-next c =
     let s = c.self.inside in
     let next = c.in-Some.next in
     let marked = subst (λ (v : List Bool). IsMarked v next) c.self.invariant.marks c.in-Some.ensures.marked in
