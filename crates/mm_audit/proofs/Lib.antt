@@ -7,6 +7,8 @@ pub mod GrayWords
 pub mod Grays
 pub mod Lines
 pub mod Marks
+pub mod Puts
+pub mod Recounts
 pub mod References
 pub mod Resolving
 pub mod Shades

@@ -7,7 +7,7 @@ use Rattle.std.proofs.Math.ListN.{get_or}
 use Rattle.std.proofs.lemmas.List.Sums.{sum_by-cons, sum_by-set}
 use Rattle.std.proofs.lemmas.Option.{get_or_from_slice_get, slice_get_within}
 use Rattle.mm_model.specs.Object.{is_scanned}
-use Rattle.mm_model.specs.Views.ByBase.{Begins, Based, based, based_from, with_entry}
+use Rattle.mm_model.specs.Views.ByBase.{Begins, Based, based, based_from, with_entry, changed, changed_from}
 use Rattle.mm_model.specs.Views.ObjectView.{ObjectView, ObjectsByBase, counted_words_of, references_in}
 use Rattle.mm_model.specs.Views.SetsByBase.{count_at}
 use Rattle.mm_model.proofs.Lists.KeyedSums.{count-flat_map}
@@ -40,7 +40,7 @@ module _ (base : ℕ) where
   is_base word = word == base
 
   -- how many of its counted slots hold the base
-  abbrev held_by : Option ObjectView → ℕ
+  abbrev pub held_by : Option ObjectView → ℕ
   held_by None = 0
   held_by (Some object) = count_by is_base (counted_words_of object)
 
@@ -57,10 +57,43 @@ module _ (base : ℕ) where
       ∙ ap (λ n. held_by (Some object) + n) (held-from (low + 16) objects)
       ∙ sym (sum_by-cons held_by (Some object) objects)
 
-  references-sum : (objects : ObjectsByBase) → references_in objects base ≡ sum_by held_by objects
+  pub references-sum : (objects : ObjectsByBase) → references_in objects base ≡ sum_by held_by objects
   references-sum objects =
       count-flat_map is_base (λ (o : Based ObjectView). counted_words_of o.value) (based objects)
       ∙ held-from 0 objects
+
+  -- a change that keeps them
+  pub references-changed : (f : ℕ → ObjectView → Option ObjectView)
+      → ((b : ℕ) (object : ObjectView) → held_by (f b object) ≡ held_by (Some object)) → (objects : ObjectsByBase)
+      → references_in (changed f objects) base ≡ references_in objects base
+  references-changed f keeps objects =
+      references-sum (changed f objects) ∙ from 0 objects ∙ sym (references-sum objects)
+    where
+      from : (low : ℕ) (objects : ObjectsByBase) → sum_by held_by (changed_from f low objects) ≡ sum_by held_by objects
+      from low [] = refl
+      from low (None ∷ objects) =
+          sum_by-cons held_by None (changed_from f (low + 16) objects)
+          ∙ ap (λ n. held_by None + n) (from (low + 16) objects) ∙ sym (sum_by-cons held_by None objects)
+      from low (Some object ∷ objects) =
+          sum_by-cons held_by (f low object) (changed_from f (low + 16) objects)
+          ∙ ap (λ n. n + sum_by held_by (changed_from f (low + 16) objects)) (keeps low object)
+          ∙ ap (λ n. held_by (Some object) + n) (from (low + 16) objects)
+          ∙ sym (sum_by-cons held_by (Some object) objects)
+
+  -- an object is another one that holds it as often
+  pub references-replaced : (objects : ObjectsByBase) (by : ℕ) (holder new : ObjectView) → Begins objects by holder
+      → held_by (Some new) ≡ held_by (Some holder)
+      → references_in (with_entry by (Some new) objects) base ≡ references_in objects base
+  references-replaced objects by holder new begins same =
+      let grain = by / 16 in
+      let at = begins_get objects by holder begins in
+      let within = slice_get_within objects grain (Some holder) at in
+      let held : held_by (get_or objects grain (Some holder)) ≡ held_by (Some holder) =
+      ap held_by (get_or_from_slice_get objects grain (Some holder) (Some holder) at) in
+      let change = sum_by-set held_by objects grain (Some new) (Some holder) within in
+      let before = references-sum objects in
+      let after = references-sum (with_entry by (Some new) objects) in
+      omega arith
 
   held-written : (object : ObjectView) (slot word old : ℕ) → IsTrue (is_scanned object.kind)
       → slot < object.counted → slice_get object.words slot ≡ Some old

@@ -1,10 +1,10 @@
 -- The counts of references by base, as they are kept beside the objects.
-use Rattle.std.specs.Prelude.{◌≡◌, ◌≢◌, ℕ, ◌+◌, ◌-◌, ◌^◌, ◌≤◌, Bool, false, ◌==◌, nat_lt, if◌then◌else◌, List, [], ◌∷◌}
-use Rattle.std.specs.Prelude.{length, Option, Some, None, slice_set}
+use Rattle.std.specs.Prelude.{◌≡◌, ℕ, ◌+◌, ◌-◌, ◌*◌, ◌%◌, ◌^◌, ◌<◌, ◌≤◌, Bool, false, ◌==◌, nat_lt, List, [], ◌∷◌}
+use Rattle.std.specs.Prelude.{if◌then◌else◌, length, Option, Some, None, slice_set}
 use Rattle.std.specs.List.{count_by}
 use Rattle.std.specs.Option.{option_map_or}
 use Rattle.mm_model.specs.Object.{is_counted}
-use Rattle.mm_model.specs.Views.ByBase.{Begins}
+use Rattle.mm_model.specs.Views.ByBase.{changed}
 use Rattle.mm_model.specs.Views.ObjectView.{ObjectView, ObjectsByBase}
 use Rattle.mm_model.specs.Views.SetsByBase.{count_at}
 use Rattle.mm_audit.specs.declared.count.Count.{Count}
@@ -35,11 +35,10 @@ is_zero_entry entry = option_map_or is_zero entry false
 abbrev pub zeros_in : CountsByBase → ℕ
 zeros_in counts = count_by is_zero_entry counts
 
--- something is counted at this base, and a place holds it, as far as is known
-pub record IsHeld (counts : CountsByBase) (base : ℕ) : Type 0 where
-  pub count : Count
-  pub begins : Begins counts base count
-  pub held : count ≢ Exact 0
+-- an object may begin there: it is a multiple of 16 in the region
+pub record IsGrain (counts : CountsByBase) (base : ℕ) : Type 0 where
+  pub aligned : base % 16 ≡ 0
+  pub inside : base < 16 * length counts
 
 -- what the count of an object is: as often as counted places hold its base, unless it is sticky
 abbrev pub count_of : ObjectsByBase → (ℕ → ℕ) → ℕ → ObjectView → Option Count
@@ -57,6 +56,14 @@ counts_from objects outside base (Some object ∷ rest) =
 -- The right counts of objects. Places outside of objects hold each base as often as the number for it says.
 abbrev pub counts_of : ObjectsByBase → (ℕ → ℕ) → CountsByBase
 counts_of objects outside = counts_from objects outside 0 objects
+
+-- another count for what is counted at a base
+abbrev pub recounted_at : (Count → Count) → ℕ → CountsByBase → CountsByBase
+recounted_at change base counts = changed (λ b count. Some (if b == base then change count else count)) counts
+
+-- A counted place holds another word than it did: one place less holds the old one, and then one more the new one.
+abbrev pub moved : ℕ → ℕ → CountsByBase → CountsByBase
+moved old new counts = recounted_at one_more new (recounted_at one_less old counts)
 
 -- one where it is so, and else none
 abbrev pub one_if : Bool → ℕ

@@ -33,8 +33,12 @@ view_of_parts parts =
       settings = parts.settings;
     }
 
+-- the right counts of a view
+abbrev pub view_counts : View → CountsByBase
+view_counts view = counts_of view.objects (outside_references view)
+
 -- They show it, and what is kept beside it is right: the limit of the stack, and the counts.
 pub record ShowParts (parts : Parts) (view : View) : Type 0 where
   pub shown : view ≡ view_of_parts parts
   pub limit : parts.stack.limit ≡ view.settings.stack
-  pub counts : parts.counts ≡ counts_of view.objects (outside_references view)
+  pub counts : parts.counts ≡ view_counts view

@@ -4,7 +4,7 @@ ghost use Rattle.std.specs.Prelude.{length};
 ghost use Rattle.mm_model.specs.Views.ByBase.{Begins, with_entry};
 ghost use Rattle.mm_audit.specs.declared.count.Count.{Count as Counted};
 ghost use Rattle.mm_audit.specs.declared.count.Count.TheVariants as counts;
-ghost use Rattle.mm_audit.specs.Counts.{one_more, one_less, zeros_in, is_zero_entry, IsHeld};
+ghost use Rattle.mm_audit.specs.Counts.{one_more, one_less, zeros_in, is_zero_entry, moved, IsGrain};
 
 use crate::NoMemory;
 use crate::count::Count;
@@ -98,17 +98,32 @@ impl Counts {
         }
     }
 
-    /// One counted place less holds a base, which some place holds.
+    /// One counted place less holds a base. Where no counted object begins there, nothing is counted.
     pub fn lower(&mut self, base: u32)
-        requires held { IsHeld self.old base }
+        requires aligned { base % 16 ≡ 0 }
+        requires inside { base < 16 * length self.old }
+        requires held { Begins self.old base (counts.Exact 0) → ⊥ }
         ensures counted { (count : Counted) → Begins self.old base count
             → self.new ≡ with_entry base (Some (one_less count)) self.old }
+        ensures other { slice_get self.old (base / 16) ≡ Some None → self.new ≡ self.old }
         ensures room { length self.new ≡ length self.old }
     {
         match self.get(base) {
-            None => unreachable!(),
+            None => {}
             Some(count) => self.replace(base, Some(count.one_less())),
         }
+    }
+
+    /// A counted place holds another word than it did. Both are multiples of 16, as 0 and each base.
+    pub fn exchange(&mut self, old: u32, new: u32)
+        requires old { IsGrain self.old old }
+        requires new { IsGrain self.old new }
+        requires held { Begins self.old old (counts.Exact 0) → ⊥ }
+        ensures moved { self.new ≡ moved old new self.old }
+        ensures room { length self.new ≡ length self.old }
+    {
+        self.lower(old);
+        self.raise(new);
     }
 
     // Another entry for a base.

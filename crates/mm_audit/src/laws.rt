@@ -1,5 +1,6 @@
-// Laws of what an audit answers, that there is one answer for each log and it means what it says, of counts, and of colours.
-ghost use Rattle.std.specs.Prelude.{◌≡◌, ℕ, ◌+◌, ◌≤◌, ◌<◌, ◌==◌, ◌++◌, IsTrue, List, [], ◌∷◌, map, length, Some};
+// Laws of what an audit answers, that there is one answer for each log and it means what it says, and of counts and
+// colours.
+ghost use Rattle.std.specs.Prelude.{◌≡◌, ◌≢◌, ℕ, ◌+◌, ◌≤◌, ◌<◌, ◌==◌, ◌++◌, IsTrue, List, [], ◌∷◌, map, length, Some};
 ghost use Rattle.std.specs.Prelude.{slice_get};
 ghost use Rattle.std.specs.List.{concat};
 ghost use Rattle.mm_model.specs.declared.command.Command.{Command};
@@ -7,15 +8,18 @@ ghost use Rattle.mm_model.specs.declared.line.Line.{Line};
 ghost use Rattle.mm_model.specs.declared.settings.Settings.{Settings};
 ghost use Rattle.mm_model.specs.Logs.Spelling.{spelling, spelling_of};
 ghost use Rattle.mm_model.specs.Logs.Trace.{rest_of, pieces_of, ended_lines};
-ghost use Rattle.mm_model.specs.Views.ObjectView.{ObjectView, ObjectsByBase};
+ghost use Rattle.mm_model.specs.Views.ObjectView.{ObjectView, ObjectsByBase, slot_kind_of};
 ghost use Rattle.mm_model.specs.Object.{is_scanned};
-ghost use Rattle.mm_model.specs.Views.ByBase.{Begins, with_entry};
+ghost use Rattle.mm_model.specs.Views.ByBase.{Begins, Based, with_entry};
 ghost use Rattle.mm_model.specs.Views.SetsByBase.{count_at, zero_count_of, with_grayed_objects};
-ghost use Rattle.mm_audit.specs.Counts.{counts_of, zeros_in, one_if, with_word};
+ghost use Rattle.mm_audit.specs.Counts.{counts_of, zeros_in, one_if, with_word, moved};
 ghost use Rattle.mm_model.specs.Views.View.{View};
 ghost use Rattle.mm_model.specs.Views.ViewWords.{view_zero_count};
 ghost use Rattle.mm_model.specs.Views.ViewTests.{tests_of_view};
-ghost use Rattle.mm_audit.specs.Parts.{Parts, ShowParts};
+ghost use Rattle.mm_model.specs.Words.{CountedSlot};
+ghost use Rattle.mm_model.specs.Views.GoodView.{IsGoodView};
+ghost use Rattle.mm_model.specs.Views.ViewStore.{view_put};
+ghost use Rattle.mm_audit.specs.Parts.{Parts, ShowParts, view_counts};
 ghost use Rattle.mm_audit.specs.declared.answer.Answer.{Answer};
 ghost use Rattle.mm_audit.specs.declared.answer.Answer.TheVariants as answers;
 ghost use Rattle.mm_audit.specs.Audit.{log_lines, IsWholeLog, Fits, IsAudited};
@@ -86,6 +90,17 @@ pub fn a_write_moves_one_reference()
         → slice_get holder.words slot ≡ Some old
         → count_at (with_entry by (Some (with_word slot word holder)) objects) outside base + one_if (old == base)
         ≡ count_at objects outside base + one_if (word == base) }
+{}
+
+/// `put` moves one count where the slot is counted, and none else.
+pub fn a_put_moves_one_count()
+    ensures counted { (view : View) (o : Based ObjectView) (slot word old : ℕ) → IsGoodView view
+        → Begins view.objects o.base o.value → slot_kind_of o.value slot ≡ CountedSlot
+        → slice_get o.value.words slot ≡ Some old
+        → view_counts (view_put view o slot word) ≡ moved old word (view_counts view) }
+    ensures other { (view : View) (o : Based ObjectView) (slot word : ℕ)
+        → Begins view.objects o.base o.value → slot_kind_of o.value slot ≢ CountedSlot
+        → view_counts (view_put view o slot word) ≡ view_counts view }
 {}
 
 /// Words together make gray what one after the other does.
