@@ -50,6 +50,14 @@ get-counts all outside k =
         from (low + 16) objects k
         ∙ ap (λ n. option_map (option_and_then (count_of all outside n)) (slice_get objects k)) next
 
+pub length-counts : (objects : ObjectsByBase) (outside : ℕ → ℕ) → length (counts_of objects outside) ≡ length objects
+length-counts all outside = from 0 all
+  where
+    from : (low : ℕ) (objects : ObjectsByBase) → length (counts_from all outside low objects) ≡ length objects
+    from low [] = refl
+    from low (None ∷ objects) = ap suc (from (low + 16) objects)
+    from low (Some object ∷ objects) = ap suc (from (low + 16) objects)
+
 -- A change that keeps of each object whether it is counted and sticky, and which bases its counted slots hold.
 pub record KeepsCounts (f : ℕ → ObjectView → Option ObjectView) : Type 0 where
   pub told : (all : ObjectsByBase) (outside : ℕ → ℕ) (base : ℕ) (object : ObjectView)
@@ -316,6 +324,30 @@ module _ (objects : ObjectsByBase) (outside : ℕ → ℕ) (known : AreKnown obj
       let here = ap one_if (eq-eqb old base (sym e)) in
       let none = ap one_if (ne_eqb (base + 1) base (λ same. absurd (omega arith))) in
       omega arith
+
+  -- the count of what the slot holds isn't 0
+  pub held-not_zero : Begins (counts_of objects outside) old (Exact 0) → ⊥
+  held-not_zero begins =
+      split (slice_get objects begins.grain) (sym (get-counts objects outside begins.grain) ∙ begins.is)
+    where
+      some : 1 ≤ count_at objects outside (16 * begins.grain)
+      some = holds_some (16 * begins.grain) (sym begins.aligned)
+
+      zero_is : (n : ℕ) → ◌≡◌ {A = Option (Option Count)} (Some (Some (Exact n))) (Some (Some (Exact 0))) → n ≡ 0
+      zero_is n e = cc
+
+      by_mark : (counted sticky : Bool)
+          → Some (count_as counted sticky (count_at objects outside (16 * begins.grain))) ≡ Some (Some (Exact 0)) → ⊥
+      by_mark true true e = cc
+      by_mark true false e =
+          let none = zero_is (count_at objects outside (16 * begins.grain)) e in absurd (omega (arith, some))
+      by_mark false sticky e = cc
+
+      split : (told : Option (Option ObjectView))
+          → count_told objects outside begins.grain told ≡ Some (Some (Exact 0)) → ⊥
+      split None e = cc
+      split (Some None) e = cc
+      split (Some (Some object)) e = by_mark (is_counted object.kind) object.sticky e
 
   pub counts-same : old ≡ word → counts_of after outside ≡ moved old word (counts_of objects outside)
   counts-same e =

@@ -1,7 +1,7 @@
 // Laws of what an audit answers, that there is one answer for each log and it means what it says, and of counts and
 // colours.
 ghost use Rattle.std.specs.Prelude.{◌≡◌, ◌≢◌, ℕ, ◌+◌, ◌≤◌, ◌<◌, ◌==◌, ◌++◌, IsTrue, List, [], ◌∷◌, map, length, Some};
-ghost use Rattle.std.specs.Prelude.{slice_get};
+ghost use Rattle.std.specs.Prelude.{slice_get, false};
 ghost use Rattle.std.specs.List.{concat};
 ghost use Rattle.mm_model.specs.declared.command.Command.{Command};
 ghost use Rattle.mm_model.specs.declared.line.Line.{Line};
@@ -12,13 +12,14 @@ ghost use Rattle.mm_model.specs.Views.ObjectView.{ObjectView, ObjectsByBase, slo
 ghost use Rattle.mm_model.specs.Object.{is_scanned};
 ghost use Rattle.mm_model.specs.Views.ByBase.{Begins, Based, with_entry};
 ghost use Rattle.mm_model.specs.Views.SetsByBase.{count_at, zero_count_of, with_grayed_objects};
-ghost use Rattle.mm_audit.specs.Counts.{counts_of, zeros_in, one_if, with_word, moved};
+ghost use Rattle.mm_audit.specs.Counts.{counts_of, zeros_in, one_if, with_word, moved, IsGrain};
 ghost use Rattle.mm_model.specs.Views.View.{View};
-ghost use Rattle.mm_model.specs.Views.ViewWords.{view_zero_count};
+ghost use Rattle.mm_model.specs.Views.ViewWords.{view_zero_count, view_refuses_word};
 ghost use Rattle.mm_model.specs.Views.ViewTests.{tests_of_view};
 ghost use Rattle.mm_model.specs.Words.{CountedSlot};
 ghost use Rattle.mm_model.specs.Views.GoodView.{IsGoodView};
 ghost use Rattle.mm_model.specs.Views.ViewStore.{view_put};
+ghost use Rattle.mm_audit.specs.declared.count.Count.TheVariants.{Exact};
 ghost use Rattle.mm_audit.specs.Parts.{Parts, ShowParts, view_counts};
 ghost use Rattle.mm_audit.specs.declared.answer.Answer.{Answer};
 ghost use Rattle.mm_audit.specs.declared.answer.Answer.TheVariants as answers;
@@ -101,6 +102,18 @@ pub fn a_put_moves_one_count()
     ensures other { (view : View) (o : Based ObjectView) (slot word : ℕ)
         → Begins view.objects o.base o.value → slot_kind_of o.value slot ≢ CountedSlot
         → view_counts (view_put view o slot word) ≡ view_counts view }
+{}
+
+/// What `exchange` asks for holds of a `put` into a counted slot that isn't refused.
+pub fn a_put_may_move_its_count()
+    ensures old { (view : View) (o : Based ObjectView) (slot old : ℕ) → IsGoodView view
+        → Begins view.objects o.base o.value → slot_kind_of o.value slot ≡ CountedSlot
+        → slice_get o.value.words slot ≡ Some old → IsGrain (view_counts view) old }
+    ensures held { (view : View) (o : Based ObjectView) (slot old : ℕ) → IsGoodView view
+        → Begins view.objects o.base o.value → slot_kind_of o.value slot ≡ CountedSlot
+        → slice_get o.value.words slot ≡ Some old → Begins (view_counts view) old (Exact 0) → ⊥ }
+    ensures new { (view : View) (o : Based ObjectView) (word : ℕ) → Begins view.objects o.base o.value
+        → view_refuses_word view CountedSlot word ≡ false → IsGrain (view_counts view) word }
 {}
 
 /// Words together make gray what one after the other does.
