@@ -7,6 +7,7 @@ pub mod GrayWords
 pub mod Grays
 pub mod Lines
 pub mod Marks
+pub mod LowestPlaces
 pub mod Puts
 pub mod Recounts
 pub mod References
@@ -17,5 +18,6 @@ pub mod Spellings
 pub mod Stacks
 pub mod Used
 pub mod Vacant
+pub mod VacantPlaces
 pub mod Whitening
 pub mod Zeros

@@ -1,27 +1,26 @@
 -- The right counts of objects, once a slot is written.
-use Rattle.std.proofs.Common.{◌≡◌, ◌≢◌, ℕ, zero, suc, ◌+◌, ◌-◌, ◌*◌, ◌/◌, ◌%◌, ◌<◌, ◌≤◌, Bool, true, false, ◌&&◌}
-use Rattle.std.proofs.Common.{◌||◌, ◌==◌, if◌then◌else◌, eqb-true, [], ◌∷◌, length, Option, Some, None, refl}
-use Rattle.std.proofs.Common.{sym, ap}
-use Rattle.std.proofs.Common.{◌∙◌, ⊎_elim, arith}
-use Rattle.std.specs.Prelude.{IsTrue, nat_lt, nat_le, slice_get}
+use Rattle.std.proofs.Common.{◌≡◌, ◌≢◌, ℕ, zero, suc, ◌+◌, ◌-◌, ◌*◌, ◌/◌, ◌%◌, ◌<◌, ◌≤◌, Bool, true, false, ◌&&◌, ◌||◌}
+use Rattle.std.proofs.Common.{◌==◌, if◌then◌else◌, eqb-true, [], ◌∷◌, length, Option, Some, None, refl, sym, ap, ◌∙◌}
+use Rattle.std.proofs.Common.{⊎_elim, arith}
 use Rattle.std.specs.Option.{option_map, option_and_then}
-use Rattle.std.proofs.lemmas.Bool.{cases_eq, cases_lt, eq-eqb, ne_eqb}
+use Rattle.std.specs.Prelude.{IsTrue, nat_lt, nat_le, slice_get}
 use Rattle.std.proofs.Math.ListN.{get_or}
-use Rattle.std.proofs.lemmas.Option.{slice_get-get_or}
+use Rattle.std.proofs.lemmas.Bool.{cases_eq, cases_lt, eq-eqb, ne_eqb}
 use Rattle.std.proofs.lemmas.Bool.Decides.{nat_tests}
-use Rattle.mm_model.specs.declared.object.Kind.{Kind}
+use Rattle.std.proofs.lemmas.Option.{slice_get-get_or}
 use Rattle.mm_model.specs.Object.{is_counted, is_scanned}
 use Rattle.mm_model.specs.Views.ByBase.{Begins, with_entry, changed}
 use Rattle.mm_model.specs.Views.ObjectView.{ObjectView, ObjectsByBase}
 use Rattle.mm_model.specs.Views.SetsByBase.{count_at}
+use Rattle.mm_model.specs.declared.object.Kind.{Kind}
 use Rattle.mm_model.proofs.Lists.Replaced.{get-set_same, get-set_other}
 use Rattle.mm_model.proofs.View.ByBase.ChangedEntries.{changed-one, changed-none}
 use Rattle.mm_model.proofs.View.ByBase.Entries.{get-changed, same_entries}
 use Rattle.mm_model.proofs.View.ByBase.ReplacedEntries.{begins_get}
-use Rattle.mm_audit.specs.declared.count.Count.{Count}
-use Rattle.mm_audit.specs.declared.count.Count.TheVariants.{Exact, Sticky}
 use Rattle.mm_audit.specs.Counts.{CountsByBase, one_more, one_less, count_of, counts_from, counts_of, recounted_at}
 use Rattle.mm_audit.specs.Counts.{moved, one_if, with_word}
+use Rattle.mm_audit.specs.declared.count.Count.{Count}
+use Rattle.mm_audit.specs.declared.count.Count.TheVariants.{Exact, Sticky}
 use Rattle.mm_audit.proofs.References.{held_by, references-changed, references-replaced, written-counts}
 
 -- the count of what an entry tells

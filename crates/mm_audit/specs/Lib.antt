@@ -4,4 +4,5 @@ pub mod Counts
 pub mod Numbers
 pub mod Objects
 pub mod Parts
+pub mod Places
 pub mod Stack

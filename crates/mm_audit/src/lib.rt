@@ -11,6 +11,8 @@ mod laws;
 mod meaning;
 mod numbers;
 mod objects;
+mod owner;
+mod places;
 mod shading;
 mod stack;
 #[cfg(test)]
@@ -28,6 +30,8 @@ pub use laws::{
 };
 pub use numbers::Numbers;
 pub use objects::Objects;
+pub use owner::Owner;
+pub use places::Places;
 pub use stack::Stack;
 
 /// Want of memory, the one refusal of this crate.
