@@ -23,6 +23,9 @@ pub record PlaceMarks : Type 0 where
   -- by multiple of 16 bytes: a free cell of a page of cells begins there
   pub free : List Bool
 
+abbrev pub place_marks : ℕ → List Bool → List Bool → List Bool → PlaceMarks
+place_marks pages vacant roomy free = record { pages = pages; vacant = vacant; roomy = roomy; free = free }
+
 -- the family of the cells that it takes
 abbrev pub family_of : Owner → Family
 family_of owners.Object = Objects

@@ -35,8 +35,8 @@ const HEADER_WORDS: u32 = 4;
 /// The live objects of a region, by base.
 ///
 /// No call but `make` takes memory. To bear an object takes some steps for each 16 bytes of it. `next` looks at one
-/// word for each 64 KiB that it passes over, and `whiten` at each object. Any other call takes the same time however many
-/// objects and pages there are, `shade_all` for each word.
+/// word for each 64 KiB that it passes over, and `whiten` at each object. Any other call takes the same time however
+/// many objects and pages there are, `shade_all` for each word.
 #[derive(Drop)]
 pub struct Objects {
     // By grain.

@@ -5,7 +5,8 @@ ghost use Rattle.mm_model.specs.Places.SizeClass.{class_sizes};
 ghost use Rattle.mm_model.specs.Places.Place.{Family, Piece, first_from, has_room, free_cell, fresh_page};
 ghost use Rattle.mm_model.specs.Places.Place.{place_among};
 ghost use Rattle.mm_model.specs.declared.object.Size.TheVariants.{Small, Pages};
-ghost use Rattle.mm_audit.specs.Places.{Tell, IsKnownSize, family_of, row_of, IsMarkedFrom, IsRunEnd, NoVacantRun, IsLowestRun};
+ghost use Rattle.mm_audit.specs.Places.{Tell, IsKnownSize, family_of, row_of, IsMarkedFrom};
+ghost use Rattle.mm_audit.specs.Places.{IsRunEnd, NoVacantRun, IsLowestRun};
 
 use crate::NoMemory;
 use crate::numbers::Numbers;
@@ -42,13 +43,13 @@ pub struct Places {
 }
 
 impl Model for Places {
-    ghost use Rattle.mm_audit.specs.Places.{PlaceMarks, KeepsPlaces};
+    ghost use Rattle.mm_audit.specs.Places.{PlaceMarks, place_marks, KeepsPlaces};
 
     ghost Value = { PlaceMarks };
 
-    ghost view = { λ s. record { pages = s.pages; vacant = s.vacant; roomy = s.roomy; free = s.free } };
+    ghost view = { λ s. place_marks s.pages s.vacant s.roomy s.free };
 
-    ghost invariant = { λ s. KeepsPlaces (record { pages = s.pages; vacant = s.vacant; roomy = s.roomy; free = s.free }) s.occupied };
+    ghost invariant = { λ s. KeepsPlaces (place_marks s.pages s.vacant s.roomy s.free) s.occupied };
 }
 
 // The lowest page from 1 to below the limit that is marked, where page 0 has this number.

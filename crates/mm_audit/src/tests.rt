@@ -1,6 +1,6 @@
-// Counts, a stack and objects, worked out by hand.
-use crate::{Count, Counts, Found, Header, Objects, Stack};
-use mm_model::{Colour, Kind, Shape};
+// Counts, a stack, objects and places, worked out by hand.
+use crate::{Count, Counts, Found, Header, Objects, Owner, Places, Stack};
+use mm_model::{Colour, Kind, Shape, Size};
 use std::test::Fail;
 
 #[test]
@@ -86,5 +86,15 @@ fn a_slot_has_the_word_that_was_put_last(rt: HostRuntime) -> Result<(), Fail> {
     objects.put(4096, 2, 7);
     assert_eq!(&rt; objects.slot(4096, 2), 7);
     assert_eq!(&rt; objects.slots(4096), [0, 0, 7, 0].as_slice());
+    Ok(())
+}
+
+#[test]
+fn the_first_place_is_at_page_1(rt: HostRuntime) -> Result<(), Fail> {
+    let places = Places::make(rt.alloc(), 4)?;
+    assert_eq!(&rt; places.place(4, Owner::Object, Size::Small(0)), Some(4096));
+    assert_eq!(&rt; places.place(4, Owner::Area, Size::Pages(3)), Some(4096));
+    assert_eq!(&rt; places.place(3, Owner::Area, Size::Pages(3)), None);
+    assert_eq!(&rt; places.place(1, Owner::Object, Size::Small(18)), None);
     Ok(())
 }
