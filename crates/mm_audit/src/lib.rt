@@ -14,6 +14,7 @@ mod objects;
 mod owner;
 mod places;
 mod shading;
+mod size;
 mod stack;
 #[cfg(test)]
 mod tests;
@@ -32,6 +33,7 @@ pub use numbers::Numbers;
 pub use objects::Objects;
 pub use owner::Owner;
 pub use places::Places;
+pub use size::size_of;
 pub use stack::Stack;
 
 /// Want of memory, the one refusal of this crate.
