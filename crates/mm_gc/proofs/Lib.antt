@@ -9,6 +9,7 @@ pub mod Marking
 pub mod Meaning
 pub mod Placing
 pub mod Pushing
+pub mod Readers
 pub mod Refusals
 pub mod Regions
 pub mod Rows

@@ -1,5 +1,6 @@
 pub mod AreaCells
 pub mod Counts
+pub mod Describing
 pub mod Emptied
 pub mod Ending
 pub mod Gc

@@ -4,6 +4,7 @@
 mod area_cells;
 mod closing;
 mod cycles;
+mod describing;
 mod execute;
 mod freeing;
 mod gc;
@@ -17,6 +18,7 @@ mod slots;
 mod stack;
 mod wanted;
 
+pub use describing::Described;
 pub use gc::{Gc, NoMemory};
 pub use mm_model::Settings;
 pub use mm_sweep::{Finalizer, Journal};

@@ -13,7 +13,7 @@ use std::sync::ledger::Ledger;
 impl Gc {
     /// The word of a stack cell, named as everywhere by its index from the top.
     #[inline(always)]
-    pub(crate) fn cell<L: Ledger>(&self, i: u32, steps: &mut Steps<L>) -> Result<u32, Refusal>
+    pub fn cell<L: Ledger>(&self, i: u32, steps: &mut Steps<L>) -> Result<u32, Refusal>
         ensures answer { CellAnswer self.now.stack.words i result }
         ensures cost { steps.new ≤ steps.old + 1 }
     {
