@@ -14,6 +14,7 @@ pub mod Refusals
 pub mod Regions
 pub mod Rows
 pub mod Shown
+pub mod Sliding
 pub mod Starting
 pub mod Stat
 pub mod Telling

@@ -14,6 +14,7 @@ pub mod Regions
 pub mod Replies
 pub mod Rows
 pub mod Showing
+pub mod Sliding
 pub mod Starting
 pub mod Steps
 pub mod Stores
