@@ -1,4 +1,5 @@
 pub mod AreaCells
+pub mod BareWords
 pub mod Colours
 pub mod Ending
 pub mod Executed

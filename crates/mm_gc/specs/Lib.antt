@@ -1,4 +1,5 @@
 pub mod AreaCells
+pub mod BareWords
 pub mod Counts
 pub mod Describing
 pub mod Emptied

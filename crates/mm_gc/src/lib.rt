@@ -2,6 +2,7 @@
 #![tactic(auto)]
 
 mod area_cells;
+mod bare_words;
 mod closing;
 mod cycles;
 mod describing;
@@ -18,6 +19,7 @@ mod slots;
 mod stack;
 mod wanted;
 
+pub use bare_words::WordsFault;
 pub use describing::Described;
 pub use gc::{Gc, NoMemory};
 pub use mm_model::Settings;

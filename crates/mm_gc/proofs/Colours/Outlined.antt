@@ -72,7 +72,7 @@ module _ {Y : Type 0} (of : ObjectView → Y)
 abbrev pub outlined : ObjectView → ObjectView
 outlined v = record v { words = map (λ (word : ℕ). 0) v.words; sticky = false }
 
-blank-length : (xs ys : List ℕ) → length xs ≡ length ys
+pub blank-length : (xs ys : List ℕ) → length xs ≡ length ys
     → map {B = ℕ} (λ (word : ℕ). 0) xs ≡ map {B = ℕ} (λ (word : ℕ). 0) ys
 blank-length [] [] e = refl
 blank-length [] (y ∷ ys) e = absurd (omega arith)
