@@ -1,0 +1,4 @@
+use Rattle.mm_c.proofs.reading.mm_cell.Given as goal
+
+abbrev pub ghosts-cell : goal.ghosts-cell
+ghosts-cell a = record { name = a.blank.name; parts = a.blank.parts }

@@ -1,0 +1,10 @@
+pub mod Answer
+pub mod Calls
+pub mod Finals
+pub mod Flag
+pub mod Following
+pub mod Holds
+pub mod Reading
+pub mod Settings
+pub mod Stat
+pub mod Status
