@@ -1,0 +1,27 @@
+; Closures hold the frames in which they were made.
+(define counter (lambda (n) (lambda () (set! n (+ n 1)))))
+(define one (counter 0))
+(define other (counter 10))
+(one)
+(one)
+(other)
+(one)
+one
+(define compose (lambda (f g) (lambda (x) (f (g x)))))
+((compose (lambda (x) (* x 2)) (lambda (x) (+ x 1))) 5)
+(define account (lambda (balance)
+  (lambda (amount) (if (< balance amount) 'refused (set! balance (- balance amount))))))
+(define mine (account 100))
+(mine 70)
+(mine 70)
+(mine 30)
+; Numbers as functions that call a function so often.
+(define two (lambda (f) (lambda (x) (f (f x)))))
+(define plus (lambda (m n) (lambda (f) (lambda (x) ((m f) ((n f) x))))))
+(define number (lambda (n) ((n (lambda (x) (+ x 1))) 0)))
+(number (plus two (plus two two)))
+; Each calls the other.
+(define even? (lambda (n) (if (= n 0) true (odd? (- n 1)))))
+(define odd? (lambda (n) (if (= n 0) '() (even? (- n 1)))))
+(even? 100)
+(odd? 100)

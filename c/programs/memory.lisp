@@ -1,0 +1,30 @@
+; What is freed: weak tables forget it, and its port is closed.
+(define table (weak-table))
+(define kept (cons 1 2))
+(weak-put! table 'kept kept)
+(weak-put! table 'lost (cons 3 4))
+(collect)
+(weak-get table 'kept)
+(weak-get table 'lost)
+(weak-get table 'never)
+(set! kept '())
+(collect)
+(weak-get table 'kept)
+; Nine ports are held by nothing, and one by a variable.
+(define port (open-port))
+(define use (lambda (n) (if (= n 0) 'used (begin (open-port) (use (- n 1))))))
+(use 9)
+(collect)
+(open-ports)
+port
+(set! port '())
+(collect)
+(open-ports)
+; A frame holds a closure that holds the frame, which no count shows to be dead.
+(define knot (lambda (self port) (begin (set! self (lambda () self)) 'tied)))
+(knot '() (open-port))
+(collect)
+(open-ports)
+; More than the heap has room for at once.
+(define waste (lambda (n) (if (= n 0) 'wasted (begin (cons n n) (waste (- n 1))))))
+(waste 3000)

@@ -1,0 +1,21 @@
+; Strings, whose bytes are in leaves.
+"a string"
+(string-append "ab" "cd")
+(string-length "hello")
+(string=? (string-append "a" "b") "ab")
+(= "ab" "ab")
+(define repeat (lambda (s n) (if (= n 0) "" (string-append s (repeat s (- n 1))))))
+(repeat "ab" 3)
+(string-length (repeat "abc" 100))
+(define join (lambda (between words)
+  (if (null? (cdr words)) (car words)
+    (string-append (car words) (string-append between (join between (cdr words)))))))
+(join ", " '("one" "two" "three"))
+(string-length (number->string -1200))
+(substring "abcdef" 2 5)
+(define reverse (lambda (s)
+  (if (= (string-length s) 0) ""
+    (string-append (reverse (substring s 1 (string-length s))) (substring s 0 1)))))
+(reverse "stressed")
+'("quoted" (1 "two"))
+(begin (print "printed") 'done)
