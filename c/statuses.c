@@ -122,6 +122,8 @@ static void stack(void)
     CHECK(is(mm_push(&heap, 1), MM_STACK_FULL, 0));
     CHECK(is(mm_dup(&heap, 0), MM_STACK_FULL, 0));
     CHECK(is(mm_new_traced(&heap, false, 0, 1), MM_STACK_FULL, 0));
+    CHECK(is(mm_new_counted(&heap, false, 0, 1), MM_STACK_FULL, 0));
+    CHECK(is(mm_new_leaf(&heap, false, 1), MM_STACK_FULL, 0));
     CHECK(is(mm_pop(&heap, 9), MM_NO_CELL, 0));
     CHECK(is(mm_pop(&heap, 8), MM_DONE, 0));
     CHECK(is(mm_pop(&heap, 0), MM_DONE, 0));
@@ -176,6 +178,7 @@ static void slots(void)
     for (int i = 0; i < 3; i++)
         CHECK(done(mm_push(&heap, 0)));
     CHECK(is(mm_get(&heap, 7, 0), MM_STACK_FULL, 0));
+    CHECK(is(mm_weak(&heap, 7), MM_STACK_FULL, 0));
     closes(&heap);
 }
 
@@ -261,6 +264,7 @@ static void full(void)
         made++;
     CHECK(made == 28 || made == 21);
     CHECK(is(mm_new_traced(&heap, false, 0, 250), MM_FULL, 0));
+    CHECK(is(mm_new_counted(&heap, false, 0, 250), MM_FULL, 0));
     CHECK(is(mm_weak(&heap, 0), MM_FULL, 0));
     CHECK(done(mm_pop(&heap, 1)));
     CHECK(done(mm_new_traced(&heap, false, 0, 250)));
