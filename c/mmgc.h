@@ -29,13 +29,14 @@
  * THREADS. One thread at a time uses a heap, and no call is made from a signal handler. Heaps share nothing: each
  * thread may have its own.
  *
- * POINTERS. Each pointer that is given to a call points to what its type says, and none is null. A handle begins as
- * MM_HEAP_INIT, is never copied while it is open, and its fields are never written. Nothing checks these.
+ * POINTERS. Each pointer that is given to a call points to what its type says, none is null, and two of one call point
+ * to different things. A handle begins as MM_HEAP_INIT, is never copied while it is open, and its fields are never
+ * written. Nothing checks these.
  *
  * LIMITS. A region has at most 4,096 pages of 4,096 bytes, an object 1,048,575 slots, a heap 1,024 areas and 65,536
  * stack cells. A count is exact up to 254; at 255 an object stays until a collection or a cycle finds it unreached.
- * All memory is taken by `mm_open`, but for records of finalizers, 16 bytes each, which `mm_final` gives back once it
- * has answered MM_NO_FINAL.
+ * All memory is taken by `mm_open`, but for records of finalizers, 16 bytes each, whose room is used again once
+ * `mm_final` has answered MM_NO_FINAL.
  */
 #ifndef MMGC_H
 #define MMGC_H

@@ -1,4 +1,4 @@
-/* statuses.c: every status of every export, and what each leaves. */
+/* statuses.c: every status of every export, but those of a host without memory, and what each leaves. */
 #include "mmgc.h"
 #include <stdio.h>
 #include <stdlib.h>
@@ -262,7 +262,7 @@ static void full(void)
     opens(&heap, (mm_settings){2, 8, 16, 64, 64});
     while (done(mm_new_traced(&heap, false, 0, 250)))
         made++;
-    CHECK(made == 28 || made == 21);
+    CHECK(made == 28);
     CHECK(is(mm_new_traced(&heap, false, 0, 250), MM_FULL, 0));
     CHECK(is(mm_new_counted(&heap, false, 0, 250), MM_FULL, 0));
     CHECK(is(mm_weak(&heap, 0), MM_FULL, 0));

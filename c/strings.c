@@ -1,5 +1,5 @@
-/* strings.c: strings COUNT makes strings of 40 bytes in leaves, keeps the last 100 of them in an area, and compares that
- * with malloc and free. */
+/* strings.c: strings COUNT makes strings of 40 bytes in leaves, keeps the last 100 of them in an area, and compares
+ * that with malloc and free. */
 #include "clock.h"
 #include "mmgc.h"
 
