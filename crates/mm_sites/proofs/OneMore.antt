@@ -119,8 +119,16 @@ sites_of_lines-passed lines line says =
     sites_of_lines-without lines line
     (ap (λ (r : Result (Option Command) LineFault). site_before r (site_after lines) []) says)
 
-pub sites_of_lines-fault : (lines : List (List ℕ)) (line : List ℕ) (fault : LineFault) → line_reading line ≡ Err fault
-    → sites_of_lines (lines ++ line ∷ []) ≡ sites_of_lines lines
-sites_of_lines-fault lines line fault says =
-    sites_of_lines-without lines line
-    (ap (λ (r : Result (Option Command) LineFault). site_before r (site_after lines) []) says)
+-- what stands from the first fault on has none
+sites_behind-stops : (earlier lines later : List (List ℕ)) (line : List ℕ) (fault : LineFault)
+    → line_reading line ≡ Err fault → sites_behind earlier (lines ++ line ∷ later) ≡ sites_behind earlier lines
+sites_behind-stops earlier [] later line fault says =
+    ap (λ (r : Result (Option Command) LineFault).
+    site_before r (site_after earlier) (sites_behind (earlier ++ line ∷ []) later)) says
+sites_behind-stops earlier (l ∷ lines) later line fault says =
+    ap (site_before (line_reading l) (site_after earlier))
+    (sites_behind-stops (earlier ++ l ∷ []) lines later line fault says)
+
+pub sites_of_lines-fault : (lines later : List (List ℕ)) (line : List ℕ) (fault : LineFault)
+    → line_reading line ≡ Err fault → sites_of_lines (lines ++ line ∷ later) ≡ sites_of_lines lines
+sites_of_lines-fault lines later line fault says = sites_behind-stops [] lines later line fault says

@@ -52,8 +52,8 @@ pub fn sites_of_lines_come_one_after_another()
         → sites_of_lines (lines ++ line ∷ []) ≡ sites_of_lines lines ++ site_after lines ∷ [] }
     ensures passed_over { (lines : List (List ℕ)) (line : List ℕ) → line_reading line ≡ Ok None
         → sites_of_lines (lines ++ line ∷ []) ≡ sites_of_lines lines }
-    ensures fault { (lines : List (List ℕ)) (line : List ℕ) (fault : LineFault) → line_reading line ≡ Err fault
-        → sites_of_lines (lines ++ line ∷ []) ≡ sites_of_lines lines }
+    ensures fault { (lines later : List (List ℕ)) (line : List ℕ) (fault : LineFault) → line_reading line ≡ Err fault
+        → sites_of_lines (lines ++ line ∷ later) ≡ sites_of_lines lines }
     ensures behind_a_fault { (n : ℕ) (lines : List (List ℕ)) (line : List ℕ) (fault : FaultAt) →
         (reading_from line_reading n lines).fault ≡ Some fault
         → sites_of_lines (lines ++ line ∷ []) ≡ sites_of_lines lines }

@@ -19,7 +19,7 @@ pub use laws::{
 };
 pub use line::site_named;
 pub use site_total::SiteTotal;
-pub use sites::Sites;
+pub use sites::{SITES, Sites};
 pub use text::site_text;
 
 /// Want of memory, the one refusal of this crate.

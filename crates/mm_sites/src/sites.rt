@@ -11,8 +11,8 @@ use crate::site_total::SiteTotal;
 use std::alloc::Global;
 use std::marker::Model;
 
-// How many sites there are.
-pub(crate) const SITES: u32 = 4096;
+/// How many sites there are.
+pub const SITES: u32 = 4096;
 
 // Objects begin at its multiples.
 const GRAIN: u32 = 16;
