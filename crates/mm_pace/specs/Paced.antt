@@ -62,6 +62,12 @@ abbrev pub AreCommandsOf : Option ℕ → Settings → List Command → List Lin
 AreCommandsOf None settings trace log commands = commands ≡ trace
 AreCommandsOf (Some rate) settings trace log commands = IsPacedList rate settings trace log commands
 
+-- The turns of the trace's own commands among those that were carried out: all, or at a rate those that no rule added.
+abbrev pub AreOwn : (rate : Option ℕ) (settings : Settings) (trace : List Command) (log : List Line)
+    (commands : List Command) → AreCommandsOf rate settings trace log commands → List Turn → Type 0
+AreOwn None settings trace log commands are own = AreTurns settings commands log own
+AreOwn (Some rate) settings trace log commands list own = own ≡ list.own
+
 -- what holds of each turn of the trace's own commands and of all turns before it
 abbrev pub EachOwn : List Stretch → (List Turn → Turn → Type 0) → Type 0
 EachOwn stretches P =
