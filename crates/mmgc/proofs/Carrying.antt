@@ -21,21 +21,22 @@ use Rattle.mm_gc.specs.Gc.{Gc, view_of_gc, totals_in}
 use Rattle.mm_gc.specs.Rows.{IsStepOf, Executes}
 use Rattle.mm_sweep.specs.Told.{Told, line_told}
 use Rattle.mmgc.specs.Writing.{Kept}
-use Rattle.mmgc.specs.Carrying.{CarriedOut, CarriesOut, Grew}
+use Rattle.mmgc.specs.Carrying.{CarriedOut, CarriesOut, Grew, group_of}
 use Rattle.mmgc.proofs.StepNumbers.{step_counts_one}
 
 -- one log after another
 pub spelling_of-append : (xs ys : List Line) → spelling_of (xs ++ ys) ≡ spelling_of xs ++ spelling_of ys
 spelling_of-append xs ys = flat_map-append spelling xs ys
 
--- a command was executed, and its reply was written
-pub carries_out : {old new : Gc} {command : Command} {reply : Reply} {before between after : Kept}
+-- a command was executed, and its reply was written behind its other lines
+pub carries_out_lines : {old new : Gc} {command : Command} {reply : Reply} {before between after : Kept}
     {heard : List Told → Type 0} →
-    Executes old new command reply heard →
+    (e : Executes old new command reply heard) →
     ((told : List Told) → heard told → Grew before between (spelling_of (map line_told told))) →
     Grew between after (spelling (lines.Reply reply)) →
     (done : CarriesOut old new command before after) × (done.reply ≡ reply)
-carries_out {reply = reply} {before = before} {between = between} {after = after} e wrote w =
+    × (group_of done ≡ e.before_reply ++ lines.Reply reply ∷ [])
+carries_out_lines {reply = reply} {before = before} {between = between} {after = after} e wrote w =
     let told = subst (λ (log : List Line). Grew before between (spelling_of log)) e.told.lines_are
     (wrote e.told.told e.told.was) in
     let text : spelling_of e.before_reply ++ spelling (lines.Reply reply) ≡ spelling_of
@@ -50,7 +51,16 @@ carries_out {reply = reply} {before = before} {between = between} {after = after
             (spelling (lines.Reply reply)) told w);
       },
       refl,
+      refl,
     )
+
+pub carries_out : {old new : Gc} {command : Command} {reply : Reply} {before between after : Kept}
+    {heard : List Told → Type 0} →
+    Executes old new command reply heard →
+    ((told : List Told) → heard told → Grew before between (spelling_of (map line_told told))) →
+    Grew between after (spelling (lines.Reply reply)) →
+    (done : CarriesOut old new command before after) × (done.reply ≡ reply)
+carries_out e wrote w = let done = carries_out_lines e wrote w in (done.0, done.1)
 
 -- a run goes on by one step
 run-push : (Step : Steps) (a : State) (commands : List Command) (log : List Line) (b : State) (command : Command)

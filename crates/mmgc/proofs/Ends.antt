@@ -7,7 +7,7 @@ use Rattle.mm_model.specs.declared.line.Line.{Line}
 use Rattle.mm_model.specs.declared.line.Line.TheVariants as lines
 use Rattle.mm_model.specs.declared.line.Totals.{Totals}
 use Rattle.mm_model.specs.State.{State, totals_of}
-use Rattle.mm_model.specs.Views.View.{Shows}
+use Rattle.mm_model.specs.Views.View.{Shows, view_of}
 use Rattle.std.proofs.lemmas.List.{length_push}
 use Rattle.mm_model.specs.Logs.Journal.{Writes}
 use Rattle.mm_model.specs.Logs.Spelling.{spelling, spelling_of}
@@ -19,18 +19,27 @@ use Rattle.mm_io.proofs.ToldLemmas.{Gives-append}
 use Rattle.mm_gc.specs.Gc.{Gc, totals_in, view_of_gc}
 use Rattle.mmgc.specs.Writing.{Kept}
 use Rattle.mmgc.specs.declared.extras.Extras.{Extras}
-use Rattle.mmgc.specs.Added.{IsAddedText, IsFollowed, with_total}
-use Rattle.mmgc.specs.Appending.{Appended}
+use Rattle.mmgc.specs.Added.{IsAddedText, IsAnswer, IsFollowed, SitedState, site_lines, with_total}
+use Rattle.mmgc.specs.Appending.{Appended, asked_of, word_of}
+use Rattle.mmgc.specs.declared.appendix.Appendix.{Appendix}
+use Rattle.mmgc.specs.declared.site_book.SiteBook.{SiteBook}
+use Rattle.std.specs.Prelude.{is_some}
 use Rattle.mmgc.specs.Writing.{kept_bytes, Grows}
 use Rattle.mmgc.specs.Carrying.{Grew}
 use Rattle.mmgc.specs.Replaying.{reading_of, most_bytes, GrewSince, Start, task_since, Moment, Stopped, Progress}
 use Rattle.mmgc.specs.Run.{Input, Output, Reach, lines_in, NothingLeft, HasCause, IsFaultOf, IsLogOf, IsPassedOn}
-use Rattle.mmgc.specs.Run.{IsWritten}
+use Rattle.mmgc.specs.Run.{IsWritten, sited_by}
 use Rattle.mmgc.specs.Run.{IsWithinTrace, Replayed, Ended, Logged}
 use Rattle.mmgc.specs.Generating.{EndsWritten}
 use Rattle.mmgc.specs.declared.replay.End.{End}
 use Rattle.mmgc.specs.declared.replay.End.TheVariants.{Whole, Fault, ReadFailed, WriteFailed, TooLong}
+use Rattle.mm_pace.specs.Paced.{commands_in}
+use Rattle.mm_why.specs.Path.{shown_in}
+use Rattle.mmgc.specs.Booking.{booked_text}
+use Rattle.mmgc.specs.Pacing.{Driver}
+use Rattle.mmgc.proofs.Booking.{booked_text-is, state_after-steps, TotalsAreRight}
 use Rattle.mmgc.proofs.Carrying.{spelling_of-append}
+use Rattle.mmgc.proofs.Pacing.Carried.{has_commands, has_log}
 use Rattle.mmgc.proofs.Replays.{progress-stopped}
 use Rattle.mmgc.proofs.WritingLemmas.{all_taken, broken_front}
 
@@ -43,7 +52,7 @@ all_within bytes at_end fits = record { fits = fits; one_read = omega arith; non
 module _ {start : Start} {bytes : List ℕ} {input : Input} {now : Moment} (fits : length bytes ≤ most_bytes)
     (given : Gives input.left input.left_after []) (nothing_left : NothingLeft input.left_after)
     (clean : input.faults_after ≡ input.faults) where
-  pub ended-whole : Stopped start (lines_of bytes) None now.driver.heap now.kept → Ended Whole start bytes input now
+  pub ended-whole : Stopped start (lines_of bytes) None now.driver now.kept → Ended Whole start bytes input now
   ended-whole s =
       record {
         reach = record { read = bytes; over = []; at_end = true };
@@ -59,7 +68,7 @@ module _ {start : Start} {bytes : List ℕ} {input : Input} {now : Moment} (fits
         stopped = s;
       }
 
-  pub ended-last_fault : (fault : FaultAt) → Stopped start (lines_of bytes) (Some fault) now.driver.heap now.kept →
+  pub ended-last_fault : (fault : FaultAt) → Stopped start (lines_of bytes) (Some fault) now.driver now.kept →
       Ended (Fault fault.line fault.fault) start bytes input now
   ended-last_fault fault s =
       record {
@@ -80,7 +89,7 @@ module _ {start : Start} {bytes : List ℕ} {input : Input} {now : Moment} (fits
 module _ {start : Start} {bytes : List ℕ} {input : Input} {now : Moment} (piece : List ℕ)
     (given : Gives input.left input.left_after piece) (clean : input.faults_after ≡ input.faults) where
   pub ended-fault : length (bytes ++ piece) ≤ most_bytes → (fault : FaultAt) →
-      Stopped start (complete_lines (bytes ++ piece)) (Some fault) now.driver.heap now.kept →
+      Stopped start (complete_lines (bytes ++ piece)) (Some fault) now.driver now.kept →
       Ended (Fault fault.line fault.fault) start bytes input now
   ended-fault fits fault s =
       record {
@@ -190,58 +199,83 @@ ended-since {end} {bytes = bytes} {input = input} left faults given e ended =
       stopped = ended.stopped;
     }
 
+-- what was asked for is still asked for, where sites are kept as before
+pub asked_on : (rate : Option ℕ) (found next : Option SiteBook) (appendix : Appendix) → is_some next ≡ is_some found
+    → asked_of rate found appendix ≡ asked_of rate next appendix
+asked_on rate found next appendix kept =
+    ap (λ sites. record { why = word_of appendix; rate = rate; sites = sites }) (sym kept)
+
 -- one line more makes another log
 longer : (xs : List Line) (x : Line) → xs ++ x ∷ [] ≡ xs → ⊥
 longer xs x e = let more = length_push xs x in let same = ap length e in omega (arith, more, same)
 
 -- the added text stands behind the total line, and nothing behind any other log
-followed-whole : (extras : Extras) (groups : List Line) (state : State) (added : List ℕ) →
-    IsAddedText extras state added → IsFollowed extras groups state (with_total groups state) added
-followed-whole extras groups state added is =
+followed-whole : (extras : Extras) (groups : List Line) (left : SitedState) (added : List ℕ) →
+    IsAddedText extras left added → IsFollowed extras groups left (with_total groups left.state) added
+followed-whole extras groups left added is =
     record {
       behind_total = λ e. is;
-      else_none = λ e. absurd (longer groups (lines.Total (totals_of state)) e);
+      else_none = λ e. absurd (longer groups (lines.Total (totals_of left.state)) e);
     }
 
-followed-other : (extras : Extras) (groups : List Line) (state : State) →
-    IsFollowed extras groups state groups []
-followed-other extras groups state =
+followed-other : (extras : Extras) (groups : List Line) (left : SitedState) →
+    IsFollowed extras groups left groups []
+followed-other extras groups left =
     record {
-      behind_total = λ e. absurd (longer groups (lines.Total (totals_of state)) (sym e));
+      behind_total = λ e. absurd (longer groups (lines.Total (totals_of left.state)) (sym e));
       else_none = λ e. refl;
     }
 
 -- the total line makes a legal log whole
-pub logged-whole : {start : Start} (reach : Reach) {heap : Gc} {kept between after : Kept} (totals : Totals) →
-    Stopped start (lines_in reach) None heap kept → totals ≡ totals_in heap →
-    Grew kept between (spelling (lines.Total totals)) →
-    ((a : State) → Shows (view_of_gc heap) a → Appended (IsAddedText start.extras a) between after) →
-    Logged Whole start reach heap after
-logged-whole {start} reach {between = between} {after = after} totals s t w adds =
+pub logged-whole : TotalsAreRight → {start : Start} (reach : Reach) {driver : Driver} {kept between next after : Kept}
+    (totals : Totals) →
+    Stopped start (lines_in reach) None driver kept → totals ≡ totals_in driver.heap →
+    Grew kept between (spelling (lines.Total totals)) → Grew between next (booked_text driver.book) →
+    ((a : State) → Shows (view_of_gc driver.heap) a →
+    Appended (IsAnswer start.extras.why (shown_in (view_of a))) next after) →
+    Logged Whole start reach driver.heap after
+logged-whole right {start} reach {driver} {between = between} {next = next} {after = after} totals s t w booked adds =
     let line = lines.Total totals in
-    let state = s.carried.state in
-    let added = adds state s.carried.shows in
+    let c = s.carried in
+    let out = has_log c in
+    let are = has_commands c in
+    let state = c.carried.state in
+    let left = sited_by state c.own reach in
+    let answer = adds state c.carried.shows in
+    let sites : booked_text driver.book ≡ site_lines start.extras.sites left =
+    booked_text-is right start.settings c.turns left s.site start.extras.sites driver.book c.carried.good
+    (state_after-steps start.settings c.turns state c.steps) c.asked c.booked in
+    let added = booked_text driver.book ++ answer.text in
+    let is_added : IsAddedText start.extras left added =
+    record {
+      answer = answer.text;
+      answers = answer.is;
+      is = ap (λ text. text ++ answer.text) sites;
+    } in
     let total : s.log ++ line ∷ [] ≡ with_total s.log state =
-    ap (λ (x : Totals). s.log ++ lines.Total x ∷ []) (t ∙ s.carried.shows.totals) in
+    ap (λ (x : Totals). s.log ++ lines.Total x ∷ []) (t ∙ c.carried.shows.totals) in
     let text : spelling_of s.log ++ spelling line ≡ spelling_of (s.log ++ line ∷ []) =
     ap (λ x. spelling_of s.log ++ x) (sym (append-nil (spelling line)))
     ∙ sym (spelling_of-append s.log (line ∷ [])) in
     record {
-      commands = s.commands;
+      commands = commands_in c.turns;
       groups = s.log;
-      carried = s.listed;
+      carried = are.are;
+      own = c.own;
+      own_are = are.own_are;
       state = state;
-      legal = s.carried.legal;
-      good = s.carried.good;
-      shows = s.carried.shows;
+      legal = out.legal;
+      good = c.carried.good;
+      shows = c.carried.shows;
       log = s.log ++ line ∷ [];
       log_is = total;
-      added = added.text;
-      follows = subst (λ log. IsFollowed start.extras s.log state log added.text) (sym total)
-          (followed-whole start.extras s.log state added.text added.is);
-      written = writes-append (spelling_of (s.log ++ line ∷ [])) added.text
+      added = added;
+      follows = subst (λ log. IsFollowed start.extras s.log left log added) (sym total)
+          (followed-whole start.extras s.log left added is_added);
+      written = writes-append (spelling_of (s.log ++ line ∷ [])) added
           (subst (GrewSince start between) text
-          (writes-append (spelling_of s.log) (spelling line) s.written w)) added.written;
+          (writes-append (spelling_of s.log) (spelling line) s.written w))
+          (writes-append (booked_text driver.book) answer.text booked answer.written);
     }
 
 -- the lines of the commands are the log of every other end
@@ -253,22 +287,28 @@ log_is-other ReadFailed reach groups state other = refl
 log_is-other WriteFailed reach groups state other = inl refl
 log_is-other TooLong reach groups state other = refl
 
-pub logged-other : (end : End) {start : Start} (reach : Reach) {fault : Option FaultAt} {heap : Gc} {kept : Kept} →
-    (end ≡ Whole → ⊥) → Stopped start (lines_in reach) fault heap kept →
-    Logged end start reach heap kept
+pub logged-other : (end : End) {start : Start} (reach : Reach) {fault : Option FaultAt} {driver : Driver}
+    {kept : Kept} →
+    (end ≡ Whole → ⊥) → Stopped start (lines_in reach) fault driver kept →
+    Logged end start reach driver.heap kept
 logged-other end {start} reach {kept = kept} other s =
+    let c = s.carried in
+    let out = has_log c in
+    let are = has_commands c in
     record {
-      commands = s.commands;
+      commands = commands_in c.turns;
       groups = s.log;
-      carried = s.listed;
-      state = s.carried.state;
-      legal = s.carried.legal;
-      good = s.carried.good;
-      shows = s.carried.shows;
+      carried = are.are;
+      own = c.own;
+      own_are = are.own_are;
+      state = c.carried.state;
+      legal = out.legal;
+      good = c.carried.good;
+      shows = c.carried.shows;
       log = s.log;
-      log_is = log_is-other end reach s.log s.carried.state other;
+      log_is = log_is-other end reach s.log c.carried.state other;
       added = [];
-      follows = followed-other start.extras s.log s.carried.state;
+      follows = followed-other start.extras s.log (sited_by c.carried.state c.own reach);
       written = subst (GrewSince start kept) (sym (append-nil (spelling_of s.log))) s.written;
     }
 
@@ -280,6 +320,8 @@ logged-written_out {start = start} {after = after} l w =
       commands = l.commands;
       groups = l.groups;
       carried = l.carried;
+      own = l.own;
+      own_are = l.own_are;
       state = l.state;
       legal = l.legal;
       good = l.good;
@@ -353,6 +395,8 @@ module _ {end : End} {start : Start} {input : Input} {now : Moment} (output : Ou
         commands = l.commands;
         groups = l.groups;
         carried = l.carried;
+        own = l.own;
+        own_are = l.own_are;
         state = l.state;
         legal = l.legal;
         good = l.good;
@@ -377,6 +421,8 @@ module _ {end : End} {start : Start} {input : Input} {now : Moment} (output : Ou
         commands = l.commands;
         groups = l.groups;
         carried = l.carried;
+        own = l.own;
+        own_are = l.own_are;
         state = l.state;
         legal = l.legal;
         good = l.good;

@@ -1,4 +1,5 @@
 pub mod AddedLines
+pub mod Booking
 pub mod Carrying
 pub mod Completing
 pub mod Ends

@@ -8,8 +8,8 @@ use Rattle.mmgc.specs.Words.{Choice, Values, mmgc_app}
 -- values that are the same one by one
 pub values_same : {v w : Values} → v.pages ≡ w.pages → v.max ≡ w.max → v.zct ≡ w.zct → v.queue ≡ w.queue →
     v.stack ≡ w.stack → v.generated ≡ w.generated → v.count ≡ w.count → v.why ≡ w.why →
-    v.pace ≡ w.pace → v.file ≡ w.file → v ≡ w
-values_same p m z q s g n y r f =
+    v.pace ≡ w.pace → v.sites ≡ w.sites → v.file ≡ w.file → v ≡ w
+values_same p m z q s g n y r t f =
     λ i. record {
       pages = p i;
       max = m i;
@@ -20,6 +20,7 @@ values_same p m z q s g n y r f =
       count = n i;
       why = y i;
       pace = r i;
+      sites = t i;
       file = f i;
     }
 

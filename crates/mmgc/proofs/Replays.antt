@@ -6,34 +6,38 @@ use mathlib.Core.Path.{subst₃}
 use Rattle.std.proofs.lemmas.List.{length_push, length-take-le, take-append-drop, take_rest}
 use Rattle.std.proofs.lemmas.List.Elements.{All-append}
 use Rattle.std.specs.List.{flat_map}
-use Rattle.std.specs.Prelude.{◌-◌, OnOk, IfErr}
+use Rattle.std.specs.Prelude.{◌-◌, OnOk, IfErr, is_some, option_map, unwrap_or}
 use Rattle.mm_model.specs.declared.command.Command.{Command}
 use Rattle.mm_model.specs.declared.refusal.LineFault.{LineFault}
 use Rattle.mm_model.specs.declared.refusal.LineFault.TheVariants.{LineTooLong}
 use Rattle.mm_model.specs.After.{after}
 use Rattle.mm_model.specs.Logs.Spelling.{spelling_of}
 use Rattle.mm_model.specs.Logs.Trace.{line_reading, complete_lines, lines_of, line_if}
-use Rattle.mm_model.specs.Logs.Trace.{Reading, FaultAt}
+use Rattle.mm_model.specs.Logs.Trace.{reading_from, Reading, FaultAt}
 use Rattle.mm_model.proofs.Text.Journals.{writes-none, writes-append}
 use Rattle.mm_model.proofs.Text.Traces.{Cuts, Cuts-none, Cuts-newline, with_newline, complete_lines-cuts}
+use Rattle.mm_model.proofs.Text.Traces.{lines_of-cuts}
 use Rattle.mm_model.proofs.Text.Traces.{line_reading-too_long, reading_from-stops}
-use Rattle.mm_model.proofs.Text.Faults.{fault_at_end, reading-end-none, reading-end-nothing, reading-end-command}
-use Rattle.mm_model.proofs.Text.Faults.{complete_lines-held, fault_at_newline, reading-next-nothing}
+use Rattle.mm_model.proofs.Text.Faults.{complete_lines-after, complete_lines-held, complete_lines-newline}
+use Rattle.mm_model.proofs.Text.Faults.{fault_at_end, fault_at_newline, reading-next-nothing}
 use Rattle.mm_model.proofs.Text.Faults.{reading-next-command, lines-fewer, commands-fewer}
 use Rattle.mm_trace.specs.Lines.{IsWithinLine}
 use Rattle.mm_gc.specs.Gc.{Gc}
 use Rattle.mmgc.specs.Writing.{Kept}
 use Rattle.mm_model.specs.declared.settings.Settings.{Settings}
 use Rattle.mmgc.specs.declared.extras.Extras.{Extras}
-use Rattle.mm_pace.specs.Paced.{AreCommandsOf}
+use Rattle.mm_sites.specs.Births.{birth_sites}
+use Rattle.mm_sites.specs.Lines.{site_after, site_line, sites_of_lines}
 use Rattle.mmgc.specs.Carrying.{Grew}
-use Rattle.mmgc.specs.declared.pacer.Pacer.{Pacer}
-use Rattle.mmgc.specs.Logging.{driver_of}
-use Rattle.mmgc.specs.Pacing.{Advances, Carried, Driver, IsFresh, IsReady}
+use Rattle.mmgc.specs.declared.executor.Executor.{Executor}
+use Rattle.mmgc.specs.declared.executor.Bookkeeping.{Bookkeeping}
+use Rattle.mmgc.specs.Logging.{driver_of, driver_with, noting_bookkeeping, noting_executor}
+use Rattle.mmgc.specs.Pacing.{Advances, Carried, Driver, IsReady, SitedTrace}
 use Rattle.mmgc.specs.Replaying.{reading_of, Stopped, Went, Progress, DoesLine, GoesOn, IsUnderWay}
-use Rattle.mmgc.specs.Replaying.{most_bytes, GrewSince, Start, start_with, Moment, IsNew}
+use Rattle.mmgc.specs.Replaying.{most_bytes, noting, sited_of, GrewSince, Start, start_with, Moment, IsNewDriver}
+use Rattle.mmgc.proofs.Booking.{asked-noted, booked-noted, NothingIsEntered}
 use Rattle.mmgc.proofs.Carrying.{spelling_of-append}
-use Rattle.mmgc.proofs.Pacing.Carried.{AreQuadrupled, carried-none, few_commands, has_commands}
+use Rattle.mmgc.proofs.Pacing.Carried.{AreQuadrupled, carried-none, few_commands}
 
 -- the bytes so far are cut into the lines that were carried out and what is held
 pub cuts : {start : Start} {bytes : List ℕ} {now : Moment} (p : Progress start bytes now) →
@@ -51,12 +55,11 @@ room_of : AreQuadrupled → {start : Start} {bytes : List ℕ} {now : Moment} �
 room_of most {start} {bytes} {now} p fits =
     let few = lines-fewer bytes p.done now.held (cuts p) in
     let fewer = commands-fewer line_reading 1 p.done in
-    let counted = few_commands most start.extras.rate start.settings (reading_of p.done).commands p.went.log now.driver
-    p.went.carried in
+    let counted = few_commands most p.went.carried in
     record {
-      rate = start.extras.rate;
+      extras = start.extras;
       settings = start.settings;
-      trace = (reading_of p.done).commands;
+      trace = sited_of p.done;
       log = p.went.log;
       carried = p.went.carried;
       room = omega (arith, few, fewer, counted, fits);
@@ -71,33 +74,79 @@ has_room most {now} {more} way =
       lines = omega (arith, few, p.lines_are, way.room);
     }
 
+-- how the sites of lines go on, and where they end
+pub record SitesGoOn : Type 0 where
+  pub command : (n : ℕ) (lines : List (List ℕ)) (line : List ℕ) (command : Command) →
+      (reading_from line_reading n lines).fault ≡ None → line_reading line ≡ Ok (Some command) →
+      sites_of_lines (lines ++ line ∷ []) ≡ sites_of_lines lines ++ site_after lines ∷ []
+  pub passed_over : (lines : List (List ℕ)) (line : List ℕ) → line_reading line ≡ Ok None →
+      sites_of_lines (lines ++ line ∷ []) ≡ sites_of_lines lines
+  pub fault : (lines later : List (List ℕ)) (line : List ℕ) (fault : LineFault) → line_reading line ≡ Err fault →
+      sites_of_lines (lines ++ line ∷ later) ≡ sites_of_lines lines
+  pub site : (lines : List (List ℕ)) (line : List ℕ) →
+      site_after (lines ++ line ∷ []) ≡ unwrap_or (site_line line) (site_after lines)
+  -- a line that names a site is passed over
+  pub named : (line : List ℕ) (site : ℕ) → site_line line ≡ Some site → line_reading line ≡ Ok None
+
 -- the same log for the same reading
 went-stopped : {start : Start} {lines more : List (List ℕ)} {fault : Option FaultAt} {driver : Driver}
     {kept : Kept} →
     Went start lines driver kept →
     reading_of more ≡ record { commands = (reading_of lines).commands; fault = fault } →
-    Stopped start more fault driver.heap kept
-went-stopped {start} {lines} {driver = driver} w e =
-    let all = has_commands start.extras.rate start.settings (reading_of lines).commands w.log driver w.carried in
+    sites_of_lines more ≡ sites_of_lines lines →
+    Stopped start more fault driver kept
+went-stopped {start} {lines} {driver = driver} w e same =
     record {
       fault_is = ap (λ (r : Reading). r.fault) e;
       log = w.log;
-      commands = all.commands;
-      listed = subst (λ trace. AreCommandsOf start.extras.rate start.settings trace w.log all.commands)
-          (sym (ap (λ (r : Reading). r.commands) e)) all.are;
-      carried = all.carried;
+      site = site_after lines;
+      carried = subst (λ (t : SitedTrace). Carried start.extras start.settings t w.log driver)
+          (λ i. record {
+            commands = (sym (ap (λ (r : Reading). r.commands) e)) i;
+            sites = (sym same) i;
+            site = site_after lines;
+          }) w.carried;
       written = w.written;
     }
 
-went-reading : {start : Start} {lines more : List (List ℕ)} {driver : Driver} {kept : Kept} →
-    Went start lines driver kept →
-    reading_of more ≡ record { commands = (reading_of lines).commands; fault = None } → Went start more driver kept
-went-reading {start} {driver = driver} w e =
+-- lines without a fault, at the end
+went-whole : {start : Start} {lines : List (List ℕ)} {driver : Driver} {kept : Kept} → Went start lines driver kept →
+    Stopped start lines None driver kept
+went-whole {lines = lines} w =
+    went-stopped w (ap (λ fault. record { commands = (reading_of lines).commands; fault = fault }) w.clean) refl
+
+-- a line that is passed over
+went-passed : SitesGoOn → {start : Start} {lines : List (List ℕ)} {driver : Driver} {kept : Kept} (line : List ℕ) →
+    Went start lines driver kept → line_reading line ≡ Ok None →
+    Went start (lines ++ line ∷ []) (noting line driver) kept
+went-passed sites {start} {lines} {driver} line w says =
+    let e = reading-next-nothing line_reading lines line w.clean says in
+    let c = w.carried in
+    let here : Carried start.extras start.settings
+    (record (sited_of lines) { site = unwrap_or (site_line line) (site_after lines) }) w.log (noting line driver) =
+    record {
+      turns = c.turns;
+      own = c.own;
+      listed = c.listed;
+      carried = c.carried;
+      steps = c.steps;
+      are = c.are;
+      log_is = c.log_is;
+      pacing = c.pacing;
+      each_command = c.each_command;
+      asked = asked-noted line driver.book ∙ c.asked;
+      booked = booked-noted start.settings c.turns (birth_sites c.own (sites_of_lines lines)) (site_after lines) line
+          driver.book c.booked;
+    } in
     record {
       clean = ap (λ (r : Reading). r.fault) e;
       log = w.log;
-      carried = subst (λ trace. Carried start.extras.rate start.settings trace w.log driver)
-          (sym (ap (λ (r : Reading). r.commands) e)) w.carried;
+      carried = subst (λ (t : SitedTrace). Carried start.extras start.settings t w.log (noting line driver))
+          (λ i. record {
+            commands = (sym (ap (λ (r : Reading). r.commands) e)) i;
+            sites = (sym (sites.passed_over lines line says)) i;
+            site = (sym (sites.site lines line)) i;
+          }) here;
       written = w.written;
     }
 
@@ -138,37 +187,43 @@ progress-more {bytes = bytes} {now = now} more p clean room =
     }
 
 -- nothing was done with a line that is too long
-pub does-too_long : {Unchanged : Type 0} (carried : Command → Type 0) (line : List ℕ) → 1024 < length line →
-    Unchanged → DoesLine (line_reading line) (Err LineTooLong) Unchanged carried
-does-too_long {Unchanged} carried line long unchanged =
-    subst (λ r. DoesLine r (Err LineTooLong) Unchanged carried) (sym (line_reading-too_long line long))
+pub does-too_long : {Unchanged : Type 0} (Passed : Type 0) (carried : Command → Type 0) (line : List ℕ) → 1024 < length line →
+    Unchanged → DoesLine (line_reading line) (Err LineTooLong) Unchanged Passed carried
+does-too_long {Unchanged} Passed carried line long unchanged =
+    subst (λ r. DoesLine r (Err LineTooLong) Unchanged Passed carried) (sym (line_reading-too_long line long))
     (refl, unchanged)
 
-stopped-too_long : {start : Start} {bytes : List ℕ} {now : Moment} (more : List ℕ) →
+stopped-too_long : SitesGoOn → {start : Start} {bytes : List ℕ} {now : Moment} (more : List ℕ) →
     Progress start bytes now → IsWithinLine more → 1024 < length now.held + length more →
     Stopped start (complete_lines (bytes ++ more))
-    (Some (record { line = now.lines + 1; fault = LineTooLong })) now.driver.heap now.kept
-stopped-too_long {bytes = bytes} {now = now} more p clean long =
+    (Some (record { line = now.lines + 1; fault = LineTooLong })) now.driver now.kept
+stopped-too_long sites {bytes = bytes} {now = now} more p clean long =
     let line = now.held ++ more in
     let longer : 1024 < length line = omega (arith, length-append now.held more, long) in
     let turned : 1 + length p.done ≡ length p.done + 1 = omega arith in
-    went-stopped p.went (ap reading_of
-    (complete_lines-cuts (bytes ++ more) p.done line (Cuts-more bytes p.done now.held more (cuts p) clean)
-    ∙ ap (λ b. p.done ++ line_if b line) (lt-ltb 1024 (length line) longer))
+    let cut : complete_lines (bytes ++ more) ≡ p.done ++ line ∷ [] =
+    complete_lines-cuts (bytes ++ more) p.done line (Cuts-more bytes p.done now.held more (cuts p) clean)
+    ∙ ap (λ b. p.done ++ line_if b line) (lt-ltb 1024 (length line) longer) in
+    went-stopped p.went (ap reading_of cut
     ∙ reading_from-stops line_reading 1 p.done line [] LineTooLong p.went.clean
     (line_reading-too_long line longer)
     ∙ ap (λ n. faulty (reading_of p.done).commands n LineTooLong) turned
     ∙ fault_next LineTooLong p)
+    (ap sites_of_lines cut ∙ sites.fault p.done [] line LineTooLong (line_reading-too_long line longer))
 
 -- a whole line with a fault
-stopped-line : {start : Start} {bytes : List ℕ} {now : Moment} (more : List ℕ) (fault : LineFault) (rest : List ℕ) →
+stopped-line : SitesGoOn → {start : Start} {bytes : List ℕ} {now : Moment} (more : List ℕ) (fault : LineFault) (rest : List ℕ) →
     Progress start bytes now → IsWithinLine more → line_reading (now.held ++ more) ≡ Err fault →
     Stopped start (complete_lines ((bytes ++ more) ++ 10 ∷ rest))
-    (Some (record { line = now.lines + 1; fault = fault })) now.driver.heap now.kept
-stopped-line {bytes = bytes} {now = now} more fault rest p clean e =
-    went-stopped p.went (fault_at_newline line_reading (bytes ++ more) p.done (now.held ++ more) rest fault
-    (Cuts-more bytes p.done now.held more (cuts p) clean) p.went.clean e
+    (Some (record { line = now.lines + 1; fault = fault })) now.driver now.kept
+stopped-line sites {bytes = bytes} {now = now} more fault rest p clean e =
+    let line = now.held ++ more in
+    let cut = Cuts-more bytes p.done now.held more (cuts p) clean in
+    went-stopped p.went (fault_at_newline line_reading (bytes ++ more) p.done line rest fault cut p.went.clean e
     ∙ fault_next fault p)
+    (ap sites_of_lines (complete_lines-after (bytes ++ more) p.done line (10 ∷ rest) cut
+    ∙ ap (λ ls. p.done ++ ls) (complete_lines-newline line rest cut.held_clean))
+    ∙ sites.fault p.done (complete_lines rest) line fault e)
 
 -- one more line that went well
 next_line : {start : Start} {bytes : List ℕ} {now : Moment} {driver : Driver} {kept : Kept} (more : List ℕ)
@@ -190,59 +245,85 @@ next_line {bytes = bytes} {now = now} more p clean w =
       went = w;
     }
 
+-- a line that says a command names no site
+names_none : SitesGoOn → (line : List ℕ) (command : Command) → line_reading line ≡ Ok (Some command) →
+    site_line line ≡ None
+names_none sites line command says = split (site_line line) refl
+  where
+    split : (named : Option ℕ) → site_line line ≡ named → named ≡ None
+    split None is = refl
+    split (Some site) is = let passed = sites.named line site is in cc
+
 -- a command was carried out after these lines
-went-command : {start : Start} {lines more : List (List ℕ)} {command : Command} {driver new : Driver}
-    {kept after : Kept} →
+went-command : SitesGoOn → {start : Start} {lines : List (List ℕ)} {command : Command} {driver new : Driver}
+    {kept after : Kept} (line : List ℕ) →
     Went start lines driver kept → Advances driver new command kept after →
-    reading_of more ≡ record { commands = (reading_of lines).commands ++ command ∷ []; fault = None } →
-    Went start more new after
-went-command {start} {lines} {new = new} {after = after} w c e =
-    let one = c start.extras.rate start.settings (reading_of lines).commands w.log w.carried in
+    line_reading line ≡ Ok (Some command) →
+    Went start (lines ++ line ∷ []) new after
+went-command sites {start} {lines} {command} {new = new} {after = after} line w c says =
+    let e = reading-next-command line_reading lines line command w.clean says in
+    let one = c start.extras start.settings (sited_of lines) w.log w.carried in
+    let site : site_after lines ≡ site_after (lines ++ line ∷ []) =
+    sym (sites.site lines line ∙ ap (λ found. unwrap_or found (site_after lines)) (names_none sites line command says)) in
     record {
       clean = ap (λ (r : Reading). r.fault) e;
       log = w.log ++ one.0;
-      carried = subst (λ trace. Carried start.extras.rate start.settings trace (w.log ++ one.0) new)
-          (sym (ap (λ (r : Reading). r.commands) e)) one.1;
+      carried = subst (λ (t : SitedTrace). Carried start.extras start.settings t (w.log ++ one.0) new)
+          (λ i. record {
+            commands = (sym (ap (λ (r : Reading). r.commands) e)) i;
+            sites = (sym (sites.command 1 lines line command w.clean says)) i;
+            site = site i;
+          }) one.1;
       written = subst (GrewSince start after) (sym (spelling_of-append w.log one.0))
           (writes-append (spelling_of w.log) (spelling_of one.0) w.written one.2);
     }
-
--- lines without a fault, at the end
-went-whole : {start : Start} {lines : List (List ℕ)} {driver : Driver} {kept : Kept} → Went start lines driver kept →
-    Stopped start lines None driver.heap kept
-went-whole {lines = lines} w =
-    went-stopped w (ap (λ fault. record { commands = (reading_of lines).commands; fault = fault }) w.clean)
 
 -- what holds in any case holds at Ok
 pub on_ok_always : {T E P : Type 0} (result : Result T E) → P → OnOk result P
 on_ok_always (Ok x) p = p
 on_ok_always (Err e) p = tt
 
--- heap and pacer as they were
-pub unmoved : {heap new : Gc} {pacer next : Pacer} → new ≡ heap → next ≡ pacer →
-    driver_of new next ≡ driver_of heap pacer
-unmoved {new = new} {pacer = pacer} same still =
-    ap (driver_of new) still ∙ ap (λ (h : Gc). driver_of h pacer) same
+-- heap and executor as they were, or as they are told to be
+pub unmoved : {heap new : Gc} {executor next : Executor} → new ≡ heap → next ≡ executor →
+    driver_of new next ≡ driver_of heap executor
+unmoved {new = new} {executor = executor} same still =
+    ap (driver_of new) still ∙ ap (λ (h : Gc). driver_of h executor) same
+
+-- the same where the line was noted
+pub noted_driver : {heap new : Gc} {next : Executor} (executor : Executor) (line : List ℕ) → new ≡ heap →
+    next ≡ noting_executor line executor → driver_of new next ≡ noting line (driver_of heap executor)
+noted_driver {heap} executor line same is = unmoved same is ∙ within executor.bookkeeping
+  where
+    within : (kept : Option Bookkeeping) →
+        driver_with heap (option_map (noting_bookkeeping line) kept) ≡ noting line (driver_with heap kept)
+    within None = refl
+    within (Some kept) = refl
 
 -- What a whole line, or the rest of the input as a line, came to.
-module _ {start : Start} {bytes : List ℕ} {now : Moment} {driver : Driver} {kept : Kept}
+module _ (sites : SitesGoOn) {start : Start} {bytes : List ℕ} {now : Moment} {driver : Driver} {kept : Kept}
     {Unchanged : Type 0} (same : Unchanged → (driver ≡ now.driver) × (kept ≡ now.kept))
     (p : Progress start bytes now) (result : Result (Unit {0}) LineFault) where
-  abbrev Did : Result (Option Command) LineFault → Type 0
-  Did reading = DoesLine reading result Unchanged (λ command. Advances now.driver driver command now.kept kept)
+  -- where the line is passed over
+  abbrev Passed : List ℕ → Type 0
+  Passed line = (driver ≡ noting line now.driver) × (kept ≡ now.kept)
+
+  abbrev Did : Type 0 → Result (Option Command) LineFault → Type 0
+  Did Over reading =
+      DoesLine reading result Unchanged Over (λ command. Advances now.driver driver command now.kept kept)
 
   -- where a fault leaves all as it was
   unchanged : {lines : List (List ℕ)} {fault : Option FaultAt} → Unchanged →
-      Stopped start lines fault now.driver.heap now.kept → Stopped start lines fault driver.heap kept
+      Stopped start lines fault now.driver now.kept → Stopped start lines fault driver kept
   unchanged {lines} {fault} u s =
       let e = same u in
-      subst (λ (v : Driver). Stopped start lines fault v.heap kept) (sym e.0)
-      (subst (Stopped start lines fault now.driver.heap) (sym e.1) s)
+      subst (λ (v : Driver). Stopped start lines fault v kept) (sym e.0)
+      (subst (Stopped start lines fault now.driver) (sym e.1) s)
 
-  still : {lines : List (List ℕ)} → Unchanged → Went start lines now.driver now.kept → Went start lines driver kept
-  still {lines} u w =
-      let e = same u in
-      subst (λ (v : Driver). Went start lines v kept) (sym e.0) (subst (Went start lines now.driver) (sym e.1) w)
+  passed : {lines : List (List ℕ)} (line : List ℕ) → Passed line →
+      Went start lines (noting line now.driver) now.kept → Went start lines driver kept
+  passed {lines} line e w =
+      subst (λ (v : Driver). Went start lines v kept) (sym e.0)
+      (subst (Went start lines (noting line now.driver)) (sym e.1) w)
 
   abbrev More : List ℕ → List ℕ → ℕ → Type 0
   More line held lines = Progress start ((bytes ++ line) ++ 10 ∷ [])
@@ -251,7 +332,7 @@ module _ {start : Start} {bytes : List ℕ} {now : Moment} {driver : Driver} {ke
   abbrev Fault : List ℕ → ℕ → LineFault → Type 0
   Fault line lines fault = (rest : List ℕ) →
       Stopped start (complete_lines ((bytes ++ line) ++ 10 ∷ rest))
-      (Some (record { line = lines; fault = fault })) driver.heap kept
+      (Some (record { line = lines; fault = fault })) driver kept
 
   went_well : (line held : List ℕ) → OnOk result (held ≡ []) → result ≡ Ok tt → More line [] (now.lines + 1) →
       GoesOn result (More line held (now.lines + 1)) (Fault line (now.lines + 1))
@@ -260,54 +341,66 @@ module _ {start : Start} {bytes : List ℕ} {now : Moment} {driver : Driver} {ke
       subst (λ r. GoesOn r (More line held (now.lines + 1)) (Fault line (now.lines + 1))) (sym ok)
       (subst (λ h. More line h (now.lines + 1)) (sym none) more)
 
-  line_read : (line held : List ℕ) → IsWithinLine line → OnOk result (held ≡ []) →
-      (reading : Result (Option Command) LineFault) → line_reading (now.held ++ line) ≡ reading → Did reading →
+  line_read : {Over : Type 0} (line held : List ℕ) → (Over → Passed (now.held ++ line)) → IsWithinLine line →
+      OnOk result (held ≡ []) →
+      (reading : Result (Option Command) LineFault) → line_reading (now.held ++ line) ≡ reading → Did Over reading →
       GoesOn result (More line held (now.lines + 1)) (Fault line (now.lines + 1))
-  line_read line held clean none (Err fault) is d =
+  line_read line held over clean none (Err fault) is d =
       subst (λ r. GoesOn r (More line held (now.lines + 1)) (Fault line (now.lines + 1))) (sym d.0)
-      (λ rest. unchanged d.1 (stopped-line line fault rest p clean is))
-  line_read line held clean none (Ok None) is d =
-      went_well line held none d.0 (next_line line p clean (still d.1 (went-reading p.went
-      (reading-next-nothing line_reading p.done (now.held ++ line) p.went.clean is))))
-  line_read line held clean none (Ok (Some command)) is d =
-      went_well line held none d.0 (next_line line p clean (went-command p.went d.1
-      (reading-next-command line_reading p.done (now.held ++ line) command p.went.clean is)))
+      (λ rest. unchanged d.1 (stopped-line sites line fault rest p clean is))
+  line_read line held over clean none (Ok None) is d =
+      went_well line held none d.0 (next_line line p clean (passed (now.held ++ line) (over d.1)
+      (went-passed sites (now.held ++ line) p.went is)))
+  line_read line held over clean none (Ok (Some command)) is d =
+      went_well line held none d.0 (next_line line p clean
+      (went-command sites (now.held ++ line) p.went d.1 is))
 
   -- These bytes and a newline came, and nothing is held then.
-  pub goes-on-line : (line held : List ℕ) (lines : ℕ) → IsWithinLine line → OnOk result (held ≡ []) →
-      lines ≡ now.lines + 1 → Did (line_reading (now.held ++ line)) →
+  pub goes-on-line : {Over : Type 0} (line held : List ℕ) (lines : ℕ) → (Over → Passed (now.held ++ line)) →
+      IsWithinLine line → OnOk result (held ≡ []) → lines ≡ now.lines + 1 →
+      Did Over (line_reading (now.held ++ line)) →
       GoesOn result (More line held lines) (Fault line lines)
-  goes-on-line line held lines clean none l d =
+  goes-on-line line held lines over clean none l d =
       subst (λ n. GoesOn result (More line held n) (Fault line n)) (sym l)
-      (line_read line held clean none (line_reading (now.held ++ line)) refl d)
+      (line_read line held over clean none (line_reading (now.held ++ line)) refl d)
 
   abbrev AtEnd : Type 0
-  AtEnd = Stopped start (lines_of bytes) None driver.heap kept
+  AtEnd = Stopped start (lines_of bytes) None driver kept
 
   abbrev FaultAtEnd : ℕ → LineFault → Type 0
   FaultAtEnd lines fault =
-      Stopped start (lines_of bytes) (Some (record { line = lines; fault = fault })) driver.heap kept
+      Stopped start (lines_of bytes) (Some (record { line = lines; fault = fault })) driver kept
 
-  rest_read : 0 < length now.held → (reading : Result (Option Command) LineFault) →
-      line_reading now.held ≡ reading → Did reading → GoesOn result AtEnd (FaultAtEnd (now.lines + 1))
-  rest_read some (Err fault) is d =
+  -- what is held is the last line
+  last_line : 0 < length now.held → lines_of bytes ≡ p.done ++ now.held ∷ []
+  last_line some =
+      lines_of-cuts bytes p.done now.held (cuts p)
+      ∙ ap (λ b. p.done ++ line_if b now.held) (lt-ltb 0 (length now.held) some)
+
+  ends : 0 < length now.held → Went start (p.done ++ now.held ∷ []) driver kept → AtEnd
+  ends some w = subst (λ lines. Stopped start lines None driver kept) (sym (last_line some)) (went-whole w)
+
+  rest_read : {Over : Type 0} → (Over → Passed now.held) → 0 < length now.held →
+      (reading : Result (Option Command) LineFault) →
+      line_reading now.held ≡ reading → Did Over reading → GoesOn result AtEnd (FaultAtEnd (now.lines + 1))
+  rest_read over some (Err fault) is d =
       subst (λ r. GoesOn r AtEnd (FaultAtEnd (now.lines + 1))) (sym d.0)
       (unchanged d.1 (went-stopped p.went (fault_at_end line_reading bytes p.done now.held fault (cuts p)
       p.went.clean some is
-      ∙ fault_next fault p)))
-  rest_read some (Ok None) is d =
+      ∙ fault_next fault p)
+      (ap sites_of_lines (last_line some) ∙ sites.fault p.done [] now.held fault is)))
+  rest_read over some (Ok None) is d =
       subst (λ r. GoesOn r AtEnd (FaultAtEnd (now.lines + 1))) (sym d.0)
-      (unchanged d.1 (went-stopped p.went (reading-end-nothing line_reading bytes p.done now.held (cuts p)
-      p.went.clean some is)))
-  rest_read some (Ok (Some command)) is d =
+      (ends some (passed now.held (over d.1) (went-passed sites now.held p.went is)))
+  rest_read over some (Ok (Some command)) is d =
       subst (λ r. GoesOn r AtEnd (FaultAtEnd (now.lines + 1))) (sym d.0)
-      (went-whole (went-command p.went d.1 (reading-end-command line_reading bytes p.done now.held command (cuts p)
-      p.went.clean some is)))
+      (ends some (went-command sites now.held p.went d.1 is))
 
-  pub goes-to-end : 0 < length now.held → (lines : ℕ) → lines ≡ now.lines + 1 →
-      Did (line_reading now.held) → GoesOn result AtEnd (FaultAtEnd lines)
-  goes-to-end some lines l d = subst (λ n. GoesOn result AtEnd (FaultAtEnd n)) (sym l)
-      (rest_read some (line_reading now.held) refl d)
+  pub goes-to-end : {Over : Type 0} → (Over → Passed now.held) → 0 < length now.held → (lines : ℕ) →
+      lines ≡ now.lines + 1 →
+      Did Over (line_reading now.held) → GoesOn result AtEnd (FaultAtEnd lines)
+  goes-to-end over some lines l d = subst (λ n. GoesOn result AtEnd (FaultAtEnd n)) (sym l)
+      (rest_read over some (line_reading now.held) refl d)
 
 -- A piece of which a front was taken: its next line is what stands before the newline in the rest.
 module _ (bytes front rest piece : List ℕ) (here : front ++ rest ≡ piece) where
@@ -351,7 +444,7 @@ module _ (bytes front rest piece : List ℕ) (here : front ++ rest ≡ piece) wh
   front_next line = simp append_assoc
 
   -- what the rest of the piece came to, where no newline is in it
-  pub goes-on-held : {start : Start} {now : Moment} (held : List ℕ) (lines : ℕ) (driver : Driver)
+  pub goes-on-held : SitesGoOn → {start : Start} {now : Moment} (held : List ℕ) (lines : ℕ) (driver : Driver)
       (result : Result (Unit {0}) LineFault) → Progress start (bytes ++ front) now → IsWithinLine rest →
       driver ≡ now.driver →
       OnOk result ((held ≡ now.held ++ rest) × (lines ≡ now.lines)) →
@@ -360,33 +453,33 @@ module _ (bytes front rest piece : List ℕ) (here : front ++ rest ≡ piece) wh
       (fault ≡ LineTooLong) × (1024 < length now.held + length rest) × (lines ≡ now.lines + 1)) →
       GoesOn result (Progress start (bytes ++ piece) (record now { driver = driver; held = held; lines = lines }))
       (λ fault. Stopped start (complete_lines (bytes ++ piece)) (Some (record { line = lines; fault = fault }))
-      driver.heap now.kept)
-  goes-on-held {start} {now} held lines driver (Ok done) p clean same is fits long =
+      driver now.kept)
+  goes-on-held sites {start} {now} held lines driver (Ok done) p clean same is fits long =
       subst (λ (d : Driver). Progress start (bytes ++ piece) (record now { driver = d; held = held; lines = lines }))
       (sym same)
       (subst (λ xs. Progress start xs (record now { held = held; lines = lines })) behind
       (subst (λ h. Progress start ((bytes ++ front) ++ rest) (record now { held = h; lines = lines })) (sym is.0)
       (subst (λ n. Progress start ((bytes ++ front) ++ rest) (record now { held = now.held ++ rest; lines = n }))
       (sym is.1) (progress-more rest p clean fits))))
-  goes-on-held {start} {now} held lines driver (Err fault) p clean same is fits long =
+  goes-on-held sites {start} {now} held lines driver (Err fault) p clean same is fits long =
       subst (λ (d : Driver). Stopped start (complete_lines (bytes ++ piece))
-      (Some (record { line = lines; fault = fault })) d.heap now.kept) (sym same)
+      (Some (record { line = lines; fault = fault })) d now.kept) (sym same)
       (subst
-      (λ xs. Stopped start (complete_lines xs) (Some (record { line = lines; fault = fault })) now.driver.heap
-      now.kept)
+      (λ xs. Stopped start (complete_lines xs) (Some (record { line = lines; fault = fault })) now.driver now.kept)
       behind
       (subst (λ f. Stopped start (complete_lines ((bytes ++ front) ++ rest)) (Some (record { line = lines; fault = f }))
-      now.driver.heap now.kept) (sym long.0)
+      now.driver now.kept) (sym long.0)
       (subst (λ n. Stopped start (complete_lines ((bytes ++ front) ++ rest))
-      (Some (record { line = n; fault = LineTooLong })) now.driver.heap now.kept) (sym long.2)
-      (stopped-too_long rest p clean long.1))))
+      (Some (record { line = n; fault = LineTooLong })) now.driver now.kept) (sym long.2)
+      (stopped-too_long sites rest p clean long.1))))
 
 -- nothing is held at the end
 pub stopped-none : {start : Start} {bytes : List ℕ} {now : Moment} →
-    Progress start bytes now → now.held ≡ [] → Stopped start (lines_of bytes) None now.driver.heap now.kept
-stopped-none {bytes = bytes} p none =
-    went-stopped p.went (reading-end-none line_reading bytes p.done (subst (Cuts bytes p.done) none (cuts p))
-    ∙ ap (λ f. record { commands = (reading_of p.done).commands; fault = f }) p.went.clean)
+    Progress start bytes now → now.held ≡ [] → Stopped start (lines_of bytes) None now.driver now.kept
+stopped-none {start} {bytes} {now} p none =
+    subst (λ lines. Stopped start lines None now.driver now.kept)
+    (sym (lines_of-cuts bytes p.done [] (subst (Cuts bytes p.done) none (cuts p)) ∙ append-nil p.done))
+    (went-whole p.went)
 
 -- there is room for one more line where some of it is held
 pub has_room-held : AreQuadrupled → {now : Moment} → IsUnderWay now 0 → 0 < length now.held → HasRoom now 1
@@ -400,9 +493,9 @@ has_room-held most {now} way some =
 
 -- where more may come, what was read stops at the last whole line
 pub progress-stopped : {start : Start} {bytes : List ℕ} {now : Moment} →
-    Progress start bytes now → Stopped start (complete_lines bytes) None now.driver.heap now.kept
+    Progress start bytes now → Stopped start (complete_lines bytes) None now.driver now.kept
 progress-stopped {start} {bytes} {now} p =
-    subst (λ lines. Stopped start lines None now.driver.heap now.kept)
+    subst (λ lines. Stopped start lines None now.driver now.kept)
     (sym (complete_lines-held bytes p.done now.held (cuts p) p.fits)) (went-whole p.went)
 
 -- a journal that writes nothing more
@@ -432,10 +525,10 @@ progress-written_out p w =
 
 -- nothing was read yet
 pub progress-none : (settings : Settings) (extras : Extras) (driver : Driver) (kept : Option (List ℕ)) →
-    IsFresh extras.rate driver.pace → IsNew settings driver.heap →
+    IsNewDriver extras.rate settings driver → is_some driver.book ≡ extras.sites → NothingIsEntered settings →
     Progress (record { settings = settings; extras = extras; kept = kept }) []
     (record { driver = driver; held = []; lines = 0; kept = record { bytes = kept; broken = false } })
-progress-none settings extras driver kept fresh new =
+progress-none settings extras driver kept new asked nothing =
     record {
       done = [];
       whole = refl;
@@ -446,17 +539,17 @@ progress-none settings extras driver kept fresh new =
       went = record {
         clean = refl;
         log = [];
-        carried = carried-none extras.rate settings driver fresh new;
+        carried = carried-none extras settings driver new asked nothing;
         written = writes-none kept false;
       };
     }
 
 -- the same, in the words of what was made
 pub progress-began : (settings : Settings) (extras : Extras) (kept : Kept) {driver : Driver} {held : List ℕ}
-    {lines : ℕ} → held ≡ [] → lines ≡ 0 → kept.broken ≡ false → IsFresh extras.rate driver.pace →
-    IsNew settings driver.heap →
+    {lines : ℕ} → held ≡ [] → lines ≡ 0 → kept.broken ≡ false → IsNewDriver extras.rate settings driver →
+    is_some driver.book ≡ extras.sites → NothingIsEntered settings →
     Progress (start_with settings extras kept) [] (record { driver = driver; held = held; lines = lines; kept = kept })
-progress-began settings extras kept {driver} {held} {lines} h n whole fresh new =
+progress-began settings extras kept {driver} {held} {lines} h n whole new asked nothing =
     subst₃ (λ h n b. Progress (start_with settings extras kept) []
     (record { driver = driver; held = h; lines = n; kept = record { bytes = kept.bytes; broken = b } }))
-    (sym h) (sym n) (sym whole) (progress-none settings extras driver kept.bytes fresh new)
+    (sym h) (sym n) (sym whole) (progress-none settings extras driver kept.bytes new asked nothing)

@@ -1,5 +1,6 @@
 -- What a run adds behind its log.
-use Rattle.std.specs.Prelude.{◌≡◌, ℕ, ◌≤◌, List, [], ◌∷◌, ◌++◌, length, Option, Some, None, codes, decimal}
+use Rattle.std.specs.Prelude.{◌≡◌, ℕ, ◌≤◌, Bool, true, false, List, [], ◌∷◌, ◌++◌, length, Option, Some, None, codes}
+use Rattle.std.specs.Prelude.{decimal}
 use Rattle.std.specs.List.{flat_map}
 use Rattle.mm_model.specs.declared.line.Line.{Line}
 use Rattle.mm_model.specs.declared.line.Line.TheVariants as lines
@@ -11,6 +12,7 @@ use Rattle.mm_why.specs.declared.hop.Via.{Via}
 use Rattle.mm_why.specs.declared.hop.Via.TheVariants.{Stack, Area, Slot}
 use Rattle.mm_why.specs.declared.hop.Hop.{Hop}
 use Rattle.mm_why.specs.Path.{Shown, shown_in, FallsIn, IsPath, HasNoPath}
+use Rattle.mm_sites.specs.Text.{text_of_sites}
 use Rattle.mmgc.specs.declared.extras.Extras.{Extras}
 
 -- what a replay is asked for: the settings of its heap, what is to stand behind its log, and whether cycles are paced
@@ -54,16 +56,28 @@ abbrev pub IsAnswer : Option ℕ → Shown → List ℕ → Type 0
 IsAnswer None shown text = text ≡ []
 IsAnswer (Some word) shown text = IsWhyText shown word text
 
--- the text that is added behind the log that leads to a state
-abbrev pub IsAddedText : Extras → State → List ℕ → Type 0
-IsAddedText extras state text = IsAnswer extras.why (shown_in (view_of state)) text
+-- a state, and the sites of its objects by birth number
+pub record SitedState : Type 0 where
+  pub state : State
+  pub sites : List ℕ
+
+-- the lines of the sites, where they are asked for
+abbrev pub site_lines : Bool → SitedState → List ℕ
+site_lines false left = []
+site_lines true left = text_of_sites left.state left.sites
+
+-- The text that is added behind the log that leads to a state: the lines of the sites, and then why an object is kept.
+pub record IsAddedText (extras : Extras) (left : SitedState) (text : List ℕ) : Type 0 where
+  pub answer : List ℕ
+  pub answers : IsAnswer extras.why (shown_in (view_of left.state)) answer
+  pub is : text ≡ site_lines extras.sites left ++ answer
 
 -- the lines of the commands, followed by the totals of the state after them
 abbrev pub with_total : List Line → State → List Line
 with_total groups state = groups ++ lines.Total (totals_of state) ∷ []
 
 -- What follows a log: the added text where its total line stands, and else nothing.
-pub record IsFollowed (extras : Extras) (groups : List Line) (state : State) (log : List Line) (added : List ℕ) :
+pub record IsFollowed (extras : Extras) (groups : List Line) (left : SitedState) (log : List Line) (added : List ℕ) :
     Type 0 where
-  pub behind_total : log ≡ with_total groups state → IsAddedText extras state added
+  pub behind_total : log ≡ with_total groups left.state → IsAddedText extras left added
   pub else_none : log ≡ groups → added ≡ []

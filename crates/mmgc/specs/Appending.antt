@@ -1,5 +1,6 @@
 -- What is written behind a log, as contracts see it.
-use Rattle.std.specs.Prelude.{◌≡◌, ℕ, List, ◌∷◌, ◌++◌, Option, IfSome, MatchOption, length, codes, decimal}
+use Rattle.std.specs.Prelude.{◌≡◌, ℕ, List, ◌∷◌, ◌++◌, Option, IfSome, MatchOption, is_some, length}
+use Rattle.std.specs.Prelude.{codes, decimal}
 use Rattle.std.specs.Option.{option_map}
 use Rattle.mm_model.specs.declared.settings.Settings.{Settings}
 use Rattle.mm_model.specs.State.{State, empty_state}
@@ -14,8 +15,11 @@ use Rattle.mm_why.specs.declared.hop.Hop.{Hop}
 use Rattle.mm_why.specs.Path.{Shown, FallsIn, HasNoPath}
 use Rattle.mmgc.specs.declared.appendix.Appendix.{Appendix}
 use Rattle.mmgc.specs.declared.extras.Extras.{Extras}
+use Rattle.mmgc.specs.declared.site_book.SiteBook.{SiteBook}
 use Rattle.mmgc.specs.Added.{IsShortest}
+use Rattle.mmgc.specs.Booking.{IsBlank}
 use Rattle.mmgc.specs.Carrying.{Grew}
+use Rattle.mmgc.specs.Pacing.{Driver, IsFresh}
 
 -- a space and a number
 abbrev pub numbered : ℕ → List ℕ
@@ -56,18 +60,24 @@ pub record IsPathFound (shown : Shown) (base : ℕ) (hops : List Hop) (count : �
 abbrev pub IsSearched : Shown → ℕ → List Hop → Option ℕ → Type 0
 IsSearched shown base hops result = MatchOption result (HasNoPath shown base) (IsPathFound shown base hops)
 
--- what a replay is asked for with an appendix, at a rate
-abbrev pub asked_of : Option ℕ → Appendix → Extras
-asked_of rate appendix = record { why = option_map (λ question. question.word) appendix.why; rate = rate }
+-- the word of which an appendix tells
+abbrev pub word_of : Appendix → Option ℕ
+word_of appendix = option_map (λ question. question.word) appendix.why
+
+-- what a replay is asked for with an appendix, at a rate, where sites are kept or aren't
+abbrev pub asked_of : Option ℕ → Option SiteBook → Appendix → Extras
+asked_of rate book appendix = record { why = word_of appendix; rate = rate; sites = is_some book }
 
 -- it has room for the search of a heap of so many pages
 abbrev pub IsReadyFor : ℕ → Appendix → Type 0
 IsReadyFor pages appendix = IfSome appendix.why (λ question. question.why.pages ≡ pages)
 
--- a new heap with these settings, and what is asked for, which is ready for it
-pub record IsPrepared (settings : Settings) (extras : Extras) (heap : Gc) (appendix : Appendix) : Type 0 where
-  pub shows : Shows (view_of_gc heap) (empty_state settings)
-  pub asked : asked_of extras.rate appendix ≡ extras
+-- a new heap with these settings, what drives it, and what is asked for, which is ready for it
+pub record IsPrepared (settings : Settings) (extras : Extras) (driver : Driver) (appendix : Appendix) : Type 0 where
+  pub shows : Shows (view_of_gc driver.heap) (empty_state settings)
+  pub fresh : IsFresh extras.rate driver.pace
+  pub blank : IfSome driver.book (IsBlank settings.max)
+  pub asked : asked_of extras.rate driver.book appendix ≡ extras
   pub ready : IsReadyFor settings.max appendix
 
 -- the view is that of a state, so that its lists have the entries of the greatest region

@@ -37,3 +37,8 @@ pub record CarriesOut (old new : Gc) (command : Command) (before after : Kept) :
   pub step : (a : State) → IsGood a → Shows (view_of_gc old) a
       → IsStepOf (view_of_gc new) command (front ++ lines.Reply reply ∷ []) a
   pub written : Grew before after (spelling_of (front ++ lines.Reply reply ∷ []))
+
+-- the lines that it wrote
+abbrev pub group_of : {old new : Gc} {command : Command} {before after : Kept}
+    → CarriesOut old new command before after → List Line
+group_of done = done.front ++ lines.Reply done.reply ∷ []

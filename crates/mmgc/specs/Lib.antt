@@ -1,5 +1,6 @@
 pub mod Added
 pub mod Appending
+pub mod Booking
 pub mod Carrying
 pub mod Completing
 pub mod Counting

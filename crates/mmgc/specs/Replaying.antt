@@ -1,6 +1,6 @@
 -- How the bytes of a trace are carried out, line by line.
 use Rattle.std.specs.Prelude.{◌≡◌, ℕ, ◌+◌, ◌-◌, ◌^◌, ◌≤◌, false, List, ◌++◌, ◌∷◌, [], length, flat_map, Option, Some}
-use Rattle.std.specs.Prelude.{None, Result, Ok, Err}
+use Rattle.std.specs.Prelude.{None, Result, Ok, Err, IfSome, option_map}
 use Rattle.std.specs.List.{All}
 use Rattle.mm_model.specs.Places.Limits.{IsWithinLimits}
 use Rattle.mm_model.specs.declared.command.Command.{Command}
@@ -15,11 +15,11 @@ use Rattle.mm_model.specs.Logs.Trace.{line_reading, reading_from, Reading, Fault
 use Rattle.mm_trace.specs.Lines.{IsWithinLine}
 use Rattle.mm_gc.specs.Gc.{Gc, view_of_gc}
 use Rattle.mmgc.specs.Writing.{Kept}
-use Rattle.mm_pace.specs.Paced.{AreCommandsOf}
+use Rattle.mm_sites.specs.Lines.{site_after, sites_of_lines}
 use Rattle.mmgc.specs.declared.extras.Extras.{Extras}
 use Rattle.mmgc.specs.Added.{Task}
-use Rattle.mmgc.specs.Carrying.{CarriedOut}
-use Rattle.mmgc.specs.Pacing.{Driver, Carried}
+use Rattle.mmgc.specs.Booking.{IsBlank, noted}
+use Rattle.mmgc.specs.Pacing.{Carried, Driver, IsFresh, SitedTrace}
 
 -- what these lines say, from line 1 on
 abbrev pub reading_of : List (List ℕ) → Reading
@@ -55,27 +55,41 @@ pub record Moment : Type 0 where
   pub lines : ℕ
   pub kept : Kept
 
+-- what lines say up to the first fault: the commands, the site of each, and this one for what comes next
+abbrev pub sited_at : ℕ → List (List ℕ) → SitedTrace
+sited_at site lines =
+    record { commands = (reading_of lines).commands; sites = sites_of_lines lines; site = site }
+
+-- the same, where the next site is the one that the lines name last
+abbrev pub sited_of : List (List ℕ) → SitedTrace
+sited_of lines = sited_at (site_after lines) lines
+
 -- a heap to which nothing was done yet, made with settings within their limits
 pub record IsNew (settings : Settings) (heap : Gc) : Type 0 where
   pub limits : IsWithinLimits settings
   pub shows : Shows (view_of_gc heap) (empty_state settings)
 
+-- nothing was done yet with a heap nor with what drives it
+pub record IsNewDriver (rate : Option ℕ) (settings : Settings) (driver : Driver) : Type 0 where
+  pub heap : IsNew settings driver.heap
+  pub pace : IsFresh rate driver.pace
+  pub book : IfSome driver.book (IsBlank settings.max)
+
 -- What these lines say was carried out up to the first fault, with what is added to it where cycles are paced, and the
 -- log went to the journal.
-pub record Stopped (start : Start) (lines : List (List ℕ)) (fault : Option FaultAt) (heap : Gc) (kept : Kept) :
+pub record Stopped (start : Start) (lines : List (List ℕ)) (fault : Option FaultAt) (driver : Driver) (kept : Kept) :
     Type 0 where
   pub fault_is : (reading_of lines).fault ≡ fault
   pub log : List Line
-  pub commands : List Command
-  pub listed : AreCommandsOf start.extras.rate start.settings (reading_of lines).commands log commands
-  pub carried : CarriedOut start.settings commands log heap
+  pub site : ℕ
+  pub carried : Carried start.extras start.settings (sited_at site lines) log driver
   pub written : GrewSince start kept (spelling_of log)
 
 -- Lines without a fault were carried out so, and the heap and what paces it can go on.
 pub record Went (start : Start) (lines : List (List ℕ)) (driver : Driver) (kept : Kept) : Type 0 where
   pub clean : (reading_of lines).fault ≡ None
   pub log : List Line
-  pub carried : Carried start.extras.rate start.settings (reading_of lines).commands log driver
+  pub carried : Carried start.extras start.settings (sited_of lines) log driver
   pub written : GrewSince start kept (spelling_of log)
 
 -- The bytes so far were cut into lines, which were carried out without a fault, and a piece of the next line is held.
@@ -88,12 +102,16 @@ pub record Progress (start : Start) (bytes : List ℕ) (now : Moment) : Type 0 w
   pub lines_are : now.lines ≡ length done
   pub went : Went start done now.driver now.kept
 
--- What a line says was done: nothing, or its command, or neither because of a fault.
-abbrev pub DoesLine : Result (Option Command) LineFault → Result (Unit {0}) LineFault → Type 0 →
+-- What a line says was done: it was passed over, or its command was carried out, or neither because of a fault.
+abbrev pub DoesLine : Result (Option Command) LineFault → Result (Unit {0}) LineFault → Type 0 → Type 0 →
     (Command → Type 0) → Type 0
-DoesLine (Err fault) result unchanged carried = (result ≡ Err fault) × unchanged
-DoesLine (Ok None) result unchanged carried = (result ≡ Ok tt) × unchanged
-DoesLine (Ok (Some command)) result unchanged carried = (result ≡ Ok tt) × carried command
+DoesLine (Err fault) result unchanged passed carried = (result ≡ Err fault) × unchanged
+DoesLine (Ok None) result unchanged passed carried = (result ≡ Ok tt) × passed
+DoesLine (Ok (Some command)) result unchanged passed carried = (result ≡ Ok tt) × carried command
+
+-- a driver that goes on with the site that a line names, where sites are kept and it names one
+abbrev pub noting : List ℕ → Driver → Driver
+noting line driver = record driver { book = option_map (noted line) driver.book }
 
 -- What more bytes made of the progress: more of it, or a fault at this line.
 abbrev pub GoesOn : Result (Unit {0}) LineFault → Type 0 → (LineFault → Type 0) → Type 0

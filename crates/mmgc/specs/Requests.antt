@@ -37,5 +37,6 @@ values_by given =
       count = option_map (λ text. text.now) given.count;
       why = option_map (λ text. text.now) given.why;
       pace = option_map (λ text. text.now) given.pace;
+      sites = given.sites;
       file = option_map (λ text. text.now) given.file;
     }

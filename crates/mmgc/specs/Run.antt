@@ -14,8 +14,11 @@ use Rattle.mm_io.specs.Faults.{Rose}
 use Rattle.mm_io.specs.Told.{Appends, AppendsFront, Gives}
 use Rattle.mm_gc.specs.Gc.{Gc, view_of_gc}
 use Rattle.mmgc.specs.Writing.{Kept}
-use Rattle.mm_pace.specs.Paced.{AreCommandsOf}
-use Rattle.mmgc.specs.Added.{Task, with_total, IsFollowed}
+use Rattle.mm_model.specs.Logs.Turns.{Turn}
+use Rattle.mm_pace.specs.Paced.{AreCommandsOf, AreOwn}
+use Rattle.mm_sites.specs.Births.{birth_sites}
+use Rattle.mm_sites.specs.Lines.{sites_of_lines}
+use Rattle.mmgc.specs.Added.{SitedState, Task, with_total, IsFollowed}
 use Rattle.mmgc.specs.Replaying.{reading_of, most_bytes, Start, GrewSince, Moment, Stopped, Progress}
 use Rattle.mmgc.specs.declared.replay.End.{End}
 use Rattle.mmgc.specs.declared.replay.End.TheVariants.{Whole, Fault, ReadFailed, WriteFailed, TooLong}
@@ -111,6 +114,11 @@ IsWritten WriteFailed output text =
 IsWritten _ output text =
     (output.faults_after ≡ output.faults) × Appends output.taken output.taken_after text × IsPassedOn output
 
+-- The state, and the sites of its objects: each has the site that the lines before the line of its birth name last.
+-- The turns are those of the commands that the lines say.
+abbrev pub sited_by : State → List Turn → Reach → SitedState
+sited_by state own reach = record { state = state; sites = birth_sites own (sites_of_lines (lines_in reach)) }
+
 -- How a replay ended, by what the source gave, what the sink took, and what the heap shows.
 pub record Replayed (end : End) (task : Task) (input : Input) (output : Output) (heap : Gc) : Type 0 where
   pub reach : Reach
@@ -123,6 +131,9 @@ pub record Replayed (end : End) (task : Task) (input : Input) (output : Output) 
   pub commands : List Command
   pub groups : List Line
   pub carried : AreCommandsOf task.extras.rate task.settings (commands_in reach) groups commands
+  -- the turns of the trace's own commands
+  pub own : List Turn
+  pub own_are : AreOwn task.extras.rate task.settings (commands_in reach) groups commands carried own
   pub state : State
   pub legal : IsLegal IsStep task.settings commands groups state
   pub good : IsGood state
@@ -131,7 +142,7 @@ pub record Replayed (end : End) (task : Task) (input : Input) (output : Output) 
   pub log_is : IsLogOf end reach groups state log
   -- what stands behind the log
   pub added : List ℕ
-  pub follows : IsFollowed task.extras groups state log added
+  pub follows : IsFollowed task.extras groups (sited_by state own reach) log added
   pub written : IsWritten end output (spelling_of log ++ added)
 
 -- A replay that had taken these bytes came to its end with the next piece, or with none.
@@ -146,7 +157,7 @@ pub record Ended (end : End) (start : Start) (bytes : List ℕ) (input : Input) 
   pub fault : Option FaultAt
   pub fault_is : IsFaultOf end fault
   pub broken : end ≡ WriteFailed → IsTrue now.kept.broken
-  pub stopped : Stopped start (lines_in reach) fault now.driver.heap now.kept
+  pub stopped : Stopped start (lines_in reach) fault now.driver now.kept
 
 -- A replay that had taken these bytes took the next piece of so many bytes, without a fault.
 pub record Took (n : ℕ) (start : Start) (bytes : List ℕ) (input : Input) (now : Moment) : Type 0 where
@@ -167,6 +178,8 @@ pub record Logged (end : End) (start : Start) (reach : Reach) (heap : Gc) (kept 
   pub commands : List Command
   pub groups : List Line
   pub carried : AreCommandsOf start.extras.rate start.settings (commands_in reach) groups commands
+  pub own : List Turn
+  pub own_are : AreOwn start.extras.rate start.settings (commands_in reach) groups commands carried own
   pub state : State
   pub legal : IsLegal IsStep start.settings commands groups state
   pub good : IsGood state
@@ -174,5 +187,5 @@ pub record Logged (end : End) (start : Start) (reach : Reach) (heap : Gc) (kept 
   pub log : List Line
   pub log_is : IsLogOf end reach groups state log
   pub added : List ℕ
-  pub follows : IsFollowed start.extras groups state log added
+  pub follows : IsFollowed start.extras groups (sited_by state own reach) log added
   pub written : GrewSince start kept (spelling_of log ++ added)

@@ -1,10 +1,12 @@
 -- What the words behind the program's name ask for.
-use Rattle.std.specs.Prelude.{◌&&◌, ℕ, ◌-◌, ◌^◌, true, if◌then◌else◌, nat_le, List, ◌∷◌, Option, None, Some, Result, Ok}
-use Rattle.std.specs.Prelude.{Err, codes}
+use Rattle.std.specs.Prelude.{◌&&◌, ℕ, ◌-◌, ◌^◌, Bool, true, false, not, if◌then◌else◌, nat_le, List, ◌∷◌, Option, None}
+use Rattle.std.specs.Prelude.{Some, is_none, Result, Ok, Err, codes}
+use Rattle.std.specs.Option.{option_map_or}
 use Rattle.std.specs.Prelude.{option_and_then, option_map}
 use Rattle.std.specs.Str.{bytes_eq}
 use Rattle.clap.specs.Words.{App, Row, Rule, Text, first_of, matches_of, new_app, new_rule, takes, with_rule}
 use Rattle.clap.specs.Simple.{on_top}
+use Rattle.clap.specs.declared.builder.action.ArgAction.TheVariants.{SetTrue}
 use Rattle.mm_model.specs.declared.refusal.LineFault.{LineFault}
 use Rattle.mm_model.specs.declared.settings.Settings.{Settings}
 use Rattle.mm_model.specs.Logs.Trace.{number_of}
@@ -37,11 +39,19 @@ settings_app =
     with_option (with_option (with_option (with_option (with_option (without_help (new_app (codes "mmgc")))
     (codes "pages")) (codes "max")) (codes "zct")) (codes "queue")) (codes "stack")
 
+-- an option without a value
+abbrev pub flag_rule : Text → Rule
+flag_rule name = record (option_rule name) { action = Some SetTrue }
+
+-- with the options that ask for something beside the heap
+abbrev pub asking_app : App
+asking_app =
+    with_option (with_option (with_option (with_option settings_app (codes "gen")) (codes "count")) (codes "why"))
+    (codes "pace")
+
 -- the program's command
 abbrev pub mmgc_app : App
-mmgc_app =
-    with_rule (with_option (with_option (with_option (with_option settings_app (codes "gen")) (codes "count"))
-    (codes "why")) (codes "pace")) (new_rule (codes "FILE"))
+mmgc_app = with_rule (with_rule asking_app (flag_rule (codes "sites"))) (new_rule (codes "FILE"))
 
 -- the values that words give, each where it stands
 pub record Values : Type 0 where
@@ -54,7 +64,12 @@ pub record Values : Type 0 where
   pub count : Option Text
   pub why : Option Text
   pub pace : Option Text
+  pub sites : Bool
   pub file : Option Text
+
+-- a flag stands there
+abbrev pub is_set : Text → List Row → Bool
+is_set name rows = option_map_or (λ text. bytes_eq text (codes "true")) (first_of name rows) false
 
 abbrev pub values_in : List Row → Values
 values_in rows =
@@ -68,6 +83,7 @@ values_in rows =
       count = first_of (codes "count") rows;
       why = first_of (codes "why") rows;
       pace = first_of (codes "pace") rows;
+      sites = is_set (codes "sites") rows;
       file = first_of (codes "FILE") rows;
     }
 
@@ -114,19 +130,19 @@ trace_of seed count =
     (setting_of (limits 0 most_generated 0) (Some count)))
     (setting_of (limits 0 (2 ^ 32 - 1) 0) (Some seed))
 
--- nothing stands behind the log, and cycles aren't paced
+-- nothing stands behind the log, cycles aren't paced, and no sites are kept
 abbrev pub no_extras : Extras
-no_extras = record { why = None; rate = None }
+no_extras = record { why = None; rate = None; sites = false }
 
 -- the value of an option that has no default, where it stands
 abbrev pub number_if_given : Limits → Option Text → Option (Option ℕ)
 number_if_given limits None = Some None
 number_if_given limits (Some text) = option_map (λ n. Some n) (setting_of limits (Some text))
 
--- a word, which is any number of the trace's grammar, and a rate
-abbrev pub extras_of : Option Text → Option Text → Option Extras
-extras_of why pace =
-    option_and_then (λ why. option_map (λ rate. record { why = why; rate = rate })
+-- a word, which is any number of the trace's grammar, a rate, and whether sites are kept
+abbrev pub extras_of : Option Text → Option Text → Bool → Option Extras
+extras_of why pace sites =
+    option_and_then (λ why. option_map (λ rate. record { why = why; rate = rate; sites = sites })
     (number_if_given (limits 1 1024 0) pace))
     (number_if_given (limits 0 (2 ^ 32 - 1) 0) why)
 
@@ -136,24 +152,28 @@ reading settings file None = None
 reading settings file (Some extras) =
     Some (record { settings = settings; file = file_of file; generated = None; extras = extras })
 
--- With a generated trace no file is read, nothing stands behind the log, and cycles aren't paced.
+-- With a generated trace no file is read, nothing stands behind the log, cycles aren't paced, and no sites are kept.
 abbrev pub generating : Settings → Option GeneratedTrace → Option Choice
 generating settings None = None
 generating settings (Some trace) =
     Some (record { settings = settings; file = None; generated = Some trace; extras = no_extras })
 
--- `--gen` and `--count` stand together or not at all, and neither stands beside FILE, `--why` or `--pace`.
-abbrev pub choice_with : Settings → Option Text → Option Text → Option Text → Option Text → Option Text
-    → Option Choice
-choice_with settings None None file why pace = reading settings file (extras_of why pace)
-choice_with settings (Some seed) (Some count) None None None = generating settings (trace_of seed count)
-choice_with settings seed count file why pace = None
+-- none of FILE, `--why`, `--pace` and `--sites` stands there
+abbrev pub is_plain : Values → Bool
+is_plain values = is_none values.file && is_none values.why && is_none values.pace && not values.sites
+
+-- `--gen` and `--count` stand together or not at all, and beside them nothing but what sets something of the heap.
+abbrev pub choice_with : Settings → Option Text → Option Text → Bool → Option Choice → Option Choice
+choice_with settings None None plain read = read
+choice_with settings (Some seed) (Some count) true read = generating settings (trace_of seed count)
+choice_with settings seed count plain read = None
 
 -- what the values ask for
 abbrev pub choice_from : Values → Option Choice
 choice_from values =
     option_and_then
-    (λ settings. choice_with settings values.generated values.count values.file values.why values.pace)
+    (λ settings. choice_with settings values.generated values.count (is_plain values)
+    (reading settings values.file (extras_of values.why values.pace values.sites)))
     (settings_of values)
 
 -- what the values ask for that the program's command gives for a list, whose first word is the program's name

@@ -3,13 +3,13 @@ ghost use Rattle.std.specs.Prelude.{◌≡◌, ◌≤◌, IfOk, None};
 ghost use Rattle.mm_gc.specs.Gc.{view_of_gc};
 ghost use Rattle.mm_model.specs.Good.{IsGood};
 ghost use Rattle.mm_model.specs.State.{State};
-ghost use Rattle.mm_model.specs.Views.View.{Shows};
-ghost use Rattle.mmgc.specs.Added.{IsAddedText};
-ghost use Rattle.mmgc.specs.Appending.{Appended, HasPages, IsReadyFor, asked_of};
+ghost use Rattle.mm_model.specs.Views.View.{Shows, view_of};
+ghost use Rattle.mm_why.specs.Path.{shown_in};
+ghost use Rattle.mmgc.specs.Added.{IsAnswer};
+ghost use Rattle.mmgc.specs.Appending.{Appended, HasPages, IsReadyFor, word_of};
 ghost use Rattle.mmgc.specs.Logging.{kept_by, KeepsOn};
 
 use crate::answer::write_why;
-use crate::extras::Extras;
 use crate::log::LogWriter;
 use mm_gc::Gc;
 use mm_io::Sink;
@@ -41,14 +41,15 @@ impl Question {
 }
 
 impl Appendix {
-    /// What is asked for, behind the log of a heap of at most so many pages.
-    pub(crate) fn make(alloc: Global, extras: Extras, pages: u32) -> Result<Appendix, AllocError>
+    /// Why the object is kept in which a word falls, if that is asked, behind the log of a heap of at most so many
+    /// pages.
+    pub(crate) fn make(alloc: Global, why: Option<u32>, pages: u32) -> Result<Appendix, AllocError>
         requires two { 2 ≤ pages }
         requires most { pages ≤ 4096 }
-        ensures asked { IfOk result (λ appendix. asked_of extras.rate appendix ≡ extras) }
+        ensures asked { IfOk result (λ appendix. word_of appendix ≡ why) }
         ensures ready { IfOk result (λ appendix. IsReadyFor pages appendix) }
     {
-        match extras.why {
+        match why {
             Some(word) => {
                 let question = Question::make(alloc, word, pages)?;
                 Ok(Appendix {
@@ -64,7 +65,7 @@ impl Appendix {
         requires shows { HasPages (view_of_gc heap.now) }
         requires ready { IsReadyFor heap.now.settings.max self.old }
         ensures written { (a : State) → Shows (view_of_gc heap.now) a →
-            Appended (IsAddedText (asked_of None self.old) a)
+            Appended (IsAnswer (word_of self.old) (shown_in (view_of a)))
             (kept_by K.taken log.old) (kept_by K.taken log.new) }
         ensures kept { KeepsOn K.faults K.taken log.old log.new }
     {

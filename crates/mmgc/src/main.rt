@@ -10,6 +10,7 @@ ghost use Rattle.mmgc.specs.Telling.{IsTold};
 mod answer;
 mod appendix;
 mod execute;
+mod executor;
 mod extras;
 mod generating;
 mod generator;
@@ -18,6 +19,7 @@ mod pacer;
 mod program;
 mod quiet;
 mod replay;
+mod site_book;
 #[cfg(test)]
 mod tests;
 mod words;

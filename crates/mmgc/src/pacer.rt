@@ -1,6 +1,6 @@
-// What paces the cycles of a replay.
-ghost use Rattle.std.specs.Prelude.{◌≡◌, ℕ, ◌+◌, ◌∷◌, ◌++◌, [], ◌==◌, if◌then◌else◌, not, IsTrue, IfSome, List, Some};
-ghost use Rattle.std.specs.Prelude.{None, ◌≤◌, ◌*◌, ◌&&◌, false, IsSome, MatchBool, nat_le, nat_lt};
+// What is added to the commands of a trace where cycles are paced.
+ghost use Rattle.std.specs.Prelude.{◌≡◌, ℕ, ◌+◌, ◌∷◌, ◌++◌, [], ◌==◌, if◌then◌else◌, not, IsTrue, List, Some, ◌≤◌, ◌*◌};
+ghost use Rattle.std.specs.Prelude.{◌&&◌, false, nat_le, nat_lt, is_some};
 ghost use Rattle.std.specs.List.{sum_by};
 ghost use Rattle.mm_gc.specs.Gc.{totals_in, view_of_gc};
 ghost use Rattle.mm_model.specs.declared.command.Command.TheVariants as commands;
@@ -15,31 +15,22 @@ ghost use Rattle.mm_pace.specs.Recent.{extent_born};
 ghost use Rattle.mm_pace.specs.Rules.{due_begin, due_finish, due_step, rules_at};
 ghost use Rattle.mm_pace.specs.Work.{is_running, work_of};
 ghost use Rattle.mm_sited.specs.Extents.{IsExtent};
+ghost use Rattle.mmgc.specs.Booking.{AreBooked};
 ghost use Rattle.mmgc.specs.Counting.{IsNoted, bytes_of, changes};
-ghost use Rattle.mmgc.specs.Logging.{driver_of, kept_by, left_of, KeepsOn};
-ghost use Rattle.mmgc.specs.Pacing.{Advances, Applies, AppliesAll, CanDrive, Drives, IsDriven, IsFresh, IsReady};
-ghost use Rattle.mmgc.specs.Pacing.{Paces};
-ghost use Rattle.mmgc.specs.Requests.{IsRate};
+ghost use Rattle.mmgc.specs.Logging.{left_of, KeepsOn};
+ghost use Rattle.mmgc.specs.Pacing.{Applies, AppliesAll, CanDrive, Drives, IsDriven, Paces, team_of};
 
-use crate::execute::execute;
+use crate::execute::execute_booked;
 use crate::log::LogWriter;
+use crate::site_book::SiteBook;
 use crate::work::work_of;
 use mm_gc::Gc;
 use mm_io::Sink;
 use mm_model::{Command, Reply};
 use mm_pace::{
-    Pace, begin_begins_a_cycle, bytes_and_work_are_counted_on, paced_lists_can_be_carried_on,
-    the_last_turn_tells_of_the_state,
+    Pace, begin_begins_a_cycle, bytes_and_work_are_counted_on, the_last_turn_tells_of_the_state,
 };
 use mm_sited::object_extent;
-use std::marker::Brand;
-use std::sync::ledger::Blank;
-
-/// What paces cycles, where they are paced.
-#[derive(Drop)]
-pub(crate) struct Pacer {
-    pub(crate) pace: Option<Pace>,
-}
 
 /// The bytes that were born in a command, by its reply.
 fn bytes_born(command: &Command, reply: Reply) -> u32
@@ -105,18 +96,25 @@ fn note(pace: &mut Pace, ran: bool, runs: bool, work: u32, bytes: u32)
 }
 
 /// Carries out a command and counts what it did.
-fn carry_out<K: Sink>(pace: &mut Pace, heap: &mut Gc, log: &mut LogWriter<'_, K>, command: &Command)
-    requires ready { CanDrive 1 pace.old heap.old }
+fn carry_out<K: Sink>(
+    pace: &mut Pace,
+    heap: &mut Gc,
+    book: &mut Option<SiteBook>,
+    log: &mut LogWriter<'_, K>,
+    command: &Command,
+)
+    requires ready { CanDrive 1 (team_of pace.old heap.old book.old) }
     ensures driven { (settings : Settings) (turns : List Turn) → IsDriven settings turns 0 pace.old heap.old
-        → Drives settings turns command.now (left_of K.taken pace.new heap.new log.old log.new) }
+        → Drives settings turns command.now (left_of K.taken (team_of pace.new heap.new book.new) book.old log.old log.new) }
     ensures rate { pace.new.rate ≡ pace.old.rate }
+    ensures book { is_some book.new ≡ is_some book.old }
     ensures kept { KeepsOn K.faults K.taken log.old log.new }
 {
     begin_begins_a_cycle();
     bytes_and_work_are_counted_on();
     let ran = heap.running();
     let work = work_to_begin(heap, command);
-    let reply = execute::<K, Brand>(heap, log, command, Blank::new(1));
+    let reply = execute_booked(heap, log, book, command);
     note(pace, ran, heap.running(), work, bytes_born(command, reply));
 }
 
@@ -137,146 +135,112 @@ fn is_begin_due(pace: &Pace, heap: &Gc) -> bool
 }
 
 /// A step of the cycle for what was born in the last command, where one runs.
-fn step_for_birth<K: Sink>(pace: &mut Pace, heap: &mut Gc, log: &mut LogWriter<'_, K>)
-    requires ready { CanDrive 1 pace.old heap.old }
+fn step_for_birth<K: Sink>(
+    pace: &mut Pace,
+    heap: &mut Gc,
+    book: &mut Option<SiteBook>,
+    log: &mut LogWriter<'_, K>,
+)
+    requires ready { CanDrive 1 (team_of pace.old heap.old book.old) }
     ensures applied { (settings : Settings) (turns : List Turn) (turn : Turn)
         → IsDriven settings (turns ++ turn ∷ []) (bytes_of turn) pace.old heap.old
         → Applies (due_step pace.old.rate) settings (turns ++ turn ∷ [])
-        (left_of K.taken pace.new heap.new log.old log.new) }
+        (left_of K.taken (team_of pace.new heap.new book.new) book.old log.old log.new) }
     ensures rate { pace.new.rate ≡ pace.old.rate }
+    ensures book { is_some book.new ≡ is_some book.old }
     ensures kept { KeepsOn K.faults K.taken log.old log.new }
 {
     if !heap.running() {
         return;
     }
     match pace.step_size() {
-        Some(k) => carry_out(pace, heap, log, &Command::Step(k)),
+        Some(k) => carry_out(pace, heap, book, log, &Command::Step(k)),
         None => {}
     }
 }
 
 /// The end of the cycle, where enough was born since it began.
-fn finish_in_time<K: Sink>(pace: &mut Pace, heap: &mut Gc, log: &mut LogWriter<'_, K>)
-    requires ready { CanDrive 1 pace.old heap.old }
+fn finish_in_time<K: Sink>(
+    pace: &mut Pace,
+    heap: &mut Gc,
+    book: &mut Option<SiteBook>,
+    log: &mut LogWriter<'_, K>,
+)
+    requires ready { CanDrive 1 (team_of pace.old heap.old book.old) }
     ensures applied { (settings : Settings) (turns : List Turn) → IsDriven settings turns 0 pace.old heap.old
-        → Applies (due_finish pace.old.rate) settings turns (left_of K.taken pace.new heap.new log.old log.new) }
+        → Applies (due_finish pace.old.rate) settings turns (left_of K.taken (team_of pace.new heap.new book.new) book.old log.old log.new) }
     ensures rate { pace.new.rate ≡ pace.old.rate }
+    ensures book { is_some book.new ≡ is_some book.old }
     ensures kept { KeepsOn K.faults K.taken log.old log.new }
 {
     the_last_turn_tells_of_the_state();
     if is_end_due(pace, heap) {
-        carry_out(pace, heap, log, &Command::Finish);
+        carry_out(pace, heap, book, log, &Command::Finish);
     }
 }
 
 /// A new cycle, where none runs, enough was born and there is work.
-fn begin_in_time<K: Sink>(pace: &mut Pace, heap: &mut Gc, log: &mut LogWriter<'_, K>)
-    requires ready { CanDrive 1 pace.old heap.old }
+fn begin_in_time<K: Sink>(
+    pace: &mut Pace,
+    heap: &mut Gc,
+    book: &mut Option<SiteBook>,
+    log: &mut LogWriter<'_, K>,
+)
+    requires ready { CanDrive 1 (team_of pace.old heap.old book.old) }
     ensures applied { (settings : Settings) (turns : List Turn) → IsDriven settings turns 0 pace.old heap.old
-        → Applies due_begin settings turns (left_of K.taken pace.new heap.new log.old log.new) }
+        → Applies due_begin settings turns (left_of K.taken (team_of pace.new heap.new book.new) book.old log.old log.new) }
     ensures rate { pace.new.rate ≡ pace.old.rate }
+    ensures book { is_some book.new ≡ is_some book.old }
     ensures kept { KeepsOn K.faults K.taken log.old log.new }
 {
     the_last_turn_tells_of_the_state();
     if is_begin_due(pace, heap) {
-        carry_out(pace, heap, log, &Command::Begin);
+        carry_out(pace, heap, book, log, &Command::Begin);
     }
 }
 
 /// Applies the rules to the last command, once each in order.
-fn apply_rules<K: Sink>(pace: &mut Pace, heap: &mut Gc, log: &mut LogWriter<'_, K>)
-    requires ready { CanDrive 3 pace.old heap.old }
-    requires last { (settings : Settings) × (turns : List Turn) × (turn : Turn)
-        × IsDriven settings (turns ++ turn ∷ []) (bytes_of turn) pace.old heap.old }
+fn apply_rules<K: Sink>(
+    pace: &mut Pace,
+    heap: &mut Gc,
+    book: &mut Option<SiteBook>,
+    log: &mut LogWriter<'_, K>,
+)
+    requires ready { CanDrive 3 (team_of pace.old heap.old book.old) }
+    requires last { (settings : Settings) × (turns : List Turn) × (turn : Turn) × (sites : List ℕ) × (site : ℕ)
+        × IsDriven settings (turns ++ turn ∷ []) (bytes_of turn) pace.old heap.old
+        × AreBooked settings (turns ++ turn ∷ []) sites site book.old }
     ensures applied { (settings : Settings) (turns : List Turn) (turn : Turn)
         → IsDriven settings (turns ++ turn ∷ []) (bytes_of turn) pace.old heap.old
         → AppliesAll (rules_at pace.old.rate) settings (turns ++ turn ∷ [])
-        (left_of K.taken pace.new heap.new log.old log.new) }
+        (left_of K.taken (team_of pace.new heap.new book.new) book.old log.old log.new) }
     ensures rate { pace.new.rate ≡ pace.old.rate }
+    ensures book { is_some book.new ≡ is_some book.old }
     ensures kept { KeepsOn K.faults K.taken log.old log.new }
 {
-    step_for_birth(pace, heap, log);
-    finish_in_time(pace, heap, log);
-    begin_in_time(pace, heap, log);
+    step_for_birth(pace, heap, book, log);
+    finish_in_time(pace, heap, book, log);
+    begin_in_time(pace, heap, book, log);
 }
 
 /// Carries out a command of the trace, and what the rules add after it.
 #[inline(never)]
-fn pace_command<K: Sink>(
+pub(crate) fn pace_command<K: Sink>(
     pace: &mut Pace,
     heap: &mut Gc,
+    book: &mut Option<SiteBook>,
     log: &mut LogWriter<'_, K>,
     command: &Command,
 )
-    requires ready { CanDrive 4 pace.old heap.old }
-    requires paid { (settings : Settings) × (turns : List Turn) × IsDriven settings turns 0 pace.old heap.old }
+    requires ready { CanDrive 4 (team_of pace.old heap.old book.old) }
+    requires paid { (settings : Settings) × (turns : List Turn) × (sites : List ℕ) × (site : ℕ)
+        × IsDriven settings turns 0 pace.old heap.old × AreBooked settings turns sites site book.old }
     ensures paced { (settings : Settings) (turns : List Turn) → IsDriven settings turns 0 pace.old heap.old
-        → Paces pace.old.rate settings turns command.now (left_of K.taken pace.new heap.new log.old log.new) }
+        → Paces pace.old.rate settings turns command.now (left_of K.taken (team_of pace.new heap.new book.new) book.old log.old log.new) }
     ensures rate { pace.new.rate ≡ pace.old.rate }
+    ensures book { is_some book.new ≡ is_some book.old }
     ensures kept { KeepsOn K.faults K.taken log.old log.new }
 {
-    carry_out(pace, heap, log, command);
-    apply_rules(pace, heap, log);
-}
-
-impl Pacer {
-    /// What paces cycles at a rate, or doesn't, before the first command.
-    pub(crate) fn make(rate: Option<u32>) -> Pacer
-        requires { IfSome rate IsRate }
-        ensures { IsFresh rate result.pace }
-    {
-        match rate {
-            Some(rate) => Pacer {
-                pace: Some(Pace::make(rate)),
-            },
-            None => Pacer { pace: None },
-        }
-    }
-
-    /// Whether cycles are paced.
-    #[inline(always)]
-    pub(crate) fn paces(&self) -> bool
-        ensures { MatchBool result (IsSome self.now.pace) (self.now.pace ≡ None) }
-    {
-        self.pace.is_some()
-    }
-
-    /// Carries out a command of the trace where cycles aren't paced.
-    #[inline(always)]
-    pub(crate) fn execute_alone<K: Sink>(
-        &self,
-        heap: &mut Gc,
-        log: &mut LogWriter<'_, K>,
-        command: &Command,
-    )
-        requires ready { IsReady (driver_of heap.old self.now) }
-        requires alone { self.now.pace ≡ None }
-        ensures advanced { Advances (driver_of heap.old self.now) (driver_of heap.new self.now) command.now
-            (kept_by K.taken log.old) (kept_by K.taken log.new) }
-        ensures kept { KeepsOn K.faults K.taken log.old log.new }
-    {
-        let _ = execute::<K, Brand>(heap, log, command, Blank::new(1));
-    }
-
-    /// Carries out a command of the trace, and where cycles are paced what is added after it.
-    #[inline(always)]
-    pub(crate) fn execute<K: Sink>(
-        &mut self,
-        heap: &mut Gc,
-        log: &mut LogWriter<'_, K>,
-        command: &Command,
-    )
-        requires { IsReady (driver_of heap.old self.old) }
-        ensures advanced { Advances (driver_of heap.old self.old) (driver_of heap.new self.new) command.now
-            (kept_by K.taken log.old) (kept_by K.taken log.new) }
-        ensures kept { KeepsOn K.faults K.taken log.old log.new }
-    {
-        paced_lists_can_be_carried_on();
-        match &mut self.pace {
-            Some(pace) => pace_command(pace, heap, log, command),
-            None => {
-                let _ = execute::<K, Brand>(heap, log, command, Blank::new(1));
-            }
-        }
-    }
+    carry_out(pace, heap, book, log, command);
+    apply_rules(pace, heap, book, log);
 }

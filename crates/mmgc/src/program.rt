@@ -10,16 +10,19 @@ ghost use Rattle.mmgc.specs.Appending.{IsPrepared};
 ghost use Rattle.mmgc.specs.Completing.{IsComplete};
 ghost use Rattle.mm_io.specs.Told.{NamedFile};
 ghost use Rattle.mmgc.specs.Generator.{most_generated};
+ghost use Rattle.mmgc.specs.Logging.{driver_of};
 ghost use Rattle.mmgc.specs.Program.{EndsUnwritten, IsInput, IsUnread, Ran, Serves, status_of};
 ghost use Rattle.mmgc.specs.Requests.{IsAllowed, IsRate, asked_by};
 ghost use Rattle.mmgc.specs.Run.{Input};
 ghost use Rattle.mmgc.specs.Telling.{IsTold, Takes, end_text, line_text};
 
 use crate::appendix::Appendix;
+use crate::executor::Executor;
 use crate::extras::Extras;
 use crate::generating::carry_out_generated;
 use crate::generator::GeneratedTrace;
 use crate::replay::{End, carry_out};
+use crate::site_book::make_book;
 use crate::words::{Request, WordsFault, list_words, read_words};
 use mm_gc::{Gc, Settings};
 use mm_io::{ChooseFault, Failed, Sink, Source, write_all};
@@ -132,14 +135,20 @@ fn open_input<S: Source>(source: &mut S, file: Option<&str>) -> Result<(), Choos
     }
 }
 
-/// A heap, and what stands behind its log, with all the memory that they need.
-fn prepare(alloc: Global, settings: Settings, extras: Extras) -> Result<(Gc, Appendix), AllocError>
-    requires { IsWithinLimits settings }
-    ensures { IfOk result (λ made. IsPrepared settings extras made.0 made.1) }
+/// A heap, what drives it, and what stands behind its log, with all the memory that they need.
+fn prepare(
+    alloc: Global,
+    settings: Settings,
+    extras: Extras,
+) -> Result<(Gc, Executor, Appendix), AllocError>
+    requires settings { IsWithinLimits settings }
+    requires rate { IfSome extras.rate IsRate }
+    ensures { IfOk result (λ made. IsPrepared settings extras (driver_of made.0 made.1) made.2) }
 {
-    let appendix = Appendix::make(alloc, extras, settings.max)?;
+    let book = make_book(alloc, extras.sites, settings.max)?;
+    let appendix = Appendix::make(alloc, extras.why, settings.max)?;
     let heap = Gc::make(alloc, settings)?;
-    Ok((heap, appendix))
+    Ok((heap, Executor::make(extras.rate, book), appendix))
 }
 
 /// Replays the input of `source` on a new heap.
@@ -180,8 +189,8 @@ fn replay<S: Source, K: Sink, E: Sink>(
     cycles_end_in_time();
     match prepare(alloc, settings, extras) {
         Err(_) => no_memory(err),
-        Ok((mut heap, mut appendix)) => {
-            let end = carry_out(&mut heap, source, out, &mut appendix, extras.rate);
+        Ok((mut heap, executor, mut appendix)) => {
+            let end = carry_out(&mut heap, source, out, executor, &mut appendix);
             tell_end(err, end);
             Outcome {
                 status: end.status(),

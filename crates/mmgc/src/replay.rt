@@ -10,20 +10,23 @@ ghost use Rattle.mm_model.specs.declared.settings.Settings.{Settings};
 ghost use Rattle.mm_model.specs.Logs.Trace.{complete_lines, line_reading, lines_of, FaultAt};
 ghost use Rattle.mmgc.specs.Appending.{HasPages, IsReadyFor, asked_of};
 ghost use Rattle.mmgc.specs.Carrying.{Grew};
-ghost use Rattle.mmgc.specs.Logging.{driver_of, kept_by, moment_of, KeepsOn};
-ghost use Rattle.mmgc.specs.Pacing.{Advances, IsFresh, IsReady};
-ghost use Rattle.mmgc.specs.Replaying.{DoesLine, GoesOn, IsNew, IsUnderWay, Progress, Start, Stopped};
-ghost use Rattle.mmgc.specs.Requests.{IsRate};
+ghost use Rattle.mmgc.specs.Logging.{book_of, driver_of, kept_by, moment_of, noting_executor, KeepsOn};
+ghost use Rattle.mmgc.specs.Pacing.{Advances, IsReady};
+ghost use Rattle.mmgc.specs.Replaying.{DoesLine, GoesOn, IsNewDriver, IsUnderWay, Progress, Start, Stopped};
 ghost use Rattle.mmgc.specs.Replaying.{most_bytes};
 ghost use Rattle.mmgc.specs.Run.{Ended, Input, IsFaultOf, Logged, NothingLeft, Reach, Replayed, Turns, lines_in};
 
 use crate::appendix::Appendix;
+use crate::executor::Executor;
 use crate::log::LogWriter;
-use crate::pacer::Pacer;
 use mm_gc::Gc;
 use mm_io::{Sink, Source};
 use mm_model::{Line, LineFault};
 use mm_pace::a_trace_is_at_most_quadrupled;
+use mm_sites::{
+    lines_of_sites_are_passed_over, nothing_is_entered_at_first,
+    sites_of_lines_come_one_after_another, totals_are_those_of_the_living,
+};
 use mm_trace::{Cutter, line_end, parse_line, parse_plain_line};
 
 /// How a replay ended.
@@ -47,7 +50,7 @@ struct Replay {
     cutter: Cutter,
     /// The lines that were read so far.
     lines: u32,
-    pacer: Pacer,
+    executor: Executor,
 }
 
 /// Carries out what a line says.
@@ -56,49 +59,79 @@ struct Replay {
 fn take_line<K: Sink>(
     heap: &mut Gc,
     log: &mut LogWriter<'_, K>,
-    pacer: &mut Pacer,
+    executor: &mut Executor,
     line: &[u8],
 ) -> Result<(), LineFault>
-    requires { IsReady (driver_of heap.old pacer.old) }
+    requires { IsReady (driver_of heap.old executor.old) }
     ensures done { DoesLine (line_reading line.now) result
-        ((heap.new ≡ heap.old) × (pacer.new ≡ pacer.old) × (log.new ≡ log.old))
-        (λ command. Advances (driver_of heap.old pacer.old) (driver_of heap.new pacer.new) command
+        ((heap.new ≡ heap.old) × (executor.new ≡ executor.old) × (log.new ≡ log.old))
+        ((heap.new ≡ heap.old) × (executor.new ≡ noting_executor line.now executor.old) × (log.new ≡ log.old))
+        (λ command. Advances (driver_of heap.old executor.old) (driver_of heap.new executor.new) command
         (kept_by K.taken log.old) (kept_by K.taken log.new)) }
     ensures kept { KeepsOn K.faults K.taken log.old log.new }
 {
     match parse_line(line)? {
-        None => Ok(()),
+        None => {
+            executor.note_line(line);
+            Ok(())
+        }
         Some(command) => {
-            pacer.execute(heap, log, &command);
+            executor.execute(heap, log, &command);
+            Ok(())
+        }
+    }
+}
+
+/// The same for a line that lies whole in a piece, where something is kept beside the heap.
+#[inline(never)]
+fn take_kept_line<K: Sink>(
+    heap: &mut Gc,
+    log: &mut LogWriter<'_, K>,
+    executor: &mut Executor,
+    line: &[u8],
+) -> Result<(), LineFault>
+    requires { IsReady (driver_of heap.old executor.old) }
+    ensures done { DoesLine (line_reading line.now) result
+        ((heap.new ≡ heap.old) × (executor.new ≡ executor.old) × (log.new ≡ log.old))
+        ((heap.new ≡ heap.old) × (executor.new ≡ noting_executor line.now executor.old) × (log.new ≡ log.old))
+        (λ command. Advances (driver_of heap.old executor.old) (driver_of heap.new executor.new) command
+        (kept_by K.taken log.old) (kept_by K.taken log.new)) }
+    ensures kept { KeepsOn K.faults K.taken log.old log.new }
+{
+    match parse_plain_line(line) {
+        None => take_line(heap, log, executor, line),
+        Some(command) => {
+            executor.execute(heap, log, &command);
             Ok(())
         }
     }
 }
 
 /// The same for a line that lies whole in a piece, as most do.
-// Whether cycles are paced is asked before the line is read, and the quick way to read one stands here alone. So where
-// they aren't, what is read of a command leads straight to what carries it out.
+// Whether something is kept beside the heap is asked before the line is read. So where nothing is, what is read of a
+// command leads straight to what carries it out.
 #[inline(always)]
 fn take_whole_line<K: Sink>(
     heap: &mut Gc,
     log: &mut LogWriter<'_, K>,
-    pacer: &mut Pacer,
+    executor: &mut Executor,
     line: &[u8],
 ) -> Result<(), LineFault>
-    requires { IsReady (driver_of heap.old pacer.old) }
+    requires { IsReady (driver_of heap.old executor.old) }
     ensures done { DoesLine (line_reading line.now) result
-        ((heap.new ≡ heap.old) × (pacer.new ≡ pacer.old) × (log.new ≡ log.old))
-        (λ command. Advances (driver_of heap.old pacer.old) (driver_of heap.new pacer.new) command
+        ((heap.new ≡ heap.old) × (executor.new ≡ executor.old) × (log.new ≡ log.old))
+        ((heap.new ≡ heap.old) × (executor.new ≡ noting_executor line.now executor.old) × (log.new ≡ log.old))
+        (λ command. Advances (driver_of heap.old executor.old) (driver_of heap.new executor.new) command
         (kept_by K.taken log.old) (kept_by K.taken log.new)) }
     ensures kept { KeepsOn K.faults K.taken log.old log.new }
 {
-    if pacer.paces() {
-        return take_line(heap, log, pacer, line);
+    if !executor.is_idle() {
+        return take_kept_line(heap, log, executor, line);
     }
     match parse_plain_line(line) {
-        None => take_line(heap, log, pacer, line),
+        None => take_line(heap, log, executor, line),
         Some(command) => {
-            pacer.execute_alone(heap, log, &command);
+            executor.execute_alone(heap, log, &command);
             Ok(())
         }
     }
@@ -112,17 +145,19 @@ impl Replay {
         log: &mut LogWriter<'_, K>,
         rest: &[u8],
     ) -> Result<(), LineFault>
-        requires { IsReady (driver_of heap.old self.old.pacer) }
+        requires { IsReady (driver_of heap.old self.old.executor) }
         ensures done { DoesLine (line_reading (self.old.cutter ++ rest.now)) result
-            ((heap.new ≡ heap.old) × (self.new.pacer ≡ self.old.pacer) × (log.new ≡ log.old))
-            (λ command. Advances (driver_of heap.old self.old.pacer) (driver_of heap.new self.new.pacer) command
+            ((heap.new ≡ heap.old) × (self.new.executor ≡ self.old.executor) × (log.new ≡ log.old))
+            ((heap.new ≡ heap.old) × (self.new.executor ≡ noting_executor (self.old.cutter ++ rest.now) self.old.executor)
+            × (log.new ≡ log.old))
+            (λ command. Advances (driver_of heap.old self.old.executor) (driver_of heap.new self.new.executor) command
             (kept_by K.taken log.old) (kept_by K.taken log.new)) }
         ensures kept { KeepsOn K.faults K.taken log.old log.new }
         ensures cutter { OnOk result (self.new.cutter ≡ []) }
         ensures lines { self.new.lines ≡ self.old.lines }
     {
         self.cutter.extend(rest)?;
-        let taken = take_line(heap, log, &mut self.pacer, self.cutter.bytes());
+        let taken = take_line(heap, log, &mut self.executor, self.cutter.bytes());
         self.cutter.clear();
         taken
     }
@@ -141,13 +176,16 @@ impl Replay {
             GoesOn result
             (Progress start ((bytes ++ line.now) ++ 10 ∷ []) (moment_of K.taken heap.new self.new log.new))
             (λ fault. (rest : List ℕ) → Stopped start (complete_lines ((bytes ++ line.now) ++ 10 ∷ rest))
-            (Some (record { line = self.new.lines; fault = fault })) heap.new (kept_by K.taken log.new)) }
+            (Some (record { line = self.new.lines; fault = fault })) (driver_of heap.new self.new.executor)
+            (kept_by K.taken log.new)) }
         ensures kept { KeepsOn K.faults K.taken log.old log.new }
     {
         a_trace_is_at_most_quadrupled();
+        sites_of_lines_come_one_after_another();
+        lines_of_sites_are_passed_over();
         self.lines += 1;
         if self.cutter.is_empty() {
-            return take_whole_line(heap, log, &mut self.pacer, line);
+            return take_whole_line(heap, log, &mut self.executor, line);
         }
         self.take_joined(heap, log, line)
     }
@@ -160,7 +198,7 @@ impl Replay {
         ensures fits { OnOk result (length self.old.cutter + length bytes.now ≤ 1024) }
         ensures too_long { IfErr result (λ fault. (fault ≡ LineTooLong)
             × (1024 < length self.old.cutter + length bytes.now) × (self.new.lines ≡ self.old.lines + 1)) }
-        ensures pacer { self.new.pacer ≡ self.old.pacer }
+        ensures executor { self.new.executor ≡ self.old.executor }
     {
         match self.cutter.extend(bytes) {
             Ok(()) => Ok(()),
@@ -184,9 +222,12 @@ impl Replay {
             Progress start bytes (moment_of K.taken heap.old self.old log.old) →
             GoesOn result (Progress start (bytes ++ piece.now) (moment_of K.taken heap.new self.new log.new))
             (λ fault. Stopped start (complete_lines (bytes ++ piece.now))
-            (Some (record { line = self.new.lines; fault = fault })) heap.new (kept_by K.taken log.new)) }
+            (Some (record { line = self.new.lines; fault = fault })) (driver_of heap.new self.new.executor)
+            (kept_by K.taken log.new)) }
         ensures kept { KeepsOn K.faults K.taken log.old log.new }
     {
+        sites_of_lines_come_one_after_another();
+        lines_of_sites_are_passed_over();
         let mut rest = piece;
         while let Some(end) = line_end(rest) {
             self.take_ended(heap, log, &rest[..end])?;
@@ -204,17 +245,20 @@ impl Replay {
         requires { IsUnderWay (moment_of K.taken heap.old self.old log.old) 0 }
         ensures stopped { (start : Start) (bytes : List ℕ) → length bytes ≤ most_bytes →
             Progress start bytes (moment_of K.taken heap.old self.old log.old) →
-            GoesOn result (Stopped start (lines_of bytes) None heap.new (kept_by K.taken log.new))
+            GoesOn result (Stopped start (lines_of bytes) None (driver_of heap.new self.new.executor)
+            (kept_by K.taken log.new))
             (λ fault. Stopped start (lines_of bytes) (Some (record { line = self.new.lines; fault = fault }))
-            heap.new (kept_by K.taken log.new)) }
+            (driver_of heap.new self.new.executor) (kept_by K.taken log.new)) }
         ensures kept { KeepsOn K.faults K.taken log.old log.new }
     {
         a_trace_is_at_most_quadrupled();
+        sites_of_lines_come_one_after_another();
+        lines_of_sites_are_passed_over();
         if self.cutter.is_empty() {
             return Ok(());
         }
         self.lines += 1;
-        take_line(heap, log, &mut self.pacer, self.cutter.bytes())
+        take_line(heap, log, &mut self.executor, self.cutter.bytes())
     }
 
     /// Writes what is pending, and then reads once and takes what was read; `room` is how many bytes a trace may still
@@ -358,16 +402,15 @@ impl Replay {
     }
 
     /// A replay of which nothing was read yet.
-    fn make(rate: Option<u32>) -> Replay
-        requires { IfSome rate IsRate }
+    fn make(executor: Executor) -> Replay
         ensures cutter { result.cutter ≡ [] }
         ensures lines { result.lines ≡ 0 }
-        ensures pacer { IsFresh rate result.pacer.pace }
+        ensures executor { result.executor ≡ executor }
     {
         Replay {
             cutter: Cutter::make(),
             lines: 0,
-            pacer: Pacer::make(rate),
+            executor,
         }
     }
 
@@ -379,16 +422,17 @@ impl Replay {
         source: &mut S,
         appendix: &mut Appendix,
     ) -> End
-        requires heap { (settings : Settings) × IsNew settings heap.old }
+        requires new { (rate : Option ℕ) × (settings : Settings)
+            × IsNewDriver rate settings (driver_of heap.old self.old.executor) }
         requires cutter { self.old.cutter ≡ [] }
         requires lines { self.old.lines ≡ 0 }
-        requires pacer { (rate : Option ℕ) × IsFresh rate self.old.pacer.pace }
         requires whole { log.old.broken ≡ false }
         requires pending { log.old.pending.items ≡ [] }
         requires ready { IsReadyFor heap.old.settings.max appendix.old }
-        ensures replayed { (settings : Settings) (rate : Option ℕ) → IsNew settings heap.old
-            → IsFresh rate self.old.pacer.pace →
-            Replayed result (record { settings = settings; extras = asked_of rate appendix.old })
+        ensures replayed { (rate : Option ℕ) (settings : Settings)
+            → IsNewDriver rate settings (driver_of heap.old self.old.executor) →
+            Replayed result
+            (record { settings = settings; extras = asked_of rate (book_of self.old.executor) appendix.old })
             (record {
               left = S.left source.old;
               left_after = S.left source.new;
@@ -406,24 +450,33 @@ impl Replay {
         ensures sink { K.faults log.old.sink.now ≤ K.faults log.new.sink.now }
         ensures same_sink { log.new.sink.ghost_name ≡ log.old.sink.ghost_name }
     {
+        nothing_is_entered_at_first();
         let read = self.read_all(heap, log, source);
-        finish(heap, log, appendix, read)
+        finish(heap, log, &self.executor, appendix, read)
     }
 }
 
 /// Writes the total line after a whole log, and what stands behind it.
-fn total<K: Sink>(heap: &Gc, log: &mut LogWriter<'_, K>, appendix: &mut Appendix, end: End)
+fn total<K: Sink>(
+    heap: &Gc,
+    log: &mut LogWriter<'_, K>,
+    executor: &Executor,
+    appendix: &mut Appendix,
+    end: End,
+)
     requires shows { HasPages (view_of_gc heap.now) }
     requires ready { IsReadyFor heap.now.settings.max appendix.old }
     ensures totalled { (start : Start) (reach : Reach) (fault : Option FaultAt) →
-        start.extras ≡ asked_of start.extras.rate appendix.old →
-        IsFaultOf end fault → Stopped start (lines_in reach) fault heap.now (kept_by K.taken log.old) →
+        start.extras ≡ asked_of start.extras.rate (book_of executor.now) appendix.old → IsFaultOf end fault →
+        Stopped start (lines_in reach) fault (driver_of heap.now executor.now) (kept_by K.taken log.old) →
         Logged end start reach heap.now (kept_by K.taken log.new) }
     ensures kept { KeepsOn K.faults K.taken log.old log.new }
 {
     match end {
         End::Whole => {
+            totals_are_those_of_the_living();
             log.line(&Line::Total(heap.totals()));
+            executor.write_sites(log);
             appendix.write(log, heap);
         }
         _ => {}
@@ -445,12 +498,18 @@ pub(crate) fn finish_log<K: Sink>(log: &mut LogWriter<'_, K>, end: End) -> End
 }
 
 /// Writes the rest of the log, and says how the replay ended.
-fn finish<K: Sink>(heap: &Gc, log: &mut LogWriter<'_, K>, appendix: &mut Appendix, end: End) -> End
+fn finish<K: Sink>(
+    heap: &Gc,
+    log: &mut LogWriter<'_, K>,
+    executor: &Executor,
+    appendix: &mut Appendix,
+    end: End,
+) -> End
     requires shows { HasPages (view_of_gc heap.now) }
     requires ready { IsReadyFor heap.now.settings.max appendix.old }
     ensures finished { (start : Start) (reach : Reach) (fault : Option FaultAt) →
-        start.extras ≡ asked_of start.extras.rate appendix.old →
-        IsFaultOf end fault → Stopped start (lines_in reach) fault heap.now (kept_by K.taken log.old) →
+        start.extras ≡ asked_of start.extras.rate (book_of executor.now) appendix.old → IsFaultOf end fault →
+        Stopped start (lines_in reach) fault (driver_of heap.now executor.now) (kept_by K.taken log.old) →
         Logged end start reach heap.now (kept_by K.taken log.new) }
     ensures ends { result ≡ cond log.new.broken End.WriteFailed end }
     ensures nothing_pending { log.new.broken ≡ false → log.new.pending.items ≡ [] }
@@ -458,7 +517,7 @@ fn finish<K: Sink>(heap: &Gc, log: &mut LogWriter<'_, K>, appendix: &mut Appendi
     ensures kept { KeepsOn K.faults K.taken log.old log.new }
     ensures same_sink { log.new.sink.ghost_name ≡ log.old.sink.ghost_name }
 {
-    total(heap, log, appendix, end);
+    total(heap, log, executor, appendix, end);
     finish_log(log, end)
 }
 
@@ -467,14 +526,13 @@ pub(crate) fn carry_out<S: Source, K: Sink>(
     heap: &mut Gc,
     source: &mut S,
     out: &mut K,
+    executor: Executor,
     appendix: &mut Appendix,
-    rate: Option<u32>,
 ) -> End
-    requires heap { (settings : Settings) × IsNew settings heap.old }
+    requires new { (rate : Option ℕ) × (settings : Settings) × IsNewDriver rate settings (driver_of heap.old executor) }
     requires ready { IsReadyFor heap.old.settings.max appendix.old }
-    requires rate { IfSome rate IsRate }
-    ensures replayed { (settings : Settings) → IsNew settings heap.old →
-        Replayed result (record { settings = settings; extras = asked_of rate appendix.old })
+    ensures replayed { (rate : Option ℕ) (settings : Settings) → IsNewDriver rate settings (driver_of heap.old executor) →
+        Replayed result (record { settings = settings; extras = asked_of rate (book_of executor) appendix.old })
         (record {
           left = S.left source.old;
           left_after = S.left source.new;
@@ -492,6 +550,6 @@ pub(crate) fn carry_out<S: Source, K: Sink>(
     ensures out { K.faults out.old ≤ K.faults out.new }
 {
     let mut log = LogWriter::make(out);
-    let mut replay = Replay::make(rate);
+    let mut replay = Replay::make(executor);
     replay.run(heap, &mut log, source, appendix)
 }

@@ -1,9 +1,10 @@
 // The words behind the program's name.
 ghost use Rattle.std.specs.Prelude.{◌≡◌, ◌≤◌, ◌∷◌, List, ℕ, false, None, Some, codes, map, option_map, string_bytes};
 ghost use Rattle.std.specs.Prelude.{IfOk, IfSome, IsErrOf};
-ghost use Rattle.clap.specs.Words.{app_of, found_of, kind_of, matches_of, rows_of, rule_of, takes};
+ghost use Rattle.clap.specs.Words.{app_of, found_of, kind_of, matches_of, rows_of, rule_of, takes, with_rule};
 ghost use Rattle.mm_model.specs.Places.Limits.{IsWithinLimits};
 ghost use Rattle.mmgc.specs.Words.{choice_from, choice_in, choice_taken, extras_of, file_of, generating, reading};
+ghost use Rattle.mmgc.specs.Words.{asking_app, flag_rule, is_plain, is_set};
 ghost use Rattle.mmgc.specs.Words.{limits, mmgc_app, option_rule, setting_of, settings_app, settings_of, trace_of};
 ghost use Rattle.mmgc.specs.Words.{number_if_given, values_in, with_option};
 ghost use Rattle.mmgc.specs.Requests.{IsAllowed, IsRate, asked_by, values_by};
@@ -11,7 +12,7 @@ ghost use Rattle.mmgc.specs.Requests.{IsAllowed, IsRate, asked_by, values_by};
 use crate::extras::Extras;
 use crate::generator::GeneratedTrace;
 use clap::error::ErrorKind;
-use clap::{Arg, ArgMatches, Command, Error};
+use clap::{Arg, ArgAction, ArgMatches, Command, Error};
 use mm_model::Settings;
 use mm_trace::number_of;
 use std::alloc::{AllocError, Global};
@@ -24,7 +25,7 @@ pub(crate) struct Request<'a> {
     pub(crate) file: Option<&'a str>,
     /// The trace to carry out in place of one that is read.
     pub(crate) generated: Option<GeneratedTrace>,
-    /// What is to stand behind the log, and whether cycles are paced.
+    /// What is to stand behind the log, whether cycles are paced, and whether sites are kept.
     pub(crate) extras: Extras,
 }
 
@@ -49,6 +50,7 @@ struct Given<'a> {
     count: Option<&'a str>,
     why: Option<&'a str>,
     pace: Option<&'a str>,
+    sites: bool,
     file: Option<&'a str>,
 }
 
@@ -65,6 +67,17 @@ fn with<'a>(command: Command<'a>, alloc: Global, name: &'a str) -> Result<Comman
     command.arg(option(alloc, name))
 }
 
+/// With an option that has no value.
+fn with_flag<'a>(
+    command: Command<'a>,
+    alloc: Global,
+    name: &'a str,
+) -> Result<Command<'a>, AllocError>
+    ensures { IfOk result (λ new. app_of new ≡ with_rule (app_of command.entry) (flag_rule name.entry.now)) }
+{
+    command.arg(option(alloc, name).action(ArgAction::SetTrue))
+}
+
 /// The command with the options of the heap.
 fn settings_command<'a>(alloc: Global) -> Result<Command<'a>, AllocError>
     ensures { IfOk result (λ command. app_of command ≡ settings_app) }
@@ -79,15 +92,23 @@ fn settings_command<'a>(alloc: Global) -> Result<Command<'a>, AllocError>
     with(command, alloc, "stack")
 }
 
-/// The program's command.
-fn command<'a>(alloc: Global) -> Result<Command<'a>, AllocError>
-    ensures { IfOk result (λ command. app_of command ≡ mmgc_app) }
+/// The command with the options that ask for something beside the heap, too.
+fn asking_command<'a>(alloc: Global) -> Result<Command<'a>, AllocError>
+    ensures { IfOk result (λ command. app_of command ≡ asking_app) }
 {
     let command = settings_command(alloc)?;
     let command = with(command, alloc, "gen")?;
     let command = with(command, alloc, "count")?;
     let command = with(command, alloc, "why")?;
-    let command = with(command, alloc, "pace")?;
+    with(command, alloc, "pace")
+}
+
+/// The program's command.
+fn command<'a>(alloc: Global) -> Result<Command<'a>, AllocError>
+    ensures { IfOk result (λ command. app_of command ≡ mmgc_app) }
+{
+    let command = asking_command(alloc)?;
+    let command = with_flag(command, alloc, "sites")?;
     command.arg(Arg::new(alloc, "FILE"))
 }
 
@@ -105,6 +126,7 @@ impl<'a> Given<'a> {
             count: matches.get_str("count"),
             why: matches.get_str("why"),
             pace: matches.get_str("pace"),
+            sites: is_set(matches, "sites"),
             file: matches.get_str("FILE"),
         }
     }
@@ -127,17 +149,41 @@ impl<'a> Given<'a> {
         })
     }
 
-    /// `--gen` and `--count` stand together or not at all, and neither stands beside FILE, `--why` or `--pace`.
+    /// Whether none of FILE, `--why`, `--pace` and `--sites` stands there.
+    fn is_plain(&self) -> bool
+        ensures { result ≡ is_plain (values_by self.now) }
+    {
+        self.file.is_none() && self.why.is_none() && self.pace.is_none() && !self.sites
+    }
+
+    /// `--gen` and `--count` stand together or not at all, and beside them nothing but what sets something of the heap.
     fn request(&self) -> Option<Request<'a>>
         ensures asked { option_map asked_by result ≡ choice_from (values_by self.now) }
         ensures allowed { IfSome result IsAllowed }
     {
         let settings = self.settings()?;
-        match (self.generated, self.count, self.file, self.why, self.pace) {
-            (None, None, file, why, pace) => replay_request(settings, file, why, pace),
-            (Some(seed), Some(count), None, None, None) => generated_request(settings, seed, count),
+        match (self.generated, self.count) {
+            (None, None) => self.replay_request(settings),
+            (Some(seed), Some(count)) if self.is_plain() => generated_request(
+                settings, seed, count,
+            ),
             _ => None,
         }
+    }
+
+    fn replay_request(&self, settings: Settings) -> Option<Request<'a>>
+        requires { IsWithinLimits settings }
+        ensures asked { option_map asked_by result ≡ reading settings (values_by self.now).file
+            (extras_of (values_by self.now).why (values_by self.now).pace self.now.sites) }
+        ensures allowed { IfSome result IsAllowed }
+    {
+        let extras = read_extras(self.why, self.pace, self.sites)?;
+        Some(Request {
+            settings,
+            file: file_name(self.file),
+            generated: None,
+            extras,
+        })
     }
 }
 
@@ -163,34 +209,24 @@ fn number_within(text: &str, least: u32, most: u32) -> Option<u32>
     }
 }
 
-fn replay_request<'a>(
-    settings: Settings,
-    file: Option<&'a str>,
-    why: Option<&str>,
-    pace: Option<&str>,
-) -> Option<Request<'a>>
-    requires { IsWithinLimits settings }
-    ensures asked { option_map asked_by result ≡ reading settings (option_map (λ name. name.now) file.entry)
-        (extras_of (option_map (λ text. text.now) why.entry) (option_map (λ text. text.now) pace.entry)) }
-    ensures allowed { IfSome result IsAllowed }
+/// Whether a flag stands in the words.
+fn is_set(matches: &ArgMatches<'_>, name: &str) -> bool
+    ensures { result ≡ is_set name.now (rows_of (found_of matches.now)) }
 {
-    let extras = read_extras(why, pace)?;
-    Some(Request {
-        settings,
-        file: file_name(file),
-        generated: None,
-        extras,
-    })
+    match matches.get_str(name) {
+        Some(text) => text == "true",
+        None => false,
+    }
 }
 
-fn read_extras(why: Option<&str>, pace: Option<&str>) -> Option<Extras>
+fn read_extras(why: Option<&str>, pace: Option<&str>, sites: bool) -> Option<Extras>
     ensures value { result ≡ extras_of (option_map (λ text. text.now) why.entry)
-        (option_map (λ text. text.now) pace.entry) }
+        (option_map (λ text. text.now) pace.entry) sites }
     ensures rate { IfSome result (λ extras. IfSome extras.rate IsRate) }
 {
     let why = number_if_given(why, 0, u32::MAX)?;
     let rate = number_if_given(pace, 1, 1024)?;
-    Some(Extras { why, rate })
+    Some(Extras { why, rate, sites })
 }
 
 /// The number of an option that has no default, where it stands.
@@ -221,6 +257,7 @@ fn generated_request<'a>(settings: Settings, seed: &str, count: &str) -> Option<
         extras: Extras {
             why: None,
             rate: None,
+            sites: false,
         },
     })
 }

@@ -20,7 +20,7 @@ use Rattle.mm_model.specs.Step.{IsStep}
 use Rattle.mm_model.specs.After.{after}
 use Rattle.mm_model.specs.Logs.Log.{IsRun}
 use Rattle.mm_model.specs.Logs.Spelling.{spelling, spelling_of}
-use Rattle.mm_model.specs.Logs.Turns.{Turn, AreJoined, AreSteps, births_of, born_at, is_group, reply_in, reply_of}
+use Rattle.mm_model.specs.Logs.Turns.{Turn, AreJoined, AreSteps, AreTurns, births_of, born_at, is_group, reply_in, reply_of}
 use Rattle.mm_model.specs.Views.View.{Shows}
 use Rattle.mm_model.proofs.Text.Journals.{writes-none, writes-append}
 use Rattle.mm_laws.proofs.Turning.Faithful.{steps-more}
@@ -35,16 +35,21 @@ use Rattle.mm_pace.specs.Rules.{Rule, command_if, due_begin, due_finish, due_ste
 use Rattle.mm_pace.specs.Rules.{work_after}
 use Rattle.mm_pace.specs.Work.{is_running, work_of}
 use Rattle.mm_pace.specs.Paced.{commands_in, list_of}
-use Rattle.mmgc.specs.Carrying.{CarriesOut, Grew}
+use Rattle.mm_sites.specs.Following.{sites_with}
+use Rattle.mmgc.specs.declared.site_book.SiteBook.{SiteBook}
+use Rattle.mmgc.specs.Carrying.{CarriedOut, CarriesOut, Grew}
 use Rattle.mmgc.specs.Counting.{Counts, bytes_of}
-use Rattle.mmgc.specs.Pacing.{Applies, AppliesAll, CanDrive, Drives, HasRoomFor, IsDriven, Left, Paces, groups_of}
+use Rattle.mmgc.specs.Booking.{AreBooked, IsInUse, MayBookOn}
+use Rattle.mmgc.specs.Pacing.{Applies, AppliesAll, CanDrive, Drives, HasRoomFor, IsDriven, Left, Paces, Team}
+use Rattle.mmgc.specs.Pacing.{groups_of, with_turn}
+use Rattle.mmgc.proofs.Booking.{booked-push, in_use, state_after-steps}
 use Rattle.mmgc.proofs.StepNumbers.{CountsOne, step_counts_one}
 use Rattle.mmgc.proofs.Pacing.Extents.{extent-least}
 use Rattle.mmgc.proofs.Pacing.Noted.{births-none}
 use Rattle.mmgc.proofs.Pacing.Ruled.{births-few, due_step-push, step-is, works-count}
 
 -- turns that are steps are a run
-legal-steps : (a : State) (turns : List Turn) (b : State) → AreSteps a turns b
+pub legal-steps : (a : State) (turns : List Turn) (b : State) → AreSteps a turns b
     → IsRun IsStep a (commands_in turns) (groups_of turns) b
 legal-steps a [] b steps = (refl, steps)
 legal-steps a (turn ∷ turns) b steps = (
@@ -56,13 +61,13 @@ legal-steps a (turn ∷ turns) b steps = (
   legal-steps turn.after turns b steps.2,
 )
 
-joined-push : (a : State) (turns : List Turn) (b : State) (turn : Turn) → AreJoined a turns → AreSteps a turns b
+pub joined-push : (a : State) (turns : List Turn) (b : State) (turn : Turn) → AreJoined a turns → AreSteps a turns b
     → turn.before ≡ b → turn.after ≡ after turn.before turn.command turn.group → AreJoined a (turns ++ turn ∷ [])
 joined-push a [] b turn joined steps before is = (before ∙ steps, is, tt)
 joined-push a (x ∷ turns) b turn joined steps before is =
     (joined.0, joined.1, joined-push x.after turns b turn joined.2 steps.2 before is)
 
-groups-push : (turns : List Turn) (turn : Turn) → AllByRecursion (λ (t : Turn). IsTrue (is_group t.group)) turns
+pub groups-push : (turns : List Turn) (turn : Turn) → AllByRecursion (λ (t : Turn). IsTrue (is_group t.group)) turns
     → IsTrue (is_group turn.group) → AllByRecursion (λ (t : Turn). IsTrue (is_group t.group)) (turns ++ turn ∷ [])
 groups-push [] turn all own = (own, tt)
 groups-push (x ∷ turns) turn all own = (all.0, groups-push turns turn all.1 own)
@@ -106,7 +111,7 @@ pub record HasRoomToCount (pace : Pace) (heap : Gc) : Type 0 where
   pub births : (view_of_gc heap).totals.born < 2 ^ 64 - 1
   pub since : pace.since ≤ 9223372036854775807
 
-pub room_to_count : {more : ℕ} {pace : Pace} {heap : Gc} → CanDrive more pace heap → HasRoomToCount pace heap
+pub room_to_count : {more : ℕ} {team : Team} → CanDrive more team → HasRoomToCount team.pace team.heap
 room_to_count c =
     let n = has_numbers c.driven in
     let room = c.room in
@@ -117,14 +122,25 @@ room_to_count c =
 
 -- fewer commands can be counted after some were
 pub can_drive-after : {settings : Settings} {turns : List Turn} {unpaid : ℕ} {pace : Pace} {heap : Gc}
-    {owed : ℕ} {next : Pace} {new : Gc} (added : List Turn) (more : ℕ) → IsDriven settings turns unpaid pace heap
-    → HasRoomFor (length added + more) heap → IsDriven settings (turns ++ added) owed next new
-    → CanDrive more next new
-can_drive-after {settings} {turns} {owed = owed} added more before room then =
+    {owed : ℕ} {next : Team} (added : List Turn) (more : ℕ)
+    → IsDriven settings turns unpaid pace heap
+    → HasRoomFor (length added + more) heap → IsDriven settings (turns ++ added) owed next.pace next.heap
+    → (sites : List ℕ) (site : ℕ) → AreBooked settings (turns ++ added) sites site next.book
+    → CanDrive more next
+can_drive-after {settings} {turns} {owed = owed} added more before room then sites site booked =
     let b = (has_numbers before).commands in
     let a = (has_numbers then).commands in
     let all = length-append turns added in
-    record { settings = settings; turns = turns ++ added; unpaid = owed; driven = then; room = omega arith }
+    record {
+      settings = settings;
+      turns = turns ++ added;
+      unpaid = owed;
+      driven = then;
+      room = omega arith;
+      sites = sites;
+      site = site;
+      booked = booked;
+    }
 
 -- another pacer that counts the same turns
 pub driven-counted : {settings : Settings} {turns : List Turn} {unpaid owed : ℕ} {pace next : Pace} {heap : Gc}
@@ -132,9 +148,19 @@ pub driven-counted : {settings : Settings} {turns : List Turn} {unpaid owed : �
     → IsDriven settings turns owed next heap
 driven-counted d counts = record { carried = d.carried; steps = d.steps; are = d.are; counts = counts }
 
+-- turns that were carried out from the empty state on
+pub record IsTaken (settings : Settings) (turns : List Turn) (heap : Gc) : Type 0 where
+  pub carried : CarriedOut settings (commands_in turns) (groups_of turns) heap
+  pub steps : AreSteps (empty_state settings) turns carried.state
+  pub are : AreTurns settings (commands_in turns) (groups_of turns) turns
+
+abbrev pub taken : {settings : Settings} {turns : List Turn} {unpaid : ℕ} {pace : Pace} {heap : Gc}
+    → IsDriven settings turns unpaid pace heap → IsTaken settings turns heap
+taken d = record { carried = d.carried; steps = d.steps; are = d.are }
+
 -- One more turn.
-module _ {settings : Settings} {turns : List Turn} {unpaid : ℕ} {pace : Pace} {old new : Gc} {command : Command}
-    {before after_it : Kept} (d : IsDriven settings turns unpaid pace old)
+module _ {settings : Settings} {turns : List Turn} {old new : Gc} {command : Command}
+    {before after_it : Kept} (d : IsTaken settings turns old)
     (c : CarriesOut old new command before after_it) where
   abbrev pub next_group : List Line
   next_group = c.front ++ lines.Reply c.reply ∷ []
@@ -153,13 +179,12 @@ module _ {settings : Settings} {turns : List Turn} {unpaid : ℕ} {pace : Pace} 
       reply-last c.front c.reply
       (group-step d.carried.state command next_group next_turn.after next_step.step)
 
-  next_steps : AreSteps (empty_state settings) (turns ++ next_turn ∷ []) next_turn.after
+  pub next_steps : AreSteps (empty_state settings) (turns ++ next_turn ∷ []) next_turn.after
   next_steps =
       steps-more (empty_state settings) turns d.carried.state command next_group next_turn.after d.steps next_step.step
 
-  pub driven-more : {owed : ℕ} {next : Pace} → Counts (turns ++ next_turn ∷ []) next_turn.after owed next
-      → IsDriven settings (turns ++ next_turn ∷ []) owed next new
-  driven-more counts =
+  abbrev pub taken-more : IsTaken settings (turns ++ next_turn ∷ []) new
+  taken-more =
       let all = length_push turns next_turn in
       let commands = length-map turns (λ (t : Turn). t.command) in
       let commands_more = length-map (turns ++ next_turn ∷ []) (λ (t : Turn). t.command) in
@@ -185,8 +210,24 @@ module _ {settings : Settings} {turns : List Turn} {unpaid : ℕ} {pace : Pace} 
               (group-step d.carried.state command next_group next_turn.after next_step.step);
           joined = joined-push (empty_state settings) turns d.carried.state next_turn d.are.joined d.steps refl refl;
         };
-        counts = counts;
       }
+
+  -- where sites are kept, what is born has one
+  pub booked-next : (found next : Option SiteBook) → MayBookOn old command next_group found next
+      → (sites : List ℕ) (site : ℕ) → AreBooked settings turns sites site found
+      → AreBooked settings (turns ++ next_turn ∷ []) (with_turn next_turn sites site) site next
+  booked-next found next on =
+      booked-push settings turns next_turn old found next
+      (state_after-steps settings turns d.carried.state d.steps) d.carried.good d.carried.shows refl on
+
+pub driven-more : {settings : Settings} {turns : List Turn} {unpaid owed : ℕ} {pace next : Pace} {old new : Gc}
+    {command : Command} {before after_it : Kept} (d : IsDriven settings turns unpaid pace old)
+    (c : CarriesOut old new command before after_it)
+    → Counts (turns ++ next_turn (taken d) c ∷ []) (next_turn (taken d) c).after owed next
+    → IsDriven settings (turns ++ next_turn (taken d) c ∷ []) owed next new
+driven-more d c counts =
+    let more = taken-more (taken d) c in
+    record { carried = more.carried; steps = more.steps; are = more.are; counts = counts }
 
 -- what was written in turn
 pub spelled-append : (xs ys : List Turn)
@@ -198,15 +239,22 @@ spelled-append xs ys =
 pub spelled-one : (turn : Turn) → spelling_of (groups_of (turn ∷ [])) ≡ spelling_of turn.group
 spelled-one turn = ap spelling_of (append-nil turn.group)
 
+-- nothing more was carried out
+books-none : (settings : Settings) (turns : List Turn) (book : Option SiteBook) (sites : List ℕ) (site : ℕ)
+    → AreBooked settings turns sites site book → AreBooked settings (turns ++ []) sites site book
+books-none settings turns book sites site booked =
+    subst (λ (ts : List Turn). AreBooked settings ts sites site book) (sym (append-nil turns)) booked
+
 -- a rule that adds nothing
-pub applies-none : {rule : Rule} {settings : Settings} {turns : List Turn} {pace : Pace} {heap : Gc} {kept : Kept}
-    → rule turns ≡ None → IsDriven settings turns 0 pace heap
-    → Applies rule settings turns (record { pace = pace; heap = heap; before = kept; after = kept })
-applies-none {rule} {settings} {turns} {pace} {heap} {kept} none d =
+pub applies-none : {rule : Rule} {settings : Settings} {turns : List Turn} {team : Team} {kept : Kept}
+    → rule turns ≡ None → IsDriven settings turns 0 team.pace team.heap
+    → Applies rule settings turns (record { team = team; book = team.book; before = kept; after = kept })
+applies-none {rule} {settings} {turns} {team} {kept} none d =
     record {
       added = [];
       commands_are = ap list_of (sym none);
-      driven = subst (λ (ts : List Turn). IsDriven settings ts 0 pace heap) (sym (append-nil turns)) d;
+      driven = subst (λ (ts : List Turn). IsDriven settings ts 0 team.pace team.heap) (sym (append-nil turns)) d;
+      books = books-none settings turns team.book;
       written = writes-none kept.bytes kept.broken;
     }
 
@@ -222,34 +270,42 @@ applies-one {rule} {settings} {turns} {command} {left} due bare drives =
     record {
       added = turn ∷ [];
       commands_are = ap (λ (c : Command). c ∷ []) drives.command_is ∙ ap list_of (sym due);
-      driven = subst (λ n. IsDriven settings (turns ++ turn ∷ []) n left.pace left.heap)
+      driven = subst (λ n. IsDriven settings (turns ++ turn ∷ []) n left.team.pace left.team.heap)
           (ap (sum_by extent_born) none) drives.driven;
+      books = λ sites site booked. subst
+          (λ (s : List ℕ). AreBooked settings (turns ++ turn ∷ []) s site left.team.book)
+          (ap (sites_with site sites) none ∙ append-nil sites) (drives.books sites site booked);
       written = subst (Grew left.before left.after) (sym (spelled-one turn)) drives.written;
     }
 
 -- the rules one after another
-pub all-none : {settings : Settings} {turns : List Turn} {pace : Pace} {heap : Gc} {kept : Kept}
-    → IsDriven settings turns 0 pace heap
-    → AppliesAll [] settings turns (record { pace = pace; heap = heap; before = kept; after = kept })
-all-none {settings} {turns} {pace} {heap} {kept} d =
+pub all-none : {settings : Settings} {turns : List Turn} {team : Team} {kept : Kept}
+    → IsDriven settings turns 0 team.pace team.heap
+    → AppliesAll [] settings turns (record { team = team; book = team.book; before = kept; after = kept })
+all-none {settings} {turns} {team} {kept} d =
     record {
       added = [];
       are = refl;
-      driven = subst (λ (ts : List Turn). IsDriven settings ts 0 pace heap) (sym (append-nil turns)) d;
+      driven = subst (λ (ts : List Turn). IsDriven settings ts 0 team.pace team.heap) (sym (append-nil turns)) d;
+      books = books-none settings turns team.book;
       written = writes-none kept.bytes kept.broken;
     }
 
 pub all-next : {rule : Rule} {rules : List Rule} {settings : Settings} {turns : List Turn} {first left : Left}
-    (one : Applies rule settings turns first) → first.after ≡ left.before
+    (one : Applies rule settings turns first) → first.after ≡ left.before → first.team.book ≡ left.book
     → AppliesAll rules settings (turns ++ one.added) left
     → AppliesAll (rule ∷ rules) settings turns
-    (record { pace = left.pace; heap = left.heap; before = first.before; after = left.after })
-all-next {rule} {rules} {settings} {turns} {first} {left} one here rest =
+    (record { team = left.team; book = first.book; before = first.before; after = left.after })
+all-next {rule} {rules} {settings} {turns} {first} {left} one here same rest =
     record {
       added = one.added ++ rest.added;
       are = (one.added, rest.added, refl, one.commands_are, rest.are);
-      driven = subst (λ (ts : List Turn). IsDriven settings ts 0 left.pace left.heap)
+      driven = subst (λ (ts : List Turn). IsDriven settings ts 0 left.team.pace left.team.heap)
           (append_assoc turns one.added rest.added) rest.driven;
+      books = λ sites site booked. subst (λ (ts : List Turn). AreBooked settings ts sites site left.team.book)
+          (append_assoc turns one.added rest.added)
+          (rest.books sites site (subst (AreBooked settings (turns ++ one.added) sites site) same
+          (one.books sites site booked)));
       written = subst (Grew first.before left.after) (sym (spelled-append one.added rest.added))
           (writes-append (spelling_of (groups_of one.added)) (spelling_of (groups_of rest.added)) one.written
           (subst (λ (k : Kept). Grew k left.after (spelling_of (groups_of rest.added))) (sym here) rest.written));
@@ -270,18 +326,24 @@ applies-few {rule} {turns = turns} one =
 
 -- a command of the trace, and the rules after it
 pub paces : {rate : ℕ} {settings : Settings} {turns : List Turn} {command : Command} {first left : Left}
-    (own : Drives settings turns command first) → first.after ≡ left.before
+    (own : Drives settings turns command first) → first.after ≡ left.before → first.team.book ≡ left.book
     → AppliesAll (rules_at rate) settings (turns ++ own.turn ∷ []) left
     → Paces rate settings turns command
-    (record { pace = left.pace; heap = left.heap; before = first.before; after = left.after })
-paces {settings = settings} {turns = turns} {first = first} {left = left} own here rest =
+    (record { team = left.team; book = first.book; before = first.before; after = left.after })
+paces {settings = settings} {turns = turns} {first = first} {left = left} own here same rest =
     record {
       turn = own.turn;
       command_is = own.command_is;
       rules = rest.added;
       are = rest.are;
-      driven = subst (λ (ts : List Turn). IsDriven settings ts 0 left.pace left.heap)
+      driven = subst (λ (ts : List Turn). IsDriven settings ts 0 left.team.pace left.team.heap)
           (append_assoc turns (own.turn ∷ []) rest.added) rest.driven;
+      books = λ sites site booked.
+          let born = with_turn own.turn sites site in
+          subst (λ (ts : List Turn). AreBooked settings ts born site left.team.book)
+          (append_assoc turns (own.turn ∷ []) rest.added)
+          (rest.books born site (subst (AreBooked settings (turns ++ own.turn ∷ []) born site) same
+          (own.books sites site booked)));
       written = subst (Grew first.before left.after)
           (ap (λ text. text ++ spelling_of (groups_of rest.added)) (sym (spelled-one own.turn))
           ∙ sym (spelled-append (own.turn ∷ []) rest.added))
@@ -319,8 +381,9 @@ driven-paid {pace = pace} next d since work last =
       few = let few = d.counts.few in omega (arith, few, since);
     })
 
-pub can_drive-paid : {more : ℕ} {pace : Pace} {heap : Gc} (next : Pace) → CanDrive more pace heap
-    → next.since ≡ pace.since → next.work ≡ pace.work → next.last ≡ 0 → CanDrive more next heap
+pub can_drive-paid : {more : ℕ} {team : Team} (next : Pace) → CanDrive more team
+    → next.since ≡ team.pace.since → next.work ≡ team.pace.work → next.last ≡ 0
+    → CanDrive more (record team { pace = next })
 can_drive-paid next r since work last =
     record {
       settings = r.settings;
@@ -328,10 +391,12 @@ can_drive-paid next r since work last =
       unpaid = 0;
       driven = driven-paid next r.driven since work last;
       room = r.room;
+      sites = r.sites;
+      site = r.site;
+      booked = r.booked;
     }
 
-pub can_drive-fewer : {more fewer : ℕ} {pace : Pace} {heap : Gc} → CanDrive more pace heap → fewer ≤ more
-    → CanDrive fewer pace heap
+pub can_drive-fewer : {more fewer : ℕ} {team : Team} → CanDrive more team → fewer ≤ more → CanDrive fewer team
 can_drive-fewer r few =
     record {
       settings = r.settings;
@@ -339,14 +404,23 @@ can_drive-fewer r few =
       unpaid = r.unpaid;
       driven = r.driven;
       room = let room = r.room in omega (arith, room, few);
+      sites = r.sites;
+      site = r.site;
+      booked = r.booked;
     }
+
+-- the sites are those of the objects
+pub team_in_use : {more : ℕ} {team : Team} → CanDrive more team → IfSome team.book (IsInUse team.heap)
+team_in_use {team = team} r = in_use r.driven.carried r.turns r.driven.steps r.sites r.site team.book r.booked
 
 -- after a rule was applied
 pub ready-after : {rule : Rule} {settings : Settings} {turns : List Turn} {unpaid : ℕ} {pace : Pace} {heap : Gc}
-    {left : Left} (more : ℕ) → IsDriven settings turns unpaid pace heap → HasRoomFor (1 + more) heap
-    → Applies rule settings turns left → CanDrive more left.pace left.heap
-ready-after more d room one =
+    {left : Left} (more : ℕ) → IsDriven settings turns unpaid pace heap
+    → HasRoomFor (1 + more) heap → Applies rule settings turns left
+    → (sites : List ℕ) (site : ℕ) → AreBooked settings turns sites site left.book → CanDrive more left.team
+ready-after more d room one sites site booked =
     can_drive-after one.added more d (let few = applies-few one in omega (arith, few, room)) one.driven
+    sites site (one.books sites site booked)
 
 -- The rules, by what the pacer counts.
 module _ {settings : Settings} (turns : List Turn) (turn : Turn) {pace : Pace} {heap : Gc}

@@ -6,9 +6,16 @@ use Rattle.mmgc.specs.Run.{Replayed, commands_in}
 use Rattle.mmgc.proofs.Pacing.InTime.{in_time}
 use Rattle.mmgc.proofs.program.replay.Goals as goal
 
-pub carry_out-end-requires-clause-heap : goal.carry_out-end-requires-clause-heap
-carry_out-end-requires-clause-heap g c =
-    (c.args.settings, record { limits = c.requires.settings; shows = c.in-Ok.ensures.shows })
+pub carry_out-end-requires-clause-new : goal.carry_out-end-requires-clause-new
+carry_out-end-requires-clause-new g c = (
+  c.args.extras.rate,
+  c.args.settings,
+  record {
+    heap = record { limits = c.requires.settings; shows = c.in-Ok.ensures.shows };
+    pace = c.in-Ok.ensures.fresh;
+    book = c.in-Ok.ensures.blank;
+  },
+)
 
 pub carry_out-end-requires-clause-ready : goal.carry_out-end-requires-clause-ready
 carry_out-end-requires-clause-ready g c =
@@ -44,8 +51,12 @@ returns-in-Ok-clause-served g c =
       faults = g.K.Sink.faults c.args.out.now;
       faults_after = g.K.Sink.faults out;
     }) c.carry_out-end.new.heap) c.in-Ok.ensures.asked
-    (c.carry_out-end.ensures.replayed c.args.settings
-    (record { limits = c.requires.settings; shows = c.in-Ok.ensures.shows })) in
+    (c.carry_out-end.ensures.replayed c.args.extras.rate c.args.settings
+    (record {
+      heap = record { limits = c.requires.settings; shows = c.in-Ok.ensures.shows };
+      pace = c.in-Ok.ensures.fresh;
+      book = c.in-Ok.ensures.blank;
+    })) in
     inr (inr (inl (record {
       replays = refl;
       end = c.carry_out-end.result;

@@ -10,7 +10,7 @@ returns-in_err-extend-clause-done g c =
     let rest = c.args.rest.now in
     let long = c.in_err-extend.ensures.too_long.0 refl in
     rw (p.1, p.2, c.in_err-extend.ensures.fault)
-    (does-too_long _ (held ++ rest) (omega (arith, length-append held rest, long)) (refl, refl, refl))
+    (does-too_long _ _ (held ++ rest) (omega (arith, length-append held rest, long)) (refl, refl, refl))
 
 pub returns-clause-done : goal.returns-clause-done
 returns-clause-done g c = rw (c.bytes.ensures.value ∙ c.in_ok-extend.ensures.held) at c.take_line-taken.ensures.done

@@ -43,7 +43,7 @@ returns-in_err-take_ended-clause-progress g c start bytes room p =
     let failed = err_from_is_err_and c.from_residual.result c.from_residual.ensures.1 in
     rw (failed.1, failed.2) (subst (λ all. Stopped start (complete_lines all) (Some
     (record { line = c.take_ended.new.self.lines; fault = c.in_err-take_ended.field-0.0 }))
-    c.take_ended.new.heap (kept_by g.K.Sink.taken c.take_ended.new.log))
+    (driver_of c.take_ended.new.heap c.take_ended.new.self.executor) (kept_by g.K.Sink.taken c.take_ended.new.log))
     (piece_here bytes before.front rest piece before.here end c.in-Some.ensures.2) stopped)
 
 pub returns-in_err-take_ended-clause-kept : goal.returns-in_err-take_ended-clause-kept
@@ -81,7 +81,14 @@ returns-clause-progress g c start bytes room p =
     let before = c.loop-end.invariant in
     let did = c.hold.ensures in
     goes-on-held bytes before.front c.loop-end.rest.now c.args.piece.now before.here
-    c.hold.new.self.cutter c.hold.new.self.lines (driver_of c.loop-end.heap c.hold.new.self.pacer) c.hold.result
+    (record {
+      command = c.sites_of_lines_come_one_after_another.ensures.command;
+      passed_over = c.sites_of_lines_come_one_after_another.ensures.passed_over;
+      fault = c.sites_of_lines_come_one_after_another.ensures.fault;
+      site = c.sites_of_lines_come_one_after_another.ensures.site;
+      named = c.lines_of_sites_are_passed_over.ensures;
+    })
+    c.hold.new.self.cutter c.hold.new.self.lines (driver_of c.loop-end.heap c.hold.new.self.executor) c.hold.result
     (before.progress start bytes room p)
-    c.in_default.ensures (ap (driver_of c.loop-end.heap) did.pacer) did.held did.fits
+    c.in_default.ensures (ap (driver_of c.loop-end.heap) did.executor) did.held did.fits
     did.too_long

@@ -16,4 +16,5 @@ returns c =
     (c.get_str-7.ensures ∙ first_value-rows (found_of c.args.matches.now) (codes "count"))
     (c.get_str-8.ensures ∙ first_value-rows (found_of c.args.matches.now) (codes "why"))
     (c.get_str-9.ensures ∙ first_value-rows (found_of c.args.matches.now) (codes "pace"))
+    c.is_set.ensures
     (c.get_str-10.ensures ∙ first_value-rows (found_of c.args.matches.now) (codes "FILE"))

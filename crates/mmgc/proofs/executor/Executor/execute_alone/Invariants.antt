@@ -1,4 +1,4 @@
-use Rattle.mmgc.proofs.pacer.carry_out.Given as goal
+use Rattle.mmgc.proofs.executor.Executor.execute_alone.Given as goal
 
 abbrev pub ghosts-execute : goal.ghosts-execute
 ghosts-execute g a = record { name = a.blank.name; parts = a.blank.parts }
