@@ -7,6 +7,7 @@ mod paced;
 mod pieces;
 mod recount;
 mod rows;
+mod sited;
 mod text;
 mod words;
 mod worked;
