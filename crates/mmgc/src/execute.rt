@@ -64,7 +64,8 @@ fn execute_at_site<K: Sink, L: Ledger>(
 }
 
 /// Carries out a command and writes its lines; where sites are kept, what it bears has the one that was named last.
-#[inline(always)]
+// It isn't inlined, so that the code of the commands stands in few places, and is inlined where most commands come.
+#[inline(never)]
 pub(crate) fn execute_booked<K: Sink>(
     heap: &mut Gc,
     log: &mut LogWriter<'_, K>,

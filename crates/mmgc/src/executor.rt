@@ -147,7 +147,7 @@ impl Executor {
         match &mut self.bookkeeping {
             Some(bookkeeping) => bookkeeping.execute(heap, log, command),
             None => {
-                let _ = execute::<K, Brand>(heap, log, command, Blank::new(1));
+                let _ = execute_booked(heap, log, &mut None, command);
             }
         }
     }

@@ -82,34 +82,9 @@ fn take_line<K: Sink>(
     }
 }
 
-/// The same for a line that lies whole in a piece, where something is kept beside the heap.
-#[inline(never)]
-fn take_kept_line<K: Sink>(
-    heap: &mut Gc,
-    log: &mut LogWriter<'_, K>,
-    executor: &mut Executor,
-    line: &[u8],
-) -> Result<(), LineFault>
-    requires { IsReady (driver_of heap.old executor.old) }
-    ensures done { DoesLine (line_reading line.now) result
-        ((heap.new ≡ heap.old) × (executor.new ≡ executor.old) × (log.new ≡ log.old))
-        ((heap.new ≡ heap.old) × (executor.new ≡ noting_executor line.now executor.old) × (log.new ≡ log.old))
-        (λ command. Advances (driver_of heap.old executor.old) (driver_of heap.new executor.new) command
-        (kept_by K.taken log.old) (kept_by K.taken log.new)) }
-    ensures kept { KeepsOn K.faults K.taken log.old log.new }
-{
-    match parse_plain_line(line) {
-        None => take_line(heap, log, executor, line),
-        Some(command) => {
-            executor.execute(heap, log, &command);
-            Ok(())
-        }
-    }
-}
-
 /// The same for a line that lies whole in a piece, as most do.
-// Whether something is kept beside the heap is asked before the line is read. So where nothing is, what is read of a
-// command leads straight to what carries it out.
+// Whether something is kept beside the heap is asked before the line is read, and the quick way to read one stands here
+// alone. So where nothing is, what is read of a command leads straight to what carries it out.
 #[inline(always)]
 fn take_whole_line<K: Sink>(
     heap: &mut Gc,
@@ -126,7 +101,7 @@ fn take_whole_line<K: Sink>(
     ensures kept { KeepsOn K.faults K.taken log.old log.new }
 {
     if !executor.is_idle() {
-        return take_kept_line(heap, log, executor, line);
+        return take_line(heap, log, executor, line);
     }
     match parse_plain_line(line) {
         None => take_line(heap, log, executor, line),

@@ -1,4 +1,6 @@
 // Traces whose objects have sites.
+ghost use Rattle.std.specs.Prelude.{◌≤◌};
+
 use super::text::{add_lines, add_numbered, lines_of};
 use super::{Given, Written, check, ended};
 use std::alloc::{AllocError, Global};

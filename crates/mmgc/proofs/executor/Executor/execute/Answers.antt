@@ -14,18 +14,18 @@ returns-in-Some-clause-advanced g c =
     (kept_by g.K.Sink.taken c.args.log.now) (kept_by g.K.Sink.taken new.log)) (sym c.in-Some.is)
     c.execute.ensures.advanced
 
-pub execute-requires-in-None-clause-commands : goal.execute-requires-in-None-clause-commands
-execute-requires-in-None-clause-commands g c = (is_ready c.requires).commands
+pub execute_booked-requires-clause-commands : goal.execute_booked-requires-clause-commands
+execute_booked-requires-clause-commands g c = (is_ready c.requires).commands
 
-pub execute-requires-in-None-clause-births : goal.execute-requires-in-None-clause-births
-execute-requires-in-None-clause-births g c = (is_ready c.requires).births
+pub execute_booked-requires-clause-births : goal.execute_booked-requires-clause-births
+execute_booked-requires-clause-births g c = (is_ready c.requires).births
 
 pub returns-in-None-clause-advanced : goal.returns-in-None-clause-advanced
 returns-in-None-clause-advanced g c =
-    let new = c.execute-in-None.new in
+    let new = c.execute_booked.new in
     let before = kept_by g.K.Sink.taken c.args.log.now in
     let after = kept_by g.K.Sink.taken new.log in
     subst (λ kept. Advances (driver_with c.args.heap.now kept) (driver_with new.heap kept) c.args.command.now before
     after) (sym c.in-None.is)
     (advances-alone c.sites_of_births_come_one_after_another.ensures c.args.heap.now new.heap None None
-    c.args.command.now before after c.execute-in-None.ensures.carried.0 refl refl)
+    c.args.command.now before after c.execute_booked.ensures.carried.0 refl refl)
