@@ -29,9 +29,9 @@
  * THREADS. One thread at a time uses a heap, and no call is made from a signal handler. Heaps share nothing: each
  * thread may have its own.
  *
- * POINTERS. Each pointer that is given to a call points to what its type says, none is null, and two of one call point
- * to different things. A handle begins as MM_HEAP_INIT, is never copied while it is open, and its fields are never
- * written. Nothing checks these.
+ * POINTERS. Each pointer that is given to a call points to what its type says, or to as many of them as the count behind
+ * it says; none is null, also where the count is 0, and two of one call point to different things. A handle begins as
+ * MM_HEAP_INIT, is never copied while it is open, and its fields are never written. Nothing checks these.
  *
  * LIMITS. A region has at most 4,096 pages of 4,096 bytes, an object 1,048,575 slots, a heap 1,024 areas and 65,536
  * stack cells. A count is exact up to 254; at 255 an object stays until a collection or a cycle finds it unreached.
@@ -42,6 +42,7 @@
 #define MMGC_H
 
 #include <stdbool.h>
+#include <stddef.h>
 #include <stdint.h>
 
 #ifdef __cplusplus
@@ -68,6 +69,7 @@ enum {
     MM_FULL = 11,         /* there is no room, also after a reap and a collection */
     MM_BUSY = 12,         /* a cycle runs already */
     MM_IDLE = 13,         /* no cycle runs */
+    MM_SCANNED = 14,      /* a traced or counted object, whose slots go one by one, by mm_get and mm_put */
     MM_CLOSED = 100,      /* the handle has no heap */
     MM_OPEN = 101,        /* the handle has one already */
     MM_NO_MEMORY = 102,   /* the host gave no memory */
@@ -144,10 +146,12 @@ mm_answer mm_new_counted(mm_heap *heap, bool finalize, uint32_t counted, uint32_
 mm_answer mm_new_leaf(mm_heap *heap, bool finalize, uint32_t slots);
 
 /* The stack. mm_push: MM_STACK_FULL. mm_dup pushes cell i again: MM_NO_CELL, MM_STACK_FULL. mm_pop removes the k
- * topmost: MM_NO_CELL. mm_cell answers the word of cell i: MM_NO_CELL. */
+ * topmost: MM_NO_CELL. mm_slide removes the k below the top, which stays: MM_NO_CELL. mm_cell answers the word of cell
+ * i: MM_NO_CELL. */
 mm_answer mm_push(mm_heap *heap, uint32_t word);
 mm_answer mm_dup(mm_heap *heap, uint32_t i);
 mm_answer mm_pop(mm_heap *heap, uint32_t k);
+mm_answer mm_slide(mm_heap *heap, uint32_t k);
 mm_answer mm_cell(mm_heap *heap, uint32_t i);
 
 /* mm_get pushes slot s of what cell i means, and answers it: MM_NO_CELL, MM_NOTHING, MM_NO_SLOT, MM_STACK_FULL.
@@ -157,6 +161,12 @@ mm_answer mm_cell(mm_heap *heap, uint32_t i);
 mm_answer mm_get(mm_heap *heap, uint32_t i, uint32_t s);
 mm_answer mm_put(mm_heap *heap, uint32_t i, uint32_t s, uint32_t j);
 mm_answer mm_load(mm_heap *heap, uint32_t word, uint32_t s);
+
+/* Words of leaves in bulk. mm_read writes those of the slots from s on of what cell i means to `out`, and mm_write
+ * writes `words` into these slots, `count` of them: MM_NO_CELL, MM_NOTHING, MM_SCANNED, MM_NO_SLOT. Both answer the
+ * word 0. Nothing is read or written in part: `out` stays but for MM_DONE. No word in a leaf keeps an object. */
+mm_answer mm_read(mm_heap *heap, uint32_t i, uint32_t s, uint32_t *out, size_t count);
+mm_answer mm_write(mm_heap *heap, uint32_t i, uint32_t s, const uint32_t *words, size_t count);
 
 /* mm_weak pushes the weak reference to what cell i means, one for each object, and answers it: MM_NO_CELL, MM_NOTHING,
  * MM_NO_WEAK, MM_STACK_FULL, MM_FULL, MM_WORN_OUT. It is an object of its own and keeps its target not. mm_look pushes

@@ -44,6 +44,7 @@ static void without_a_heap(void)
     mm_heap heap = MM_HEAP_INIT;
     mm_final_record record = {1, 2, 3, 4}, same = record;
     mm_stat_record stat, before;
+    uint32_t word = 5;
     memset(&stat, 7, sizeof stat);
     before = stat;
     CHECK(is(mm_new_traced(&heap, false, 0, 1), MM_CLOSED, 0));
@@ -52,10 +53,13 @@ static void without_a_heap(void)
     CHECK(is(mm_push(&heap, 1), MM_CLOSED, 0));
     CHECK(is(mm_dup(&heap, 0), MM_CLOSED, 0));
     CHECK(is(mm_pop(&heap, 0), MM_CLOSED, 0));
+    CHECK(is(mm_slide(&heap, 0), MM_CLOSED, 0));
     CHECK(is(mm_cell(&heap, 0), MM_CLOSED, 0));
     CHECK(is(mm_get(&heap, 0, 0), MM_CLOSED, 0));
     CHECK(is(mm_put(&heap, 0, 0, 0), MM_CLOSED, 0));
     CHECK(is(mm_load(&heap, 0, 0), MM_CLOSED, 0));
+    CHECK(is(mm_read(&heap, 0, 0, &word, 1), MM_CLOSED, 0) && word == 5);
+    CHECK(is(mm_write(&heap, 0, 0, &word, 1), MM_CLOSED, 0));
     CHECK(is(mm_weak(&heap, 0), MM_CLOSED, 0));
     CHECK(is(mm_look(&heap, 0), MM_CLOSED, 0));
     CHECK(is(mm_root(&heap, 0, 1), MM_CLOSED, 0));
@@ -130,6 +134,27 @@ static void stack(void)
     closes(&heap);
 }
 
+static void sliding(void)
+{
+    mm_heap heap = MM_HEAP_INIT;
+    opens(&heap, SETTINGS);
+    CHECK(is(mm_slide(&heap, 0), MM_NO_CELL, 0));
+    for (uint32_t word = 10; word < 15; word++)
+        CHECK(done(mm_push(&heap, word)));
+    CHECK(is(mm_slide(&heap, 5), MM_NO_CELL, 0));
+    CHECK(is(mm_slide(&heap, UINT32_MAX), MM_NO_CELL, 0));
+    CHECK(is(mm_slide(&heap, 0), MM_DONE, 0));
+    CHECK(is(mm_cell(&heap, 4), MM_DONE, 10));
+    CHECK(is(mm_slide(&heap, 3), MM_DONE, 0));
+    CHECK(is(mm_cell(&heap, 0), MM_DONE, 14));
+    CHECK(is(mm_cell(&heap, 1), MM_DONE, 10));
+    CHECK(is(mm_cell(&heap, 2), MM_NO_CELL, 0));
+    CHECK(is(mm_slide(&heap, 1), MM_DONE, 0));
+    CHECK(is(mm_cell(&heap, 0), MM_DONE, 14));
+    CHECK(is(mm_cell(&heap, 1), MM_NO_CELL, 0));
+    closes(&heap);
+}
+
 /* The first object lies at 4,096, the begin of page 1. One of four slots takes 32 bytes. */
 static void births(void)
 {
@@ -179,6 +204,42 @@ static void slots(void)
         CHECK(done(mm_push(&heap, 0)));
     CHECK(is(mm_get(&heap, 7, 0), MM_STACK_FULL, 0));
     CHECK(is(mm_weak(&heap, 7), MM_STACK_FULL, 0));
+    closes(&heap);
+}
+
+/* Cell 0 means nothing, 1 a weak reference, 2 a traced object, and 3 a leaf of five slots. */
+static void words_in_bulk(void)
+{
+    mm_heap heap = MM_HEAP_INIT;
+    uint32_t out[6] = {90, 91, 92, 93, 94, 95}, leaf;
+    const uint32_t words[6] = {1, 2, 3, 4, 5, 6};
+    opens(&heap, SETTINGS);
+    leaf = mm_new_leaf(&heap, false, 5).word;
+    CHECK(done(mm_new_traced(&heap, false, 0, 5)) && done(mm_weak(&heap, 0)) && done(mm_push(&heap, 7)));
+    CHECK(is(mm_write(&heap, 4, 0, words, 1), MM_NO_CELL, 0));
+    CHECK(is(mm_write(&heap, 0, 0, words, 1), MM_NOTHING, 0));
+    CHECK(is(mm_write(&heap, 1, 0, words, 1), MM_NO_SLOT, 0));
+    CHECK(is(mm_write(&heap, 2, 0, words, 1), MM_SCANNED, 0));
+    CHECK(is(mm_write(&heap, 2, 9, words, 1), MM_SCANNED, 0));
+    CHECK(is(mm_write(&heap, 3, 0, words, 6), MM_NO_SLOT, 0));
+    CHECK(is(mm_write(&heap, 3, 6, words, 0), MM_NO_SLOT, 0));
+    CHECK(is(mm_write(&heap, 3, UINT32_MAX, words, 2), MM_NO_SLOT, 0));
+    CHECK(is(mm_load(&heap, leaf, 0), MM_DONE, 0));
+    CHECK(is(mm_write(&heap, 3, 0, words, 5), MM_DONE, 0));
+    CHECK(is(mm_write(&heap, 3, 1, words + 3, 2), MM_DONE, 0));
+    CHECK(is(mm_write(&heap, 3, 5, words, 0), MM_DONE, 0));
+    CHECK(is(mm_load(&heap, leaf, 0), MM_DONE, 1) && is(mm_load(&heap, leaf, 1), MM_DONE, 4));
+    CHECK(is(mm_load(&heap, leaf, 2), MM_DONE, 5) && is(mm_load(&heap, leaf, 3), MM_DONE, 4));
+    CHECK(is(mm_read(&heap, 4, 0, out, 1), MM_NO_CELL, 0));
+    CHECK(is(mm_read(&heap, 0, 0, out, 1), MM_NOTHING, 0));
+    CHECK(is(mm_read(&heap, 1, 0, out, 1), MM_NO_SLOT, 0));
+    CHECK(is(mm_read(&heap, 2, 0, out, 1), MM_SCANNED, 0));
+    CHECK(is(mm_read(&heap, 3, 0, out, 6), MM_NO_SLOT, 0));
+    CHECK(is(mm_read(&heap, 3, UINT32_MAX, out, 2), MM_NO_SLOT, 0));
+    CHECK(out[0] == 90 && out[5] == 95);
+    CHECK(is(mm_read(&heap, 3, 1, out + 1, 4), MM_DONE, 0));
+    CHECK(out[0] == 90 && out[1] == 4 && out[2] == 5 && out[3] == 4 && out[4] == 5 && out[5] == 95);
+    CHECK(is(mm_read(&heap, 3, 5, out, 0), MM_DONE, 0) && out[0] == 90);
     closes(&heap);
 }
 
@@ -376,8 +437,10 @@ int main(void)
     without_a_heap();
     opening();
     stack();
+    sliding();
     births();
     slots();
+    words_in_bulk();
     weak_references();
     areas();
     too_many_areas();

@@ -2,5 +2,4 @@ pub mod Bearing
 pub mod Flags
 pub mod Held
 pub mod Keeping
-pub mod Loading
 pub mod Values

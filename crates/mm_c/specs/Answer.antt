@@ -1,12 +1,13 @@
 -- What C is told of a reply.
-use Rattle.std.specs.Prelude.{ℕ}
+use Rattle.std.specs.Prelude.{ℕ, Result, Ok, Err}
 use Rattle.mm_model.specs.declared.refusal.Refusal.{Refusal}
 use Rattle.mm_model.specs.declared.reply.Reply.{Reply}
 use Rattle.mm_model.specs.declared.reply.Reply.TheVariants as replies
+use Rattle.mm_gc.specs.declared.bare_words.WordsFault.{WordsFault}
 use Rattle.mm_c.specs.declared.answer.MmAnswer.{MmAnswer}
 use Rattle.mm_c.specs.declared.status.Status.{Status}
 use Rattle.mm_c.specs.declared.status.Status.TheVariants as statuses
-use Rattle.mm_c.specs.Status.{number, status_of}
+use Rattle.mm_c.specs.Status.{number, status_of, status_of_fault}
 
 -- a status alone
 abbrev pub bare : Status → MmAnswer
@@ -31,3 +32,8 @@ answer_of (replies.Object found) = with_word found.base
 answer_of replies.Nothing = bare statuses.Nothing
 answer_of (replies.Stat stat) = with_word stat.objects
 answer_of (replies.Refused because) = refused because
+
+-- so of words that are read or written in bulk, where a word is never told
+abbrev pub answer_in_bulk : {X : Type 0} → Result X WordsFault → MmAnswer
+answer_in_bulk (Ok x) = bare statuses.Done
+answer_in_bulk (Err fault) = bare (status_of_fault fault)

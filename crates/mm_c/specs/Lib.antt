@@ -4,6 +4,7 @@ pub mod Finals
 pub mod Flag
 pub mod Following
 pub mod Holds
+pub mod InBulk
 pub mod Reading
 pub mod Settings
 pub mod Stat

@@ -2,6 +2,8 @@
 use Rattle.std.specs.Prelude.{ℕ}
 use Rattle.mm_model.specs.declared.refusal.Refusal.{Refusal}
 use Rattle.mm_model.specs.declared.refusal.Refusal.TheVariants as refusals
+use Rattle.mm_gc.specs.declared.bare_words.WordsFault.{WordsFault}
+use Rattle.mm_gc.specs.declared.bare_words.WordsFault.TheVariants as faults
 use Rattle.mm_c.specs.declared.status.Status.{Status}
 use Rattle.mm_c.specs.declared.status.Status.TheVariants as statuses
 
@@ -21,6 +23,7 @@ number statuses.AreasFull = 10
 number statuses.Full = 11
 number statuses.Busy = 12
 number statuses.Idle = 13
+number statuses.Scanned = 14
 number statuses.Closed = 100
 number statuses.Open = 101
 number statuses.NoMemory = 102
@@ -44,3 +47,8 @@ status_of refusals.AreasFull = statuses.AreasFull
 status_of refusals.Full = statuses.Full
 status_of refusals.Busy = statuses.Busy
 status_of refusals.Idle = statuses.Idle
+
+-- so has an object whose words aren't read or written in bulk
+abbrev pub status_of_fault : WordsFault → Status
+status_of_fault (faults.Refused because) = status_of because
+status_of_fault faults.Scanned = statuses.Scanned

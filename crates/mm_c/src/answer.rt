@@ -1,9 +1,10 @@
 // What a call answers C.
 ghost use Rattle.std.specs.Prelude.{◌≡◌};
 ghost use Rattle.mm_gc.specs.Replies.{area_reply, done_reply, map_reply, new_reply, put_reply, weak_reply, word_reply};
-ghost use Rattle.mm_c.specs.Answer.{bare, refused, with_word, answer_of};
+ghost use Rattle.mm_c.specs.Answer.{bare, refused, with_word, answer_of, answer_in_bulk};
 
 use crate::status::Status;
+use mm_gc::WordsFault;
 use mm_model::{AreaAnswer, Mapped, Put, Refusal, WeakAnswer};
 
 /// The number of a status, and a word, which is 0 where none is answered.
@@ -102,6 +103,15 @@ impl MmAnswer {
             Ok(Some(found)) => MmAnswer::with_word(found.base),
             Ok(None) => MmAnswer::bare(Status::Nothing),
             Err(because) => MmAnswer::refused(because),
+        }
+    }
+
+    pub(crate) fn in_bulk(answer: Result<(), WordsFault>) -> MmAnswer
+        ensures { result ≡ answer_in_bulk answer }
+    {
+        match answer {
+            Ok(()) => MmAnswer::bare(Status::Done),
+            Err(fault) => MmAnswer::bare(Status::of_fault(fault)),
         }
     }
 }

@@ -6,6 +6,7 @@ mod areas;
 mod births;
 mod finals;
 mod handle;
+mod in_bulk;
 mod loose;
 mod opening;
 mod owned;

@@ -1,60 +1,37 @@
 // What C reads without a command: a stack cell, and a slot of the object in which a word falls.
-ghost use Rattle.std.specs.Prelude.{◌≡◌, ◌<◌, slice_get};
-ghost use Rattle.mm_c.specs.Reading.{answer_of_cell, IsLoaded, Loads, ReadsCell};
+ghost use Rattle.std.specs.Prelude.{◌≡◌, ◌<◌};
+ghost use Rattle.mm_gc.specs.Describing.{SlotAnswer};
+ghost use Rattle.mm_gc.specs.Gc.{view_of_gc};
+ghost use Rattle.mm_gc.specs.Refused.{CellAnswer};
+ghost use Rattle.mm_c.specs.Reading.{Loads, ReadsCell, TellsWord};
 
 use crate::answer::MmAnswer;
 use crate::handle::MmHeap;
 use crate::status::Status;
 use mm_gc::Gc;
-use mm_model::Refusal;
-use mm_object::Heap;
-use mm_roots::Stack;
 use mm_steps::Steps;
 use std::alloc::Global;
 use std::marker::Brand;
 use std::sync::ledger::{Blank, Ledger};
 
-fn cell_of<L: Ledger>(stack: &Stack, i: u32, steps: &mut Steps<L>) -> MmAnswer
-    ensures { result ≡ answer_of_cell (slice_get stack.now.words i) }
-{
-    if stack.depth() <= i {
-        return MmAnswer::refused(Refusal::NoCell);
-    }
-    MmAnswer::with_word(stack.cell(i, steps))
-}
-
-fn load_of<L: Ledger>(heap: &Heap, word: u32, s: u32, steps: &mut Steps<L>) -> MmAnswer
-    ensures { IsLoaded heap.now word s result }
-{
-    match heap.look_up(word, steps) {
-        Some(found) => {
-            if found.shape.slots <= s {
-                return MmAnswer::refused(Refusal::NoSlot);
-            }
-            MmAnswer::with_word(heap.slot_word(found.base, s, steps))
-        }
-        None => MmAnswer::refused(Refusal::Nothing),
-    }
-}
-
 fn cell<L: Ledger>(gc: &Gc, i: u32, blank: Blank) -> MmAnswer
     requires name { blank.name ≡ L.name }
     requires parts { blank.parts ≡ L.parts }
     requires shared { 0 < L.parts }
-    ensures { result ≡ answer_of_cell (slice_get gc.now.stack.words i) }
+    ensures { TellsWord (CellAnswer gc.now.stack.words i) result }
 {
     let mut steps = Steps::<L>::open(blank);
-    cell_of(gc.stack(), i, &mut steps)
+    MmAnswer::of_word(gc.cell(i, &mut steps))
 }
 
 fn load<L: Ledger>(gc: &Gc, word: u32, s: u32, blank: Blank) -> MmAnswer
     requires name { blank.name ≡ L.name }
     requires parts { blank.parts ≡ L.parts }
     requires shared { 0 < L.parts }
-    ensures { IsLoaded gc.now.region.heap word s result }
+    ensures { TellsWord (SlotAnswer (view_of_gc gc.now) word s) result }
 {
     let mut steps = Steps::<L>::open(blank);
-    load_of(gc.heap(), word, s, &mut steps)
+    MmAnswer::of_word(gc.slot(word, s, &mut steps))
 }
 
 /// The word of cell `i`.

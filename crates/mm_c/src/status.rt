@@ -1,7 +1,8 @@
 // How a call went.
 ghost use Rattle.std.specs.Prelude.{◌≡◌};
-ghost use Rattle.mm_c.specs.Status.{number, status_of};
+ghost use Rattle.mm_c.specs.Status.{number, status_of, status_of_fault};
 
+use mm_gc::WordsFault;
 use mm_model::Refusal;
 
 /// How a call went: it was done, the heap refused it, or it didn't come to the heap.
@@ -21,6 +22,8 @@ pub enum Status {
     Full,
     Busy,
     Idle,
+    /// Marking looks at the slots of the object, so its words aren't read or written in bulk.
+    Scanned,
     /// No heap is open.
     Closed,
     /// One is open already.
@@ -55,6 +58,7 @@ impl Status {
             Status::Full => 11,
             Status::Busy => 12,
             Status::Idle => 13,
+            Status::Scanned => 14,
             Status::Closed => 100,
             Status::Open => 101,
             Status::NoMemory => 102,
@@ -82,6 +86,15 @@ impl Status {
             Refusal::Full => Status::Full,
             Refusal::Busy => Status::Busy,
             Refusal::Idle => Status::Idle,
+        }
+    }
+
+    pub fn of_fault(fault: WordsFault) -> Status
+        ensures { result ≡ status_of_fault fault }
+    {
+        match fault {
+            WordsFault::Refused(because) => Status::of(because),
+            WordsFault::Scanned => Status::Scanned,
         }
     }
 }

@@ -1,0 +1,8 @@
+use Rattle.std.proofs.Common.{rules}
+use Rattle.mm_c.specs.Calls.{OnOpen}
+use Rattle.mm_c.proofs.stack.mm_slide.Goals as goal
+
+pub returns-in-Some : goal.returns-in-Some
+returns-in-Some c =
+    OnOpen c.deref_mut.result.now c.slide-answer.new.self (search rules) c.restore.ensures
+    c.slide-answer.ensures
