@@ -416,17 +416,24 @@ static void ticks(void)
     closes(&heap);
 }
 
+/* What is done to one of them is seen in no other. */
 static void ten_heaps_at_once(void)
 {
     mm_heap heaps[10];
+    mm_stat_record stat;
     for (uint32_t i = 0; i < 10; i++) {
         heaps[i] = (mm_heap)MM_HEAP_INIT;
         opens(&heaps[i], SETTINGS);
         CHECK(done(mm_push(&heaps[i], i)));
-        CHECK(is(mm_new_traced(&heaps[i], false, 0, i), MM_DONE, 4096));
+        CHECK(is(mm_new_traced(&heaps[i], true, 0, i), MM_DONE, 4096));
     }
+    for (uint32_t i = 0; i < 10; i += 3)
+        CHECK(done(mm_pop(&heaps[i], 1)) && done(mm_collect(&heaps[i])));
     for (uint32_t i = 0; i < 10; i++) {
-        CHECK(is(mm_cell(&heaps[i], 1), MM_DONE, i));
+        bool is_freed = i % 3 == 0;
+        CHECK(is(mm_cell(&heaps[i], is_freed ? 0 : 1), MM_DONE, i));
+        CHECK(mm_stat(&heaps[i], &stat) == MM_DONE && stat.objects == !is_freed && stat.freed == is_freed);
+        CHECK(is_freed ? is_final(&heaps[i], 4096, i, 0, 0) : is(mm_load(&heaps[i], 4096, i), MM_NO_SLOT, 0));
         closes(&heaps[i]);
     }
 }
