@@ -4,7 +4,9 @@
 set -u
 cd "$(dirname "$0")/.." || exit 1
 opened=$(grep -rlE 'Steps::open|Blank::new' --include='*.rt' crates |
-    grep -vE '/src/tests(\.rt|/)|^crates/mm_trials/|^crates/mm_gc/src/closing\.rt$|^crates/mm_c/src/(phases|reading|serving)\.rt$|^crates/mmgc/src/(answer|execute|executor|generating|work)\.rt$')
+    grep -vE -e '/src/tests(\.rt|/)' -e '^crates/mm_trials/' -e '^crates/mm_gc/src/closing\.rt$' \
+        -e '^crates/mm_c/src/(phases|reading|serving)\.rt$' \
+        -e '^crates/mmgc/src/(answer|execute|executor|generating|work)\.rt$')
 if [ -n "$opened" ]; then
     printf 'A counter of steps is opened in:\n%s\n' "$opened" >&2
     exit 1

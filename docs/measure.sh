@@ -53,7 +53,8 @@ row 'new t 0 1000, in a page more each' empty $'new t 0 1000\n' 100 1 --pages 2 
 for objects in 10000 100000 500000; do
     list $objects >listed
     row "collect, for each of $objects objects" listed $'collect\n' 2 $objects --pages 4096 --max 4096
-    row "a cycle, for each of $objects objects" listed $'begin\nstep 1000000\nfinish\n' 2 $objects --pages 4096 --max 4096
+    row "a cycle, for each of $objects objects" listed $'begin\nstep 1000000\nfinish\n' 2 $objects \
+        --pages 4096 --max 4096
     row "push 7, pop 1, beside $objects objects" listed $'push 7\npop 1\n' 20000 2 --pages 4096 --max 4096
     row "new t 0 2, pop 1, beside $objects objects" listed $'new t 0 2\npop 1\n' 20000 2 --pages 4096 --max 4096
 done
