@@ -5,7 +5,7 @@ set -u
 cd "$(dirname "$0")/.." || exit 1
 opened=$(grep -rlE 'Steps::open|Blank::new' --include='*.rt' crates |
     grep -vE -e '/src/tests(\.rt|/)' -e '^crates/mm_trials/' -e '^crates/mm_gc/src/closing\.rt$' \
-        -e '^crates/mm_c/src/(phases|reading|serving)\.rt$' \
+        -e '^crates/mm_c/src/(in_bulk|phases|reading|serving|stack)\.rt$' \
         -e '^crates/mmgc/src/(answer|execute|executor|generating|work)\.rt$')
 if [ -n "$opened" ]; then
     printf 'A counter of steps is opened in:\n%s\n' "$opened" >&2
