@@ -1,5 +1,6 @@
 pub mod Answers
 pub mod Changed
+pub mod CellMarks
 pub mod ClassSizes
 pub mod CountedWords
 pub mod Fitting

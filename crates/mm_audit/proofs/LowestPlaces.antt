@@ -115,7 +115,7 @@ module _ (marks : List Bool) (row limit : ℕ) (test : ℕ → Bool)
       (λ k from below. is_false (test k) (λ passes.
       none k from (omega arith) (marked k from (omega arith) passes))))
 
-sixteens : (cell q extent : ℕ) → extent ≡ 16 * q → 16 * (cell * q) ≡ cell * extent
+pub sixteens : (cell q extent : ℕ) → extent ≡ 16 * q → 16 * (cell * q) ≡ cell * extent
 sixteens cell q extent is =
     sym (mul_assoc 16 cell q) ∙ ap (λ n. n * q) (mul_comm 16 cell) ∙ mul_assoc cell 16 q
     ∙ ap (λ n. cell * n) (sym is)

@@ -10,7 +10,7 @@ use Rattle.mm_model.specs.Places.Place.{Family, Objects, Areas}
 use Rattle.mm_model.specs.Places.SizeClass.{class_sizes}
 use Rattle.mm_model.proofs.Lists.Replaced.{get-set_same, get-set_other}
 use Rattle.mm_audit.specs.Bits.{IsMarked}
-use Rattle.mm_audit.specs.Places.{PlaceMarks, Tell, KeepsPlaces, IsMarkedFrom, row_of}
+use Rattle.mm_audit.specs.Places.{PlaceMarks, Tell, KeepsPlaces, IsSetFrom, row_of}
 use Rattle.mm_audit.proofs.LowestPlaces.{classes, row-inside}
 
 get-replicate : (n k : ℕ) (x : Bool) → k < n → slice_get (replicate n x) k ≡ Some x
@@ -42,12 +42,12 @@ row-below pages Objects class page known below =
 row-below pages Areas class page known below =
     omega (arith, row-inside pages (2 * class + 1) (omega (arith, classes)))
 
-module _ (pages : ℕ) (some : 2 ≤ pages) (most : pages ≤ 4096) (vacant occupied roomy free : List Bool)
-    (filled : IsMarkedFrom (replicate pages false) vacant 1 pages)
+module _ (pages : ℕ) (some : 2 ≤ pages) (most : pages ≤ 4096) (vacant occupied roomy free taken : List Bool)
+    (filled : IsSetFrom (replicate pages false) vacant 1 pages true)
     (first : occupied ≡ slice_set (replicate pages false) 0 true) (no_room : roomy ≡ replicate (38 * pages) false)
-    (no_cell : free ≡ replicate (256 * pages) false) where
+    (no_cell : free ≡ replicate (256 * pages) false) (no_piece : taken ≡ replicate (256 * pages) false) where
   abbrev marks : PlaceMarks
-  marks = record { pages = pages; vacant = vacant; roomy = roomy; free = free }
+  marks = record { pages = pages; vacant = vacant; roomy = roomy; free = free; taken = taken }
 
   no_page : IsTrue false → ⊥
   no_page e = cc
@@ -65,6 +65,9 @@ module _ (pages : ℕ) (some : 2 ≤ pages) (most : pages ≤ 4096) (vacant occu
         only = λ family extent page grain known of_page marked here. absurd (no_page of_page);
         none = λ page not_cells grain marked here.
             none-marked (256 * pages) grain (ap (λ (row : List Bool). slice_get row grain) (sym no_cell) ∙ marked);
+        taken = λ grain below.
+            ap (λ (row : List Bool). slice_get row grain) no_piece
+            ∙ get-replicate (256 * pages) grain false below;
       }
 
   abbrev row : List Bool
@@ -107,4 +110,5 @@ module _ (pages : ℕ) (some : 2 ≤ pages) (most : pages ≤ 4096) (vacant occu
         others = others;
         each_class = ap length no_room ∙ length-replicate (38 * pages) false;
         each_grain = ap length no_cell ∙ length-replicate (256 * pages) false;
+        each_base = ap length no_piece ∙ length-replicate (256 * pages) false;
       }

@@ -1,7 +1,7 @@
 -- Which places there are for pieces, as it is kept: marks of pages, and of the free cells in them.
 use Rattle.std.specs.Prelude.{◌≡◌, ℕ, ◌+◌, ◌*◌, ◌/◌, ◌<◌, ◌≤◌, IsTrue, not, List, Bool, length, Some, slice_get}
-use Rattle.std.specs.Prelude.{slice_index}
-use Rattle.std.specs.List.{Contains}
+use Rattle.std.specs.Prelude.{◌==◌, slice_index}
+use Rattle.std.specs.List.{Contains, list_any}
 use Rattle.std.specs.Option.{option_map}
 use Rattle.mm_model.specs.declared.object.Size.{Size}
 use Rattle.mm_model.specs.declared.object.Size.TheVariants.{Small, Pages}
@@ -22,9 +22,12 @@ pub record PlaceMarks : Type 0 where
   pub roomy : List Bool
   -- by multiple of 16 bytes: a free cell of a page of cells begins there
   pub free : List Bool
+  -- by multiple of 16 bytes: a piece begins there
+  pub taken : List Bool
 
-abbrev pub place_marks : ℕ → List Bool → List Bool → List Bool → PlaceMarks
-place_marks pages vacant roomy free = record { pages = pages; vacant = vacant; roomy = roomy; free = free }
+abbrev pub place_marks : ℕ → List Bool → List Bool → List Bool → List Bool → PlaceMarks
+place_marks pages vacant roomy free taken =
+    record { pages = pages; vacant = vacant; roomy = roomy; free = free; taken = taken }
 
 -- the family of the cells that it takes
 abbrev pub family_of : Owner → Family
@@ -66,6 +69,8 @@ pub record Tell (pieces : List Piece) (marks : PlaceMarks) : Type 0 where
       → ((family : Family) (extent : ℕ) → Contains class_sizes extent
       → IsTrue (is_page_of pieces family extent page) → ⊥)
       → (grain : ℕ) → IsMarked marks.free grain → grain / 256 ≡ page → ⊥
+  pub taken : (grain : ℕ) → grain < 256 * marks.pages
+      → slice_get marks.taken grain ≡ Some (list_any (λ piece. piece.base == 16 * grain) pieces)
 
 -- so many pages, from one on, in which nothing lies, and which end by the limit
 pub record IsVacantRun (vacant : List Bool) (limit count page : ℕ) : Type 0 where
@@ -87,11 +92,18 @@ pub record IsRunEnd (vacant : List Bool) (page end : ℕ) : Type 0 where
   pub each : (k : ℕ) → page ≤ k → k < end → IsMarked vacant k
   pub past : IsMarked vacant end → ⊥
 
--- Inner: the numbers from one on to below another are marked too.
-pub record IsMarkedFrom (before after : List Bool) (first end : ℕ) : Type 0 where
+-- Inner: the numbers from one on to below another are all members, or all none, and the others are as before.
+pub record IsSetFrom (before after : List Bool) (first end : ℕ) (member : Bool) : Type 0 where
   pub size : length after ≡ length before
-  pub here : (k : ℕ) → first ≤ k → k < end → IsMarked after k
+  pub here : (k : ℕ) → first ≤ k → k < end → slice_get after k ≡ Some member
   pub below : (k : ℕ) → k < first → slice_get after k ≡ slice_get before k
+  pub behind : (k : ℕ) → end ≤ k → slice_get after k ≡ slice_get before k
+
+-- Inner: the same of the multiples of 16 at which the cells of a page begin.
+pub record AreCellsSet (before after : List Bool) (extent page : ℕ) (member : Bool) : Type 0 where
+  pub size : length after ≡ length before
+  pub here : (grain : ℕ) → IsCellAt extent page grain → slice_get after grain ≡ Some member
+  pub others : (grain : ℕ) → (IsCellAt extent page grain → ⊥) → slice_get after grain ≡ slice_get before grain
 
 -- Inner: as many marks as there may be pages, classes of both families in them, and multiples of 16 bytes.
 -- The pages that aren't vacant are marked too.
@@ -103,3 +115,4 @@ pub record KeepsPlaces (marks : PlaceMarks) (occupied : List Bool) : Type 0 wher
   pub others : (page : ℕ) → slice_get occupied page ≡ option_map not (slice_get marks.vacant page)
   pub each_class : length marks.roomy ≡ 38 * marks.pages
   pub each_grain : length marks.free ≡ 256 * marks.pages
+  pub each_base : length marks.taken ≡ 256 * marks.pages

@@ -1,11 +1,12 @@
 // The places that there are for objects and areas.
 ghost use Rattle.std.specs.Prelude.{◌≡◌, ℕ, ◌+◌, ◌-◌, ◌^◌, ◌<◌, ◌≤◌, true, Bool, List, Some, length};
-ghost use Rattle.std.specs.Prelude.{IfOk, IfSome, MatchOption, [], slice_get, slice_index};
+ghost use Rattle.std.specs.Prelude.{IfOk, IfSome, MatchOption, [], slice_get, slice_set, slice_index, ◌*◌};
+ghost use Rattle.std.specs.List.{Contains};
 ghost use Rattle.mm_model.specs.Places.SizeClass.{class_sizes};
 ghost use Rattle.mm_model.specs.Places.Place.{Family, Piece, first_from, has_room, free_cell, fresh_page};
 ghost use Rattle.mm_model.specs.Places.Place.{place_among};
 ghost use Rattle.mm_model.specs.declared.object.Size.TheVariants.{Small, Pages};
-ghost use Rattle.mm_audit.specs.Places.{Tell, IsKnownSize, family_of, row_of, IsMarkedFrom};
+ghost use Rattle.mm_audit.specs.Places.{Tell, IsKnownSize, family_of, row_of, IsSetFrom, AreCellsSet};
 ghost use Rattle.mm_audit.specs.Places.{IsRunEnd, NoVacantRun, IsLowestRun};
 
 use crate::NoMemory;
@@ -40,6 +41,8 @@ pub struct Places {
     roomy: Numbers,
     // The grains at which a free cell of a page of cells begins.
     free: Numbers,
+    // The grains at which a piece begins.
+    taken: Numbers,
 }
 
 impl Model for Places {
@@ -47,9 +50,9 @@ impl Model for Places {
 
     ghost Value = { PlaceMarks };
 
-    ghost view = { λ s. place_marks s.pages s.vacant s.roomy s.free };
+    ghost view = { λ s. place_marks s.pages s.vacant s.roomy s.free s.taken };
 
-    ghost invariant = { λ s. KeepsPlaces (place_marks s.pages s.vacant s.roomy s.free) s.occupied };
+    ghost invariant = { λ s. KeepsPlaces (place_marks s.pages s.vacant s.roomy s.free s.taken) s.occupied };
 }
 
 // The lowest page from 1 to below the limit that is marked, where page 0 has this number.
@@ -70,13 +73,38 @@ fn lowest_page(set: &Numbers, row: u32, limit: u32) -> Option<u32>
     }
 }
 
-// Marks the numbers from one on to below another.
-fn insert_from(set: &mut Numbers, first: u32, end: u32)
-    requires inside { end ≤ length set.old }
-    ensures { IsMarkedFrom set.old set.new first end }
+// Makes a number a member, or none.
+fn set(numbers: &mut Numbers, n: u32, member: bool)
+    requires inside { n < length numbers.old }
+    ensures { numbers.new ≡ slice_set numbers.old n member }
+{
+    if member {
+        numbers.insert(n);
+    } else {
+        numbers.remove(n);
+    }
+}
+
+// The same for all numbers from one on to below another.
+fn set_from(numbers: &mut Numbers, first: u32, end: u32, member: bool)
+    requires order { first ≤ end }
+    requires inside { end ≤ length numbers.old }
+    ensures { IsSetFrom numbers.old numbers.new first end member }
 {
     for k in first..end {
-        set.insert(k);
+        set(numbers, k, member);
+    }
+}
+
+// The same for the cells of a page.
+fn set_cells(free: &mut Numbers, page: u32, extent: u32, member: bool)
+    requires page { 256 * page + 256 ≤ length free.old }
+    requires small { page < 4096 }
+    requires class { Contains class_sizes extent }
+    ensures { AreCellsSet free.old free.new extent page member }
+{
+    for cell in 0..PAGE_BYTES / extent {
+        set(free, PAGE_GRAINS * page + cell * (extent / GRAIN), member);
     }
 }
 
@@ -89,17 +117,19 @@ impl Places {
         ensures empty { IfOk result (λ made. Tell [] made) }
     {
         let mut vacant = Numbers::make(alloc, pages)?;
-        insert_from(&mut vacant, 1, pages);
+        set_from(&mut vacant, 1, pages, true);
         let mut occupied = Numbers::make(alloc, pages)?;
         occupied.insert(0);
         let roomy = Numbers::make(alloc, ROWS * pages)?;
         let free = Numbers::make(alloc, PAGE_GRAINS * pages)?;
+        let taken = Numbers::make(alloc, PAGE_GRAINS * pages)?;
         Ok(Places {
             pages,
             vacant,
             occupied,
             roomy,
             free,
+            taken,
         })
     }
 
